@@ -10,7 +10,7 @@ use Rattle.std.proofs.lemmas.Option.{IfSome_then}
 use Rattle.std.proofs.lemmas.List.{get_or-set_other, get_or-set_same, get_or-replicate, length-set, length-replicate}
 use Rattle.std.proofs.lemmas.List.Folds.{list_any-append, list_all-append}
 use Rattle.std.proofs.lemmas.Bool.{cases_eq, cases_Bool, and_parts, and_from, and_right, or_from, or_left, not_from_false}
-use Rattle.std.proofs.lemmas.Bool.{ltb-true, lt-ltb, le-ltb, eq-eqb, ne_eqb}
+use Rattle.std.proofs.lemmas.Bool.{ltb-true, lt-ltb, eq-eqb, ne_eqb}
 use Rattle.std.proofs.lemmas.Bool.Decides.{Decides-ltb, Decides-and, Decides-by_and, nat_tests}
 use Rattle.std.specs.Bool.{Decides}
 use Rattle.lset_words.specs.declared.Reply.{Reply}
@@ -21,7 +21,7 @@ use Rattle.lset_history.specs.History.{HistoryValue, with_begun}
 use Rattle.lset_history.proofs.CallByCall.{history_begun}
 use Rattle.lset_report.specs.ReportReading.{ends_at, is_entry, is_taken, begins_later, ended_before, is_idle, ends_later}
 use Rattle.lset_report.specs.ReportReading.{may_follow}
-use Rattle.lset_report.specs.ReportCalls.{never, end_moment, is_last_end, Tracks}
+use Rattle.lset_report.specs.ReportCalls.{end_moment, is_open, is_last_end, Tracks}
 
 -- ---- Lemmas: the Boolean test decides the proposition MayFollow
 
@@ -60,15 +60,21 @@ idles : (calls : List CallRecord) (t m : ℕ)
 idles calls t m = Decides-by_and (λ y. not (eqb y.thread t) || ended_before m y.ended) _ (λ ys. is_idle ys t m)
     (λ y. idle_by t m y.thread y.ended) refl (λ _ _. refl) calls
 
-may_by : (threads : ℕ) (calls : List CallRecord) (x : CallRecord) → Decides (may_follow threads calls x)
-    ((x.thread < threads) × (((0 < x.begun) × All (λ (y : CallRecord). y.begun < x.begun) calls)
-    × (IfSome x.ended (λ (e : ℕ × Reply). (x.begun < e.0) × All (Apart e.0) calls) × (All (Apart x.begun) calls
-    × All (λ (y : CallRecord). y.thread ≡ x.thread → IsSomeAnd y.ended (λ (e : ℕ × Reply). e.0 < x.begun)) calls))))
-may_by threads calls x =
-    Decides-and (ltb x.thread threads) _ (Decides-ltb x.thread threads)
-    (Decides-and (begins_later calls x.begun) _ (increases calls x.begun)
-    (Decides-and (ends_later calls x.begun x.ended) _ (ends_well calls x.begun x.ended)
-    (Decides-and (not (is_taken calls x.begun)) _ (untaken calls x.begun) (idles calls x.thread x.begun))))
+-- The conditions that `may_follow` tests, one in each field.
+record May (threads : ℕ) (calls : List CallRecord) (x : CallRecord) : Type 0 where
+  low : x.thread < threads
+  begins : begins_later calls x.begun ≡ true
+  ends : ends_later calls x.begun x.ended ≡ true
+  apart : not (is_taken calls x.begun) ≡ true
+  idle : is_idle calls x.thread x.begun ≡ true
+
+may_parts : (threads : ℕ) (calls : List CallRecord) (x : CallRecord) → may_follow threads calls x ≡ true → May threads calls x
+may_parts threads calls x h =
+    let a = and_parts (ltb x.thread threads) _ h in
+    let b = and_parts (begins_later calls x.begun) _ a.1 in
+    let c = and_parts (ends_later calls x.begun x.ended) _ b.1 in
+    let d = and_parts (not (is_taken calls x.begun)) _ c.1 in
+    record { low = ltb-true _ _ a.0; begins = b.0; ends = c.0; apart = d.0; idle = d.1 }
 
 turned : (o : Option (ℕ × Reply)) (m : ℕ) → IfSome o (λ (e : ℕ × Reply). m ≢ e.0) → IfSome o (λ (e : ℕ × Reply). e.0 ≢ m)
 turned o m h = IfSome_then o h (λ e other same. other (sym same))
@@ -76,26 +82,29 @@ turned o m h = IfSome_then o h (λ e other same. other (sym same))
 pub may_ok : (threads : ℕ) (calls : List CallRecord) (x : CallRecord) → may_follow threads calls x ≡ true
     → MayFollow threads calls x
 may_ok threads calls x h =
-    let may = (may_by threads calls x).0 h in
-    let apart = may.1.1 in
+    let may = may_parts threads calls x h in
+    let begins = (increases calls x.begun).0 may.begins in
+    let ends = (ends_well calls x.begun x.ended).0 may.ends in
     record {
-      call = record { of_a_thread = may.0; counted = may.1.0.0; ends_later = IfSome_then x.ended apart.0 (λ e both. both.0) };
+      call = record { of_a_thread = may.low; counted = begins.0; ends_later = IfSome_then x.ended ends (λ e both. both.0) };
       follows = λ k d b. record {
-        increasing = may.1.0.1 k d b;
-        begins_alone = turned _ x.begun (apart.1.0 k d b).1;
-        ends_alone = IfSome_then x.ended apart.0 (λ e both. both.1 k d b);
-        none_open = apart.1.1 k d b;
+        increasing = begins.1 k d b;
+        begins_alone = turned _ x.begun ((untaken calls x.begun).0 may.apart k d b).1;
+        ends_alone = IfSome_then x.ended ends (λ e both. both.1 k d b);
+        none_open = (idles calls x.thread x.begun).0 may.idle k d b;
       };
     }
 
 pub may_again : (threads : ℕ) (calls : List CallRecord) (x : CallRecord) → MayFollow threads calls x
     → may_follow threads calls x ≡ true
 may_again threads calls x may =
-    (may_by threads calls x).1 (may.call.of_a_thread, ((may.call.counted, λ k d b. (may.follows k d b).increasing),
-    (both x.ended may.call.ends_later (λ k d b. (may.follows k d b).ends_alone),
-    ((λ k d b. let below = (may.follows k d b).increasing in
-    (λ same. omega arith, flipped (get_or calls k d).ended (may.follows k d b).begins_alone)),
-    λ k d b. (may.follows k d b).none_open))))
+    and_from (ltb x.thread threads) _ (lt-ltb _ _ may.call.of_a_thread)
+    (and_from (begins_later calls x.begun) _ ((increases calls x.begun).1 (may.call.counted, λ k d b. (may.follows k d b).increasing))
+    (and_from (ends_later calls x.begun x.ended) _ ((ends_well calls x.begun x.ended).1
+    (both x.ended may.call.ends_later (λ k d b. (may.follows k d b).ends_alone)))
+    (and_from (not (is_taken calls x.begun)) _ ((untaken calls x.begun).1 (λ k d b. let below = (may.follows k d b).increasing in
+    (λ same. omega arith, flipped (get_or calls k d).ended (may.follows k d b).begins_alone)))
+    ((idles calls x.thread x.begun).1 (λ k d b. (may.follows k d b).none_open)))))
   where
     flipped : (o : Option (ℕ × Reply)) → IfSome o (λ (e : ℕ × Reply). e.0 ≢ x.begun) → IfSome o (λ (e : ℕ × Reply). x.begun ≢ e.0)
     flipped o h = IfSome_then o h (λ e other same. other (sym same))
@@ -144,9 +153,9 @@ last_end_set (o ∷ os) (suc t) m v low old =
     ap (λ b. eqb o m || b) (last_end_set os t m v (omega (arith, low)) old)
     ∙ sym (or_assoc (eqb o m) (is_last_end os m) (eqb v m))
 
-end_is : (m : ℕ) (o : Option (ℕ × Reply)) → m < never → eqb (end_moment o) m ≡ ends_at m o
-end_is m None low = ne_eqb never m (λ same. absurd (omega (arith, low, same)))
-end_is m (Some e) low = refl
+end_is : (m : ℕ) (o : Option (ℕ × Reply)) → 0 < m → eqb (end_moment o) m ≡ ends_at m o
+end_is m None some = ne_eqb 0 m (λ same. absurd (omega (arith, some, same)))
+end_is m (Some e) some = refl
 
 abbrev idle_at : ℕ → ℕ → CallRecord → Bool
 idle_at t m y = not (eqb y.thread t) || ended_before m y.ended
@@ -156,21 +165,34 @@ idle_step : (calls : List CallRecord) (x : CallRecord) (t m : ℕ)
 idle_step calls x t m =
     list_all-append (idle_at t m) calls (x ∷ []) ∙ ap (λ b. is_idle calls t m && b) (and-true (idle_at t m x))
 
-idle_ended : (before : Bool) (b m : ℕ) (o : Option (ℕ × Reply)) → IfSome o (λ (e : ℕ × Reply). b < e.0)
-    → (b < m → before ≡ true) → m < never → (before && ended_before m o) ≡ ltb (end_moment o) m
-idle_ended before b m None later h low = and_right before false refl ∙ sym (le-ltb never m (omega (arith, low)))
-idle_ended before b m (Some e) later h low = elim (cases_Bool (ltb e.0 m)) [
-  | inl early ↦ and_from _ _ (h (omega (arith, later, ltb-true _ _ early))) early ∙ sym early
+-- Returns whether a thread has no pending call (`busy`) and its last call ended (`end`) before moment m.
+abbrev is_over : Bool → ℕ → ℕ → Bool
+is_over busy end m = not busy && ltb end m
+
+over_later : (busy : Bool) (end a m : ℕ) → is_over busy end a ≡ true → a < m → is_over busy end m ≡ true
+over_later busy end a m h lt =
+    let parts = and_parts (not busy) (ltb end a) h in
+    let below : end < a = ltb-true end a parts.1 in
+    and_from _ _ parts.0 (lt-ltb end m (omega (arith, below, lt)))
+
+idle_ended : (before : Bool) (b m : ℕ) (o : Option (ℕ × Reply)) (calls : List CallRecord) → ends_later calls b o ≡ true
+    → (b < m → before ≡ true) → (before && ended_before m o) ≡ is_over (is_open o) (end_moment o) m
+idle_ended before b m None calls ends h = and_right before false refl
+idle_ended before b m (Some e) calls ends h = elim (cases_Bool (ltb e.0 m)) [
+  | inl early ↦
+      let later : b < e.0 = ((ends_well calls b (Some e)).0 ends).0 in
+      and_from _ _ (h (omega (arith, ltb-true _ _ early))) early ∙ sym early
   | inr late ↦ and_right before _ late ∙ sym late
 ]
 
-idle_own : (calls : List CallRecord) (x : CallRecord) (m end : ℕ) → IfSome x.ended (λ (e : ℕ × Reply). x.begun < e.0)
-    → end < x.begun → is_idle calls x.thread m ≡ ltb end m → m < never
-    → is_idle (calls ++ x ∷ []) x.thread m ≡ ltb (end_moment x.ended) m
-idle_own calls x m end ends before old low =
+idle_own : (calls : List CallRecord) (x : CallRecord) (m : ℕ) (busy : Bool) (end : ℕ) → ends_later calls x.begun x.ended ≡ true
+    → is_over busy end x.begun ≡ true → is_idle calls x.thread m ≡ is_over busy end m
+    → is_idle (calls ++ x ∷ []) x.thread m ≡ is_over (is_open x.ended) (end_moment x.ended) m
+idle_own calls x m busy end ends over old =
     let own = ap (λ b. not b || ended_before m x.ended) (eq-eqb x.thread x.thread refl) in
     idle_step calls x x.thread m ∙ ap (λ b. is_idle calls x.thread m && b) own
-    ∙ idle_ended (is_idle calls x.thread m) x.begun m x.ended ends (λ lt. old ∙ lt-ltb end m (omega (arith, before, lt))) low
+    ∙ idle_ended (is_idle calls x.thread m) x.begun m x.ended calls ends
+    (λ lt. old ∙ over_later busy end x.begun m over lt)
 
 idle_other : (calls : List CallRecord) (x : CallRecord) (t m : ℕ) → t ≢ x.thread
     → is_idle (calls ++ x ∷ []) t m ≡ is_idle calls t m
@@ -185,39 +207,47 @@ none_at zero m some = refl
 none_at (suc n) m some = or_from _ _ (ne_eqb 0 m (λ same. absurd (omega (arith, some, same)))) (none_at n m some)
 
 pub tracks_none : (h : HistoryValue) (threads quota : ℕ) → h ≡ record { opening = empty threads quota; calls = [] }
-    → Tracks h 0 (replicate threads 0)
+    → Tracks h 0 (replicate threads 0) (replicate threads false)
 tracks_none h threads quota none = rw none (record {
   begins = λ m. and-true (ltb 0 m);
-  taken = λ m past low. sym (none_at threads m past);
+  taken = λ m past. sym (none_at threads m past);
   ends = length-replicate threads 0;
-  idle = λ u m seat some low. sym (ap (λ end. ltb end m) (get_or-replicate threads u 0 0 seat) ∙ lt-ltb 0 m some);
+  each = length-replicate threads false;
+  idle = λ u m low some. sym (ap (λ b. is_over b (get_or (replicate threads 0) u 0) m) (get_or-replicate threads u false false low)
+      ∙ ap (λ end. is_over false end m) (get_or-replicate threads u 0 0 low) ∙ lt-ltb 0 m some);
 })
 
-pub tracks_more : (h after : HistoryValue) (last : ℕ) (ends : List ℕ) (x : CallRecord) → Tracks h last ends
-    → may_follow h.opening.threads h.calls x ≡ true → x.begun < never → after ≡ with_begun h x
-    → Tracks after x.begun (set ends x.thread (end_moment x.ended))
-tracks_more h after last ends x old may low_begun pushed =
-    let calls : List CallRecord = h.calls in
-    let can = may_ok h.opening.threads calls x may in
-    let known : x.thread < h.opening.threads = can.call.of_a_thread in
-    let low : x.thread < length ends = omega (arith, known, old.ends) in
-    let begins = (increases calls x.begun).1 (can.call.counted, λ k d b. (can.follows k d b).increasing) in
-    let idle = (idles calls x.thread x.begun).1 (λ k d b. (can.follows k d b).none_open) in
-    let later : last < x.begun = ltb-true _ _ (sym (old.begins x.begun) ∙ begins) in
-    let before : get_or ends x.thread 0 < x.begun =
-    ltb-true _ _ (sym (old.idle x.thread x.begun known (omega (arith, later)) low_begun) ∙ idle) in
+pub tracks_more : (h after : HistoryValue) (last : ℕ) (ends : List ℕ) (busy : List Bool) (x : CallRecord) → Tracks h last ends busy
+    → may_follow h.opening.threads h.calls x ≡ true → after ≡ with_begun h x
+    → Tracks after x.begun (set ends x.thread (end_moment x.ended)) (set busy x.thread (is_open x.ended))
+tracks_more h after last ends busy x old may pushed =
+    let parts = may_parts h.opening.threads h.calls x may in
+    let low : x.thread < length ends = omega (arith, parts.low, old.ends) in
+    let low_busy : x.thread < length busy = omega (arith, parts.low, old.each) in
+    let later : last < x.begun = ltb-true _ _ (sym (old.begins x.begun) ∙ parts.begins) in
+    let counted : 0 < x.begun = omega (arith, later) in
+    let over = sym (old.idle x.thread x.begun parts.low counted) ∙ parts.idle in
+    let before : get_or ends x.thread 0 < x.begun = ltb-true _ _ (and_parts (not (get_or busy x.thread false)) _ over).1 in
     rw pushed (record {
-      begins = λ m. begins_pushed calls x last old.begins begins m;
-      taken = λ m past below. taken_pushed calls x m past
-          ∙ ap (λ b. b || ends_at m x.ended) (old.taken m (omega (arith, later, past)) below)
-          ∙ ap (λ b. is_last_end ends m || b) (sym (end_is m x.ended below))
+      begins = λ m. begins_pushed h.calls x last old.begins parts.begins m;
+      taken = λ m past. taken_pushed h.calls x m past
+          ∙ ap (λ b. b || ends_at m x.ended) (old.taken m (omega (arith, later, past)))
+          ∙ ap (λ b. is_last_end ends m || b) (sym (end_is m x.ended (omega (arith, counted, past))))
           ∙ sym (last_end_set ends x.thread m (end_moment x.ended) low
           (ne_eqb (get_or ends x.thread 0) m (λ same. absurd (omega (arith, before, past, same)))));
       ends = length-set ends x.thread (end_moment x.ended) ∙ old.ends;
-      idle = λ u m seat some below. ⊎_elim
-          (λ (same : u ≡ x.thread). rw (same, get_or-set_same ends x.thread (end_moment x.ended) 0 low)
-          (idle_own calls x m (get_or ends x.thread 0) can.call.ends_later before (old.idle x.thread m known some below) below))
-          (λ (other : u ≢ x.thread). rw (get_or-set_other ends x.thread u (end_moment x.ended) 0 other)
-          (idle_other calls x u m other ∙ old.idle u m seat some below))
+      each = length-set busy x.thread (is_open x.ended) ∙ old.each;
+      idle = λ u m seat some. ⊎_elim
+          (λ (same : u ≡ x.thread). rw (
+            same,
+            get_or-set_same busy x.thread (is_open x.ended) false low_busy,
+            get_or-set_same ends x.thread (end_moment x.ended) 0 low,
+          )
+          (idle_own h.calls x m (get_or busy x.thread false) (get_or ends x.thread 0) parts.ends over (old.idle x.thread m parts.low some)))
+          (λ (other : u ≢ x.thread). rw (
+            get_or-set_other busy x.thread u (is_open x.ended) false other,
+            get_or-set_other ends x.thread u (end_moment x.ended) 0 other,
+          )
+          (idle_other h.calls x u m other ∙ old.idle u m seat some))
           (cases_eq u x.thread);
     })

@@ -1,19 +1,19 @@
 -- The invariant of CallsSoFar, the calls that a report reader has read so far.
-use Rattle.std.specs.Prelude.{◌≡◌, ℕ, ◌<◌, ◌^◌, ◌&&◌, ◌==◌, nat_lt, not, Bool, true, false, List, length, Option, Some, None, slice_index_or}
+use Rattle.std.specs.Prelude.{◌≡◌, ℕ, ◌<◌, ◌&&◌, ◌==◌, nat_lt, not, Bool, true, false, List, length, Option, Some, None, slice_index_or}
 use Rattle.std.specs.List.{list_any}
 use Rattle.lset_words.specs.declared.Reply.{Reply}
 use Rattle.lset_words.specs.declared.history.CallRecord.{CallRecord}
 use Rattle.lset_history.specs.History.{HistoryValue}
 use Rattle.lset_report.specs.ReportReading.{begins_later, is_taken, is_idle}
 
--- A number that is greater than every moment of a report.
-abbrev pub never : ℕ
-never = 2 ^ 32
-
--- Returns the end of a call, or `never` if the call is pending.
+-- Returns the moment when a call ended, or 0 if the call is pending.
 abbrev pub end_moment : Option (ℕ × Reply) → ℕ
-end_moment None = never
+end_moment None = 0
 end_moment (Some end) = end.0
+
+abbrev pub is_open : Option (ℕ × Reply) → Bool
+is_open None = true
+is_open (Some end) = false
 
 -- Returns whether the last call of some thread ended at this moment. `ends` has the end of each thread's last call.
 abbrev pub is_last_end : List ℕ → ℕ → Bool
@@ -30,12 +30,14 @@ ends_well_by ends x = ends_apart ends x.begun x.ended
 
 -- The invariant of a report reader: the fields of CallsSoFar suffice to decide whether a call can follow the calls read
 -- so far.
-pub record Tracks (h : HistoryValue) (last_begun : ℕ) (last_ends : List ℕ) : Type 0 where
+pub record Tracks (h : HistoryValue) (last_begun : ℕ) (last_ends : List ℕ) (busy : List Bool) : Type 0 where
   -- `last_begun` is the moment when the last call started.
   pub begins : (m : ℕ) → begins_later h.calls m ≡ nat_lt last_begun m
   -- If m is after `last_begun`, a call starts or ends at moment m if and only if some thread's last call ends at m.
-  pub taken : (m : ℕ) → last_begun < m → m < never → is_taken h.calls m ≡ is_last_end last_ends m
-  -- `last_ends` has an entry for each thread. A thread t can start a call at moment m if and only if this entry of t is
-  -- below m.
+  pub taken : (m : ℕ) → last_begun < m → is_taken h.calls m ≡ is_last_end last_ends m
+  -- `last_ends` and `busy` have an entry for each thread. A thread t can start a call at moment m if its last call is
+  -- not pending (`busy`) and ended before m (`last_ends`).
   pub ends : length last_ends ≡ h.opening.threads
-  pub idle : (t m : ℕ) → t < h.opening.threads → 0 < m → m < never → is_idle h.calls t m ≡ nat_lt (slice_index_or last_ends t 0) m
+  pub each : length busy ≡ h.opening.threads
+  pub idle : (t m : ℕ) → t < h.opening.threads → 0 < m
+      → is_idle h.calls t m ≡ (not (slice_index_or busy t false) && nat_lt (slice_index_or last_ends t 0) m)

@@ -2,14 +2,11 @@ ghost use Rattle.std.specs.Prelude.{◌≡◌, [], true, IfOk, OnOk};
 ghost use Rattle.lset_words.specs.Words.{IsWithin, empty};
 ghost use Rattle.lset_history.specs.History.{with_begun};
 ghost use Rattle.lset_report.specs.ReportReading.{may_follow};
-ghost use Rattle.lset_report.specs.ReportCalls.{Tracks, end_moment, is_last_end, ends_well_by};
+ghost use Rattle.lset_report.specs.ReportCalls.{Tracks, end_moment, is_open, is_last_end, ends_well_by};
 
 use lset_history::History;
 use lset_words::CallRecord;
 use std::alloc::{AllocError, Global};
-
-/// A number that is greater than every moment of a report.
-const NEVER: u64 = 1 << 32;
 
 /// The calls read so far, with fields that decide whether a further call can follow them.
 #[derive(Drop)]
@@ -18,19 +15,30 @@ pub(crate) struct CallsSoFar {
     pub history: History,
     /// The moment when the last call started, or 0 before the first call.
     pub last_begun: u32,
-    /// For each thread, the moment when its last call ended: 0 if the thread has no call yet, `NEVER` if the call is
+    /// For each thread, the moment when its last call ended. 0 if the thread has no call yet or its last call is
     /// pending.
-    pub last_ends: Vec<u64>,
+    pub last_ends: Vec<u32>,
+    /// For each thread, states whether its last call is pending.
+    pub busy: Vec<bool>,
     ghost within: { IsWithin (record { threads = history.opening.threads; quota = history.opening.quota; opening = 0 }) },
-    ghost tracks: { Tracks history last_begun last_ends.items },
+    ghost tracks: { Tracks history last_begun last_ends.items busy.items },
 }
 
-fn end_moment(made: CallRecord) -> u64
+fn end_moment(made: CallRecord) -> u32
     ensures { result ≡ end_moment made.ended }
 {
     match made.ended {
-        Some((end, _)) => u64::from(end),
-        None => NEVER,
+        Some((end, _)) => end,
+        None => 0,
+    }
+}
+
+fn is_open(made: CallRecord) -> bool
+    ensures { result ≡ is_open made.ended }
+{
+    match made.ended {
+        Some(_) => false,
+        None => true,
     }
 }
 
@@ -44,6 +52,7 @@ impl CallsSoFar {
             history: History::new(alloc, threads, quota),
             last_begun: 0,
             last_ends: vec![in alloc; 0; threads as usize]?,
+            busy: vec![in alloc; false; threads as usize]?,
         })
     }
 
@@ -51,7 +60,7 @@ impl CallsSoFar {
     fn is_last_end(&self, moment: u32) -> bool
         ensures { result ≡ is_last_end self.now.last_ends.items moment }
     {
-        self.last_ends.contains(&u64::from(moment))
+        self.last_ends.contains(&moment)
     }
 
     fn ends_well(&self, made: CallRecord) -> bool
@@ -76,7 +85,8 @@ impl CallsSoFar {
         self.last_begun < made.begun
             && self.ends_well(made)
             && !self.is_last_end(made.begun)
-            && self.last_ends[thread] < u64::from(made.begun)
+            && !self.busy[thread]
+            && self.last_ends[thread] < made.begun
     }
 
     /// Appends a call that can follow these calls. Can allocate.
@@ -87,6 +97,7 @@ impl CallsSoFar {
         self.history.push(made)?;
         self.last_begun = made.begun;
         self.last_ends[made.thread as usize] = end_moment(made);
+        self.busy[made.thread as usize] = is_open(made);
         Ok(())
     }
 }
