@@ -95,10 +95,12 @@ impl Named {
         }
     }
 
-    /// Returns whether the verdict names this contradiction, or a moment that is its end.
+    /// Returns whether the verdict names this contradiction, or a moment that is its end. If the verdict names no two
+    /// calls, returns whether the contradiction is of the verdict's key.
     fn is(&self, place: &Place) -> bool {
-        let is_at_moment = place.key == self.first.key && place.clash.until == self.first.moment;
-        is_at_moment || self.has_calls_of(place)
+        let is_of_key = place.key == self.first.key;
+        let is_at_end = self.clash.is_none() || place.clash.until == self.first.moment;
+        (is_of_key && is_at_end) || self.has_calls_of(place)
     }
 }
 
