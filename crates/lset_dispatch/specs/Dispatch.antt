@@ -12,7 +12,7 @@ use Rattle.tool_base.specs.Tools.{Made, Ends, AppendsFront}
 use Rattle.tool_replay.specs.Replaying.{Replays}
 use Rattle.tool_replay.specs.Checking.{Checks}
 use Rattle.tool_replay.specs.GenAnswers.{Answers}
-use Rattle.tool_judge.specs.Judging.{Judges}
+use Rattle.tool_judge.specs.Judging.{Judges, JudgesBriefly}
 use Rattle.lset_dispatch.specs.Asked.{Asked, asked}
 use Rattle.lset_dispatch.specs.declared.job.Job.{Job}
 use Rattle.lset_dispatch.specs.declared.job.Job.TheVariants.{Replay, Judge, Verdict, Check, Gen}
@@ -35,7 +35,7 @@ JobEnds (Replay None) input output_old output_new stderr_old stderr_new status =
 JobEnds Judge input output_old output_new stderr_old stderr_new status =
     EndsOnBytes Judges input output_old output_new stderr_old stderr_new status
 JobEnds Verdict input output_old output_new stderr_old stderr_new status =
-    EndsOnBytes Judges input output_old output_new stderr_old stderr_new status
+    EndsOnBytes JudgesBriefly input output_old output_new stderr_old stderr_new status
 JobEnds Check input output_old output_new stderr_old stderr_new status =
     EndsOnBytes Checks input output_old output_new stderr_old stderr_new status
 JobEnds (Gen random) input output_old output_new stderr_old stderr_new status =

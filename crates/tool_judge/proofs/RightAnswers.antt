@@ -11,7 +11,9 @@ use Rattle.lset_recording.specs.Texts.{Recording}
 use Rattle.lset_recording.specs.Reading.{IsVerdictIf, Says, first_line, nothing_told}
 use Rattle.lset_text.specs.Parts.{cut_at}
 use Rattle.tool_base.specs.Tools.{AnswerValue, Made}
-use Rattle.tool_judge.specs.Judging.{Begins, IsAnswerTo, Judges, clash_text, extent, refused_text, without_clash}
+use Rattle.tool_judge.specs.Judging.{Begins, IsAnswerTo, JudgesIn, clash_text, extent, refused_text, shown_in}
+use Rattle.tool_judge.specs.declared.judge_answers.Detail.{Detail}
+use Rattle.tool_judge.specs.declared.judge_answers.Detail.TheVariants.{Whole, Brief}
 use Rattle.tool_judge.specs.Exact.{HasOrderIf, IsRight, JudgesRightly, SaysOnly}
 use Rattle.tool_judge.proofs.OneReading.{one_reading}
 
@@ -37,16 +39,15 @@ told c Linearizable answer is made = inl (some_has c.cut_off c is, made.1, made.
 told c (NotLinearizable refusal clash) answer is made =
     inr (none_has c.cut_off c refusal clash is, made.1, begins_so refusal clash answer.text made.0)
 
-told_shown : (c : Recording) (shown v : Verdict) (answer : AnswerValue) → IsVerdictIf c.cut_off c v → ((shown ≡ v) ⊎ (shown ≡ without_clash v))
-    → IsAnswerTo shown (length c.calls) answer → IsRight c answer
-told_shown c shown v answer is (inl e) made = told c v answer is (subst (λ (w : Verdict). IsAnswerTo w (length c.calls) answer) e made)
-told_shown c shown Linearizable answer is (inr e) made = told c Linearizable answer is (subst (λ (w : Verdict). IsAnswerTo w (length c.calls) answer) e made)
-told_shown c shown (NotLinearizable refusal clash) answer is (inr e) made =
-    let m = subst (λ (w : Verdict). IsAnswerTo w (length c.calls) answer) e made in
-    inr (none_has c.cut_off c refusal clash is, m.1, begins_so refusal None answer.text m.0)
+told_in : (d : Detail) (c : Recording) (v : Verdict) (answer : AnswerValue) → IsVerdictIf c.cut_off c v
+    → IsAnswerTo (shown_in d v) (length c.calls) answer → IsRight c answer
+told_in Whole c v answer is made = told c v answer is made
+told_in Brief c Linearizable answer is made = told c Linearizable answer is made
+told_in Brief c (NotLinearizable refusal clash) answer is made =
+    inr (none_has c.cut_off c refusal clash is, made.1, begins_so refusal None answer.text made.0)
 
-pub right : (bytes : List ℕ) (made : Made) → Judges bytes made → JudgesRightly bytes made
-right bytes (Ok answer) (c, says, text, is) = (c, only bytes (Ok c) says, told_shown c is.verdict is.verdict_is.0 answer is.verdict_is.1 is.verdict_is.2 is.answer_is)
-right bytes (Err t) (inl read) = inl read
-right bytes (Err t) (inr (inl memory)) = inr (inl memory)
-right bytes (Err t) (inr (inr (fault, says, is))) = inr (inr (fault, only bytes (Err fault) says, is))
+pub right : (d : Detail) (bytes : List ℕ) (made : Made) → JudgesIn d bytes made → JudgesRightly bytes made
+right d bytes (Ok answer) (c, says, text, is) = (c, only bytes (Ok c) says, told_in d c is.verdict answer is.verdict_is is.answer_is)
+right d bytes (Err t) (inl read) = inl read
+right d bytes (Err t) (inr (inl memory)) = inr (inl memory)
+right d bytes (Err t) (inr (inr (fault, says, is))) = inr (inr (fault, only bytes (Err fault) says, is))

@@ -9,7 +9,8 @@ use Rattle.lset_recording.specs.Reading.{Says}
 use Rattle.tool_base.specs.declared.trouble.Trouble.TheVariants.{CannotRead, Memory}
 use Rattle.tool_base.specs.Trouble.{of_line_fault}
 use Rattle.tool_base.specs.Tools.{AnswerValue, Made}
-use Rattle.tool_judge.specs.Judging.{Begins, Judges, ok_line}
+use Rattle.tool_judge.specs.Judging.{Begins, JudgesIn, ok_line}
+use Rattle.tool_judge.specs.declared.judge_answers.Detail.{Detail}
 
 abbrev pub history_of : Recording → HistoryValue
 history_of c = stream_history all_threads c.opening c.calls
@@ -41,4 +42,4 @@ JudgesRightly bytes (Err t) =
     (t ≡ CannotRead) ⊎ ((t ≡ Memory) ⊎ ((fault : LineFault) × SaysOnly bytes (Err fault) × (t ≡ of_line_fault fault)))
 
 abbrev pub AnswersAreRight : Type 0
-AnswersAreRight = (bytes : List ℕ) (made : Made) → Judges bytes made → JudgesRightly bytes made
+AnswersAreRight = (detail : Detail) (bytes : List ℕ) (made : Made) → JudgesIn detail bytes made → JudgesRightly bytes made

@@ -12,6 +12,8 @@ use Rattle.tool_base.specs.Trouble.{of_line_fault}
 use Rattle.tool_base.specs.Tools.{AnswerValue, Made}
 use Rattle.lset_judge.specs.declared.clash.Clash.{Clash}
 use Rattle.tool_judge.specs.Clashes.{clash_lines}
+use Rattle.tool_judge.specs.declared.judge_answers.Detail.{Detail}
+use Rattle.tool_judge.specs.declared.judge_answers.Detail.TheVariants.{Whole, Brief}
 
 -- ---- The text of an answer
 
@@ -51,20 +53,28 @@ abbrev pub without_clash : Verdict → Verdict
 without_clash Linearizable = Linearizable
 without_clash (NotLinearizable refusal clash) = NotLinearizable refusal None
 
--- The verdict is a correct verdict on a recording, or a correct verdict without its clash.
-abbrev pub IsShown : Recording → Verdict → Type 0
-IsShown c shown = (verdict : Verdict) × IsVerdictOnRecording c verdict × ((shown ≡ verdict) ⊎ (shown ≡ without_clash verdict))
+-- The part of a verdict that an answer prints: a whole answer prints all of it, a brief answer leaves out the clash.
+abbrev pub shown_in : Detail → Verdict → Verdict
+shown_in Whole verdict = verdict
+shown_in Brief verdict = without_clash verdict
 
--- The answer is correct for a recording: it is the answer for a correct verdict on this recording. A brief answer leaves
--- out the clash.
-pub record IsAnswerOn (c : Recording) (answer : AnswerValue) : Type 0 where
+-- The answer is correct for a recording: it prints a correct verdict on this recording, at this level of detail.
+pub record IsAnswerOn (detail : Detail) (c : Recording) (answer : AnswerValue) : Type 0 where
   pub recording : IsRecording c
   pub verdict : Verdict
-  pub verdict_is : IsShown c verdict
-  pub answer_is : IsAnswerTo verdict (length c.calls) answer
+  pub verdict_is : IsVerdictOnRecording c verdict
+  pub answer_is : IsAnswerTo (shown_in detail verdict) (length c.calls) answer
 
 -- The result is correct for the bytes of an input: a correct answer for the recording that they spell, the error of the
 -- first wrong line with its cause, `CannotRead` for a failed read, or `Memory` for a failed allocation.
+abbrev pub JudgesIn : Detail → List ℕ → Made → Type 0
+JudgesIn detail bytes (Ok answer) = (c : Recording) × Says bytes (Ok c) × (bytes ≡ recording_text c) × IsAnswerOn detail c answer
+JudgesIn detail bytes (Err t) = (t ≡ CannotRead) ⊎ ((t ≡ Memory) ⊎ ((fault : LineFault) × Says bytes (Err fault) × (t ≡ of_line_fault fault)))
+
+-- The result is correct, and a refusal has the clash of the verdict.
 abbrev pub Judges : List ℕ → Made → Type 0
-Judges bytes (Ok answer) = (c : Recording) × Says bytes (Ok c) × (bytes ≡ recording_text c) × IsAnswerOn c answer
-Judges bytes (Err t) = (t ≡ CannotRead) ⊎ ((t ≡ Memory) ⊎ ((fault : LineFault) × Says bytes (Err fault) × (t ≡ of_line_fault fault)))
+Judges bytes made = JudgesIn Whole bytes made
+
+-- The result is correct, and a refusal has no clash.
+abbrev pub JudgesBriefly : List ℕ → Made → Type 0
+JudgesBriefly bytes made = JudgesIn Brief bytes made

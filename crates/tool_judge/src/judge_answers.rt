@@ -2,7 +2,7 @@ ghost use Rattle.std.specs.Prelude.{◌≡◌, ◌≢◌, ◌⊎◌, ℕ, List, 
 ghost use Rattle.lset_recording.specs.Kept.{IsRead};
 ghost use Rattle.tool_base.specs.Tools as tools;
 ghost use Rattle.tool_base.specs.declared.trouble.Trouble.TheVariants.{CannotRead};
-ghost use Rattle.tool_judge.specs.Judging.{IsAnswerTo, Judges, without_clash};
+ghost use Rattle.tool_judge.specs.Judging.{IsAnswerTo, Judges, JudgesBriefly, JudgesIn, shown_in, without_clash};
 ghost use Rattle.tool_judge.specs.Exact.{AnswersAreRight};
 
 use crate::texts::{ok_text, refusal_text};
@@ -34,7 +34,7 @@ fn without_clash(verdict: Verdict) -> Verdict
 
 /// Removes the parts of an answer that are not printed at this level of detail.
 fn in_detail(said: RecordingAnswer, detail: Detail) -> RecordingAnswer
-    ensures verdict { (result.verdict ≡ said.verdict) ⊎ (result.verdict ≡ without_clash said.verdict) }
+    ensures verdict { result.verdict ≡ shown_in detail said.verdict }
     ensures calls { result.calls ≡ said.calls }
 {
     match detail {
@@ -70,7 +70,7 @@ fn answer_to(alloc: Global, said: RecordingAnswer, detail: Detail) -> Result<Ans
 
 /// Returns the answer for a recording that was read to its end. `detail` is the level of detail.
 fn answer_of(alloc: Global, reader: RecordingReader, detail: Detail) -> Result<Answer, Trouble>
-    ensures judges { (bytes : List ℕ) → IsRead bytes reader → Judges bytes (tools.view result) }
+    ensures judges { (bytes : List ℕ) → IsRead bytes reader → JudgesIn detail bytes (tools.view result) }
     ensures read { IfErr result (λ t. t ≢ CannotRead) }
 {
     let said = reader.finish()?;
@@ -105,7 +105,7 @@ pub fn judge_bytes(alloc: Global, bytes: &[u8]) -> Result<Answer, Trouble>
 
 /// Judges a recording that is read from an input. Stops reading at the end of the input or at the first error.
 fn judge_in<R: Read>(alloc: Global, input: &mut R, detail: Detail) -> Result<Answer, Trouble>
-    ensures { IfSome (R.remaining input.old) (λ bytes. Judges bytes (tools.view result)) }
+    ensures { IfSome (R.remaining input.old) (λ bytes. JudgesIn detail bytes (tools.view result)) }
 {
     let mut reader = RecordingReader::new(alloc);
     let mut buffer = [0u8; READ_SIZE];
@@ -141,7 +141,7 @@ pub fn judge_input<R: Read>(alloc: Global, input: &mut R) -> Result<Answer, Trou
 ///
 /// Returns the errors of `judge_input`.
 pub fn judge_briefly<R: Read>(alloc: Global, input: &mut R) -> Result<Answer, Trouble>
-    ensures { IfSome (R.remaining input.old) (λ bytes. Judges bytes (tools.view result)) }
+    ensures { IfSome (R.remaining input.old) (λ bytes. JudgesBriefly bytes (tools.view result)) }
 {
     judge_in(alloc, input, Detail::Brief)
 }

@@ -3,6 +3,7 @@ use Rattle.std.proofs.lemmas.Result.{err_from_is_err_and}
 use Rattle.lset_recording.specs.Reading.{Says}
 use Rattle.tool_base.specs.Tools.{view}
 use Rattle.tool_judge.specs.Judging.{Judges}
+use Rattle.tool_judge.specs.declared.judge_answers.Detail.TheVariants.{Whole}
 use Rattle.tool_judge.proofs.AnswerOfBytes.{of_fault}
 use Rattle.tool_judge.proofs.judge_answers.judge_bytes.Goals as goal
 
@@ -12,7 +13,7 @@ returns-in_err-feed-clause-judges c =
     let e = c.in_err-feed.field-0.0 in
     let p = err_from_is_err_and c.from_residual.result c.from_residual.ensures.1 in
     subst (λ r. Judges bytes (view r)) (sym p.1)
-    (of_fault bytes e p.0 p.2 (λ other.
+    (of_fault Whole bytes e p.0 p.2 (λ other.
     subst (λ t. Says t (Err e)) (append-nil bytes) (c.in_err-feed.ensures.refused [] c.new-reader.ensures other [])))
 
 pub returns-clause-judges : goal.returns-clause-judges
