@@ -8,7 +8,7 @@ use lset_words::{key_index, link_index};
 use std::alloc::{AllocError, Global};
 use std::collections::BTreeSet;
 
-/// An invalid node number. No list has this many nodes. Therefore a walk stops at this number.
+/// An invalid node number: no list has this many nodes. A walk along the links stops at this number.
 const NO_NODE: u64 = 1 << 32;
 
 /// A node that a walk has reached: its key, its mark, and the number of the next node.

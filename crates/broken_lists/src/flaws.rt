@@ -16,8 +16,8 @@ use lset_steps::rows::{begun as begun_at, lock_index};
 use lset_steps::{Action, Fed, Local};
 use lset_words::{Call, Key};
 
-/// Returns the value that a thread uses if it overlooks the mark at row `row` of its step table: `seen` with the lowest
-/// bit cleared. At other rows, returns `seen` unchanged.
+/// Returns the value that a thread uses if it overlooks the mark at row `row` of its step table. At this row, the value
+/// is `seen` with the lowest bit (the mark) cleared. At any other row, it is `seen`.
 fn without_mark(row: u8, local: &Local, seen: u64) -> u64 {
     if local.pc == row {
         2 * (seen / 2)

@@ -85,7 +85,7 @@ serve_app =
 abbrev pub faults_app : App
 faults_app = with_rule (new_app (codes "faults")) (new_rule (codes "CAUSE"))
 
--- The whole program: a version and all subcommands. Its arguments begin after the program's name.
+-- The rules of the whole program: a version and all subcommands. The program's arguments do not include its name.
 abbrev pub listset : App
 listset =
     with_subcommand (with_subcommand (with_subcommand (with_subcommand (with_subcommand
@@ -127,8 +127,7 @@ MakesWithSubcommand old sub new = (a b : App) → Makes old a → Makes sub b �
 
 -- ---- The result of parsing a command line
 
--- True if this is the name of a flag or an option. Every other name is the name of an argument, and the values of arguments
--- are returned in order.
+-- True if this is the name of a flag or an option. All other names are names of arguments.
 abbrev pub is_option : Text → Bool
 is_option name = bytes_eq name (codes "svg") || (bytes_eq name (codes "from") || (bytes_eq name (codes "to")
     || (bytes_eq name (codes "width") || (bytes_eq name (codes "brief") || (bytes_eq name (codes "only")
@@ -146,7 +145,7 @@ values_in rows = flat_map (λ row. values_by row.id rows) rows
 abbrev pub is_on : Text → List Row → Bool
 is_on name rows = option_map_or (λ text. bytes_eq text (codes "true")) (first_of name rows) false
 
--- Which flags are on, the value of FILE, and the values of the options. A missing value is `None`.
+-- The flags that are on, the value of FILE, and the values of the options. A missing value is `None`.
 pub record OptionValues : Type 0 where
   pub file : Option Text
   pub svg : Bool

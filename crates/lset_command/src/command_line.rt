@@ -10,7 +10,8 @@ use clap::error::ErrorKind;
 use clap::{Arg, ArgAction, ArgMatches, Error};
 use std::alloc::{AllocError, Global};
 
-/// The text that `--version` prints after the program's name: the version, then the kit and the logic of the proof.
+/// The text that `--version` prints after the program's name: the version, then the Rattle kit and the logic with which
+/// the program was proved.
 pub const VERSION: &str = "0.1.0\nRattle kit 13, logic dac8208d650f15bf";
 
 // Help texts for arguments and options.
@@ -107,11 +108,11 @@ pub struct Options {
     pub file: Option<String>,
     /// Whether `show` draws an SVG.
     pub svg: bool,
-    /// The first moment that `show` draws.
+    /// The first moment (number of an event in the run) that `show` draws.
     pub from: Option<String>,
     /// The last moment that `show` draws.
     pub to: Option<String>,
-    /// The maximum row length of `show`, in characters.
+    /// The maximum length of the rows that `show` draws, in characters.
     pub width: Option<String>,
     /// Whether `judge` prints the verdict only, without an explanation.
     pub brief: bool,
@@ -555,9 +556,8 @@ fn command_named(name: &str) -> Command
 
 /// Parses the command line, without the program's name, with `clap`.
 ///
-/// The help lists the commands and options. An empty command line means `replay` without arguments.
-/// Arguments and options are returned as typed: they can be missing or wrong. An argument of two or more characters
-/// that begins with `-` must follow `--`. Allocates.
+/// An empty command line means `replay` without arguments. Arguments and options are returned as typed: they can be
+/// missing or wrong. An argument of two or more characters that begins with `-` must follow `--`. Allocates.
 ///
 /// # Errors
 ///
@@ -571,8 +571,8 @@ pub fn words_given<'a>(
     helps: Helps<'a>,
 ) -> Result<Words, Error>
     ensures taken { IfOk result (λ w. choice_in w ≡ choice_of (subcommand_of listset (texts words.entry.now))) }
-    // Fails if and only if clap's definition of a parse fails, with an error of the same kind. An allocation can fail
-    // in addition.
+    // Succeeds only if clap's definition of a parse succeeds. The kind of an error is one that the definition states,
+    // or `OutOfMemory` if an allocation failed.
     ensures refused { FailsBy (fault_of listset (texts words.entry.now)) result }
 {
     let matches = program_command(alloc, helps)?.try_get_matches_from(words)?;

@@ -1,5 +1,5 @@
--- The jobs that command lines ask for. Some commands are left out: broken lists, `judge --only` and others are safe and
--- tested, but nothing is proved about their output.
+-- The jobs that command lines ask for. A job is a command with its checked arguments. Nothing is proved about the
+-- output of some commands, such as `judge --only` and those that run a broken list: their output is only tested.
 use Rattle.std.specs.Prelude.{Bool, true, false, List, Option, Some, None, Result, Ok, Err}
 use Rattle.clap.specs.Words.{Text}
 use Rattle.lset_command.specs.CommandLine.{Choice, OptionValues}
@@ -16,7 +16,7 @@ use Rattle.lset_dispatch.specs.declared.job.Job.TheVariants.{Replay, Judge, Verd
 abbrev pub Asked : Type 0
 Asked = Result Job ValueName
 
--- The job of `replay`, if the schedule runs on the list that it names. With `--lacks`, nothing is proved.
+-- The job of `replay` without `--lacks`. With `--lacks`, nothing is proved.
 abbrev pub asked_replay : Option Text → Option Asked
 asked_replay None = Some (Ok (Replay None))
 asked_replay (Some name) = None
@@ -43,7 +43,7 @@ asked_by other values options = None
 abbrev pub asked : Choice → Option Asked
 asked choice = asked_by choice.command choice.values choice.options
 
--- A job that a command line can ask for.
+-- States that a command line can ask for this job.
 abbrev pub IsKnown : Job → Type 0
 IsKnown (Gen random) = IsAccepted random.threads random.quota random.keys
 IsKnown job = Unit {0}

@@ -17,18 +17,19 @@ use Rattle.lset_dispatch.specs.Asked.{Asked, asked}
 use Rattle.lset_dispatch.specs.declared.job.Job.{Job}
 use Rattle.lset_dispatch.specs.declared.job.Job.TheVariants.{Replay, Judge, Verdict, Check, Gen}
 
--- How a command ends: the bytes of output and stderr before and after the command, and the exit status.
+-- A statement about how a command ends. Its arguments are the bytes of output before and after the command, the bytes
+-- of stderr before and after the command, and the exit status.
 abbrev pub Ending : Type 1
 Ending = Option (List ℕ) → Option (List ℕ) → Option (List ℕ) → Option (List ℕ) → ℕ → Type 0
 
 -- ---- Accepted command lines
 
--- The command ends with its result for the bytes of the input.
+-- States that the command ends with its result for the bytes of the input.
 abbrev pub EndsOnBytes : (List ℕ → Made → Type 0) → Option (List ℕ) → Ending
 EndsOnBytes Makes input output_old output_new stderr_old stderr_new status =
     Ends (λ made. IfSome input (λ bytes. Makes bytes made)) output_old output_new stderr_old stderr_new status
 
--- How a job ends, depending on the bytes of its input.
+-- States how a job ends, depending on the bytes of its input.
 abbrev pub JobEnds : Job → Option (List ℕ) → Ending
 JobEnds (Replay None) input output_old output_new stderr_old stderr_new status =
     EndsOnBytes Replays input output_old output_new stderr_old stderr_new status
@@ -73,8 +74,7 @@ IsHelp kind = (kind ≡ DisplayHelp) ⊎ (kind ≡ DisplayVersion)
 abbrev pub IsMistake : ErrorKind → Type 0
 IsMistake kind = (kind ≢ OutOfMemory) × (kind ≢ DisplayHelp) × (kind ≢ DisplayVersion)
 
--- The result if the user asked for the help or the version: a text with status 0. A failed allocation is possible for
--- every command line.
+-- The result if the user asked for the help or the version: a text with status 0, or an error if an allocation failed.
 abbrev pub Helps : ErrorKind → Made → Type 0
 Helps kind made = (made ≡ Err Memory) ⊎ (IsHelp kind × (text : List ℕ) × (made ≡ Ok (record { text = text; status = 0 })))
 

@@ -1,5 +1,5 @@
-//! Appends lines to a refusal of `judge`: an explanation of the refusal, or advice to use a file. (The recording is read
-//! twice, and a pipe can be read only once.)
+//! Appends lines to a refusal of `judge`: an explanation, or the advice to use a file. An explanation requires that the
+//! recording is read a second time, which is not possible with a pipe.
 
 ghost use Rattle.std.specs.Prelude.{ℕ, List};
 ghost use Rattle.tool_base.specs.Tools.{view};

@@ -35,7 +35,7 @@ pub(crate) enum Job {
     /// Print all error messages.
     Faults,
     Fault(FaultName),
-    /// Explain the errors of standard input.
+    /// Explain the first error in standard input.
     Explain,
 }
 

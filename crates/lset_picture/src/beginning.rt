@@ -1,4 +1,5 @@
-//! Finds the moment when the picture of a rejected order starts.
+//! Finds the moment at which the picture of a rejected order starts. Moments are positions in the history, counted from
+//! 1.
 use crate::picture::Picture;
 use crate::refusal::Refusal;
 use lset_words::CallRecord;
@@ -28,9 +29,9 @@ fn first_begun(calls: &[CallRecord], key: u32) -> Option<u32> {
     None
 }
 
-/// Returns the moment when the picture of a rejected order should start. This is the start of the call that the refusal
-/// (the reason for rejecting the order) names. If the refusal names two calls, it is the start of the call that had
-/// ended before the other started. If the final keys are wrong, it is the start of the first call on the smallest
+/// Returns the moment at which the picture of a rejected order should start. This is the start of the call that the
+/// refusal (the reason for rejecting the order) names. If the refusal names two calls, it is the start of the call that
+/// had ended before the other started. If the final keys are wrong, it is the start of the first call on the smallest
 /// differing key.
 pub(crate) fn clash_begins(picture: &Picture) -> Option<u32> {
     let calls = picture.history.calls();

@@ -1,5 +1,5 @@
-//! Computes the columns of a picture: one for each moment in the range to draw when a call starts, takes effect or
-//! ends.
+//! Computes the columns of a picture. A column is a moment (a position in the history) at which a call starts, takes
+//! effect or ends.
 use crate::MOST_WIDTH;
 use crate::beginning::clash_begins;
 use crate::drawn_moments::{moments_shown, next_moment};
@@ -18,7 +18,7 @@ pub(crate) enum Sign {
     End(Reply),
 }
 
-/// A sign on a thread's row, and this thread.
+/// A sign, and the thread that it belongs to.
 #[derive(Clone, Copy)]
 pub(crate) struct Mark {
     pub thread: u32,
@@ -44,9 +44,9 @@ pub(crate) enum Side {
     After,
 }
 
-/// The columns of a picture, and the parts that are left out. `known` is true if every linearization point is known,
-/// `from` and `last` are the first and last drawn moments, and `before` and `after` are true if something happens
-/// before `from` or after `last`.
+/// The columns of a picture, and what is left out. `known` is true if every linearization point is known. `from` and
+/// `last` are the first and the last drawn moment. `before` and `after` are true if something happens before `from` or
+/// after `last`.
 #[derive(Drop)]
 pub(crate) struct Drawing {
     pub columns: Vec<Column>,
@@ -63,9 +63,9 @@ impl Drawing {
         self.before || self.after
     }
 
-    /// Returns a range of moments that starts at the call that the reason for rejecting the order names. Returns `None`
-    /// if the order is accepted or the history has no such call, if all moments were drawn, or if `window` excludes
-    /// some moments.
+    /// Returns a better range of moments for a rejected order: one that starts at the call that the reason for the
+    /// rejection names. Returns `None` if the order is accepted, if the history has no such call, if nothing happens
+    /// after the drawn moments, or if `window` excludes some moments.
     pub fn window_of_clash(&self, picture: &Picture, window: Window) -> Option<Window> {
         if !(self.after && window.is_whole()) {
             return None;

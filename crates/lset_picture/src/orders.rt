@@ -100,15 +100,15 @@ fn is_told(picture: &Picture, drawing: &Drawing, place: Placed) -> bool {
     }
 }
 
-/// The numbers of entries of the order that were not printed: entries before the drawn moments, entries after them, and
-/// entries without a call in the history.
+/// How many entries of the order were not printed: entries before the drawn moments, entries after them, and entries
+/// without a call in the history.
 struct LeftOut {
     before: usize,
     after: usize,
     unknown: usize,
 }
 
-/// Writes the entries of the order that are drawn, and returns the numbers of the other entries.
+/// Writes the entries of the order that are drawn, and returns how many entries were left out.
 fn put_places(
     out: &mut String,
     picture: &Picture,
@@ -137,7 +137,7 @@ fn put_places(
     })
 }
 
-/// Writes the numbers of entries that are left out.
+/// Writes how many entries are left out.
 fn put_left_out(out: &mut String, left: LeftOut) -> Result<(), AllocError> {
     let LeftOut {
         before,
@@ -165,7 +165,7 @@ fn put_order(out: &mut String, picture: &Picture, drawing: &Drawing) -> Result<(
     put_left_out(out, left)
 }
 
-/// Appends the lines below the rows: the order, the numbers of entries left out, the final keys, `legend` if the
+/// Appends the lines below the rows: the order, how many entries are left out, the final keys, `legend` if the
 /// linearization points are known, and the schedule's event that is not enabled, if it has such an event.
 pub(crate) fn put_lines_below(
     out: &mut String,

@@ -13,15 +13,17 @@ followed [] more = []
 followed (r ∷ rs) [] = r ∷ rs
 followed (r ∷ rs) (cs ∷ more) = with_calls r cs ∷ followed rs more
 
--- Some legal order has exactly the calls in these records and `calls` further calls. The order agrees with each record,
--- and leaves these keys. The calls that follow a record were made by the thread of this record.
+-- States that some legal order consists of the calls in `records` and of `calls` further calls, agrees with each
+-- record, and leaves these keys. A record lists the calls of one thread. `added` lists the further calls of each
+-- thread.
 pub record IsServed (k : Opening) (records : List Record) (calls : ℕ) (keys : List ℕ) : Type 0 where
   pub added : List (List CallMade)
   pub each : length added ≡ length records
   pub count : calls ≡ sum_by (λ cs. length cs) added
   pub explained : IsOneLegalOrder k (followed records added) keys
 
--- All workers have ended: their seats have been merged into one, and each connection was received exactly once.
+-- States that all workers have ended. Their seats have been merged into one, and each connection was received exactly
+-- once.
 pub record HasGathered (starts : List Record) (end : Option Record) (v : Tally) (asked sessions calls : ℕ) : Type 0 where
   pub added : List (List CallMade)
   pub each : length added ≡ length starts

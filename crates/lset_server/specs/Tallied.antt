@@ -1,4 +1,4 @@
--- The connections that a server has sent and received, as the contracts of its result state them.
+-- The connections that a server has sent and received, for contracts about its result.
 use Rattle.crossbeam_channel.specs.Claims.{view}
 use Rattle.lset_server.specs.declared.channel.Tally.{Tally}
 use Rattle.lset_server.specs.declared.set_server.Served.{Served}

@@ -59,8 +59,8 @@ abbrev pub numbers_below : ℕ → List ℕ
 numbers_below zero = []
 numbers_below (suc n) = numbers_below n ++ n ∷ []
 
--- All passes of a channel (rights to use it) were joined into one pass with tally v. The numbers 0 to n - 1 were sent,
--- in order. Each of these numbers was received exactly once, and no other number was received.
+-- States that all passes of a channel (rights to use it) were joined into one pass with tally v. The numbers 0 to n - 1
+-- were sent, in order. Each of these numbers was received exactly once, and no other number was received.
 pub record ReceivedOnce (n : ℕ) (v : Tally) : Type 0 where
   pub parts : v.parts ≡ PARTS
   pub sent : v.sent ≡ numbers_below n

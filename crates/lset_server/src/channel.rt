@@ -11,9 +11,8 @@ use std::alloc::Global;
 use std::collections::LinkedList;
 use std::sync::Wait;
 
-/// The number of parts that all passes of a channel (rights to use it) have together: one for each worker and one for
-/// the sender. The tally of a pass with all parts lists all connections that were sent and received. A server has at
-/// most as many workers as a set has threads.
+/// The number of parts into which the right to use the channel can be split: one for each of up to `MOST_THREADS`
+/// workers, and one for the sender. The holder of all parts knows all connections that were sent and received.
 pub(crate) const PARTS: u64 = MOST_THREADS as u64 + 1;
 
 /// An accepted connection with its number. Connections are numbered from 0, in order of acceptance.
@@ -30,8 +29,8 @@ pub(crate) enum Message<S> {
     Close,
 }
 
-/// The tally of a pass (a right to use the channel): the connections that were sent and received with the pass, and the
-/// number of its parts. The tally of a pass with all parts lists all connections that were sent and received. Exists in
+/// The tally of a pass (a right to use the channel): how many parts the pass has, and which connections were sent and
+/// received with it. The tally of a pass with all parts lists all connections that were sent and received. Exists in
 /// contracts only.
 pub(crate) struct Tally {
     pub parts: u64,

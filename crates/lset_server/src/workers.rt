@@ -34,8 +34,8 @@ pub(crate) struct WorkerResult<M: Running> {
     pub calls: u64,
 }
 
-/// The promise of a worker thread, in contracts: its channel, its set, its seat when it was started, and the maximum
-/// number of its sessions.
+/// What a worker thread was started with, for contracts: its channel, its set, its seat, and the maximum number of its
+/// sessions.
 #[derive(Drop)]
 pub(crate) struct WorkerPromise<M: Running> {
     pub from: Snapshot<Receiver<TcpStream>>,

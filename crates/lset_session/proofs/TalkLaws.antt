@@ -103,8 +103,8 @@ counted_is e q h = refl
 
 -- ---- Lemmas about the bytes that the session has processed
 
--- If a session ends after it has written its last line, the reason is `why`. If it could not write the whole line, the
--- reason is WriteFault.
+-- The last line of a session ends it for the reason `why`, or for the reason WriteFault if the line could not be
+-- written completely.
 told_last : (left left' : ℕ) (bytes p' : List ℕ) (talk : List Exchange) (why : EndReason) (whole : Bool) → IsLast why
     → ((more : List ℕ) → turns_at left (cut_at 10 (bytes ++ more)) ≡ turns_in talk ++ []) → end_of (turns_in talk) ≡ why
     → Told left bytes (ending whole why) left' p' talk
@@ -137,7 +137,8 @@ heard_long left left' q p' r w w' n whole lacks many wrote = record {
   count = omega arith;
 }
 
--- Assumptions of the lemmas below: a session in state t has read a newline, and answers the line with the request q.
+-- Assumptions of the lemmas below: a session in state t has read a newline. Its current line is now complete and has
+-- the request q, which the session answers.
 module _ (t : Talk) (talk : IsTalk t) (left' : ℕ) (p' : List ℕ) (r r' : Record) (w w' : Option (List ℕ)) (n' : ℕ)
     (e : Exchange) (q : Request) (asked : q ≡ request_of (pending_of t)) (is : turn_of e ≡ line q)
     (recorded : r' ≡ with_calls r (call_of e)) (count : n' ≡ t.calls + counted q) where
@@ -280,8 +281,8 @@ heard_then l l' l'' p p' p'' cs o r r' r'' w w' w'' n n' n'' h k = record {
 
 -- ---- Lemmas about processing the bytes of a single read
 
--- If a session has processed i bytes of a read and then processes the next byte, it has processed i + 1 bytes of this
--- read.
+-- Induction step for the bytes of one read: the state after i bytes and the effect of the next byte give the state
+-- after i + 1 bytes.
 pub heard_byte : (l l' l'' : ℕ) (p p' p'' xs : List ℕ) (i : ℕ) (o : Option EndReason) (r r' r'' : Record) (w w' w'' : Option (List ℕ))
     (n n' n'' : ℕ)
     → i < length xs → Heard l (p ++ take i xs) None l' p' r r' w w' n n' →

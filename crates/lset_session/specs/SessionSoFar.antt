@@ -1,5 +1,5 @@
--- Conditions for a session that has processed a prefix of its input, in the contracts of the functions that `session`
--- calls.
+-- The state of a session that has processed only a prefix of its input. The contracts of the functions that `session`
+-- calls use these definitions.
 use Rattle.std.specs.Prelude.{◌≡◌, ◌≢◌, ℕ, ◌+◌, ◌*◌, ◌<◌, ◌≤◌, List, [], ◌++◌, take, length, Option, Some, None, Bool, true}
 use Rattle.std.specs.Prelude.{false, if◌then◌else◌}
 use Rattle.std.specs.Io.KnownBytes.{Appends}
@@ -14,12 +14,14 @@ use Rattle.lset_session.specs.declared.requests.Request.TheVariants as request
 use Rattle.lset_session.specs.SessionText.{Turn, turns_at, end_of, Exchange, turns_in, answers_in, calls_in}
 use Rattle.lset_session.specs.Sessions.{Wrote}
 
--- States which answers a session has written if it continues (`None`), or if it has ended for this reason.
+-- States which answers a session has written. `None` is for a session that continues, `Some end` for a session that has
+-- ended for the reason `end`.
 abbrev pub WroteSoFar : Option EndReason → Option (List ℕ) → Option (List ℕ) → List Exchange → Type 0
 WroteSoFar None w w' talk = Appends w w' (answers_in talk)
 WroteSoFar (Some end) w w' talk = Wrote end w w' talk
 
--- States that a session can end for this reason while it processes bytes: for any reason except `End` and `ReadFault`.
+-- States that a session can end for this reason while it processes bytes. All reasons except `End` and `ReadFault` are
+-- possible.
 abbrev pub IsLast : EndReason → Type 0
 IsLast why.End = ⊥
 IsLast why.ReadFault = ⊥
@@ -60,8 +62,8 @@ pub record IsTalk (t : Talk) : Type 0 where
   pub more : 0 < t.left
   pub few : t.calls + t.left ≤ MOST_LINES
 
--- States that from state t to state u the session has processed at least n bytes: (LONGEST_LINE + 1) * left - len, a
--- bound on the bytes that it can still process, has decreased by at least n.
+-- States that state u is at least n bytes nearer to the end of the session than state t. The distance to the end is
+-- (LONGEST_LINE + 1) * left - len: the session cannot process more bytes than this number.
 abbrev pub Nearer : Talk → Talk → ℕ → Type 0
 Nearer t u n = (LONGEST_LINE + 1) * u.left + t.len + n ≤ (LONGEST_LINE + 1) * t.left + u.len
 
@@ -75,7 +77,7 @@ abbrev pub counted : Request → ℕ
 counted (request.Call c) = 1
 counted other = 0
 
--- Returns whether a session that ended for this reason has a writer that failed.
+-- Returns whether this reason means that the writer of the session has failed.
 abbrev pub failed_by : Option EndReason → Bool
 failed_by (Some why.WriteFault) = true
 failed_by other = false

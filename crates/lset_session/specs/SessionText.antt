@@ -49,9 +49,9 @@ pub data Turn : Type 0 where
   long : Turn
   limit : Turn
 
--- Returns the turns (answered lines) of a session from the line with request q on. `later` contains the turns of the
--- following lines. QUIT is the last turn of a session. If the session can answer only this line (`left` is 1), the turn
--- for the limit follows.
+-- Returns the turns (answered lines) of a session that starts with a line with this request. `later` contains the turns
+-- of the following lines. No turn follows QUIT. If `left` is 1, the session can answer only this line, and the turn for
+-- the limit follows.
 abbrev pub turns_after : ℕ → Request → List Turn → List Turn
 turns_after left request.Quit later = line request.Quit ∷ []
 turns_after left other later = line other ∷ (if left == 1 then limit ∷ [] else later)

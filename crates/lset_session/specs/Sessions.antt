@@ -18,15 +18,15 @@ abbrev pub Wrote : EndReason → Option (List ℕ) → Option (List ℕ) → Lis
 Wrote why.WriteFault w w' talk = CutAnswers w w' talk
 Wrote end w w' talk = Appends w w' (answers_in talk)
 
--- Returns the reason why the bytes read so far end a session that has ended for the reason `end`. After a failed read,
--- no line has ended the session, and the result is `End`. Otherwise, the result is `end`.
+-- Returns the reason that the bytes read so far give for the end of a session. The bytes do not show that a read
+-- failed, so that the result for `ReadFault` is `End`. The result for any other reason is the reason itself.
 abbrev pub text_end : EndReason → EndReason
 text_end why.ReadFault = why.End
 text_end end = end
 
--- A session that has ended for the reason `end` after this number of calls. The session changed the remaining input
--- from s to s', the record of its seat (the calls with replies) from r to r', and the bytes written to its client from
--- w to w'.
+-- States that a session has ended for the reason `end` after this number of calls. The session changed the remaining
+-- input from s to s', the record of its seat (the calls with replies) from r to r', and the bytes written to its client
+-- from w to w'.
 pub record IsSession (end : EndReason) (calls : ℕ) (s s' : Option (List ℕ)) (r r' : Record) (w w' : Option (List ℕ)) : Type 0 where
   -- The bytes that the session has read. `talk` has the turns (answered lines) with their answers.
   pub bytes : List ℕ

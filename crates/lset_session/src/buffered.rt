@@ -138,10 +138,10 @@ impl<O: Sink> Sink for Buffered<'_, O> {
 
 /// Serves one client as `session` does, but buffers up to 4,096 bytes of answers. Writes them before each read of
 /// `reader`, when the buffer is full, and at the end of the session. `reader` and `writer` must not have failed, and
-/// `seat` must belong to `set`.
+/// `seat` (the right to call as one thread) must belong to `set`.
 ///
 /// If a write fails, the session ends with `WriteFault` and writes nothing more. The bytes written are then a prefix of
-/// the answers. Calls whose answers were not written have still been made, and are counted. Can block when its set, its
+/// the answers. Calls whose answers were not written have still been made, and are counted. Blocks when its set, its
 /// reader or its writer does. Does not allocate.
 pub fn buffered_session<R: Wait, I: Source + Drop, O: Sink + Drop, S: SetCalls>(
     rt: &R,

@@ -5,7 +5,7 @@ ghost use Rattle.lset_session.specs.Devices.{inner_of, is_failed, Writes};
 
 use std::io::{Read, Write};
 
-/// A reader of the bytes that a client sends. After a failed read, no function reads again.
+/// A reader of the bytes that a client sends. `read` must not be called after a read has failed.
 pub trait Source {
     /// The bytes that have not been read yet, if they are known.
     ghost remaining: { Self → Option (List ℕ) };
@@ -13,8 +13,8 @@ pub trait Source {
     /// States whether a read has failed, that is, has returned `None`.
     ghost has_failed: { Self → Bool };
 
-    /// Reads bytes into `buffer`, from its first byte on, and returns their number. The number is 0 only at the end of
-    /// the input, or if the buffer is empty. Returns `None` if the read fails.
+    /// Reads bytes to the start of `buffer` and returns their number. Returns 0 only at the end of the input or if
+    /// `buffer` is empty, and `None` if the read fails.
     fn read(&mut self, buffer: &mut [u8]) -> Option<usize>
         requires works { has_failed self.old ≡ false }
         ensures bound { IfSome result (λ n. n ≤ length buffer.new) }
@@ -24,7 +24,7 @@ pub trait Source {
         ensures failed { MatchOption result (has_failed self.new ≡ true) (λ n. has_failed self.new ≡ false) };
 }
 
-/// A writer of the answers of a session. After a failed write, no function writes again.
+/// A writer of the answers of a session. `write` must not be called after a write has failed.
 pub trait Sink {
     /// The bytes that have been written, if they are known.
     ghost written: { Self → Option (List ℕ) };
@@ -33,7 +33,7 @@ pub trait Sink {
     ghost has_failed: { Self → Bool };
 
     /// Writes a prefix of `text` and returns its length, which is at least 1 unless `text` is empty. Returns `None` if
-    /// the write fails. In this case, no bytes have been written.
+    /// the write fails. A failed write writes no bytes.
     fn write(&mut self, text: &[u8]) -> Option<usize>
         requires works { has_failed self.old ≡ false }
         ensures bound { IfSome result (λ n. (n ≤ length text.now) × (0 < length text.now → 0 < n)) }
@@ -42,8 +42,8 @@ pub trait Sink {
         ensures failed { MatchOption result (has_failed self.new ≡ true) (λ n. has_failed self.new ≡ false) };
 }
 
-/// A reader or writer of the standard library, used as a `Source` or `Sink`. Each error counts as a failure, and so
-/// does a write that accepts no bytes.
+/// A reader or writer of the standard library, used as a `Source` or `Sink`. Any error is a failure, and so is a write
+/// that accepts no bytes.
 #[derive(Drop)]
 pub struct Device<T> {
     inner: T,

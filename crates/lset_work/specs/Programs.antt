@@ -32,8 +32,8 @@ worked (r ∷ rs) (p ∷ ps) (a ∷ more) = with_calls r (made p a) ∷ worked r
 abbrev pub Fit : SetValue → List SeatValue → ℕ → Type 0
 Fit set seats programs = (programs ≡ length seats) × (sum_by (λ (s : SeatValue). s.held) seats ≡ set.shape.threads)
 
--- States whether `work` returns its input with this error: yes if no thread was started (Programs and Memory),
--- otherwise no.
+-- States that `work` returns its input with an error of this cause if no thread was started (Programs and Memory), and
+-- returns no input otherwise.
 abbrev pub GivesBack : {Given : Type 0} → Given → WorkCause → Option Given → Type 0
 GivesBack given Programs back = back ≡ Some given
 GivesBack given Spawn back = back ≡ None
@@ -47,12 +47,12 @@ GivesBack given Memory back = back ≡ Some given
 abbrev pub IsMadeOn : Record → List Call → List Reply → Record → Type 0
 IsMadeOn before program replies after = (length replies ≡ length program) × (after ≡ with_calls before (made program replies))
 
--- States that the last seat exists and has seen all events that seat s had seen.
+-- States that the merged seat `last` exists and has seen all events that seat s had seen.
 abbrev pub HasSeenAll : Option SeatValue → SeatValue → Type 0
 HasSeenAll None s = ⊥
 HasSeenAll (Some last) s = StartsWith last.events s.events
 
--- The programs have run on the seats, and all seats have been merged into `last`.
+-- States that the programs have run on the seats, and that all seats have been merged into `last`.
 pub record HaveRun (set : SetValue) (seats : List SeatValue) (programs : List (List Call)) (last : Option SeatValue)
     (replies : List (List Reply)) : Type 0 where
   pub fit : length programs ≡ length seats
@@ -65,8 +65,8 @@ pub record HaveRun (set : SetValue) (seats : List SeatValue) (programs : List (L
   -- The seat `last` has seen all events that any of the seats had seen before its program ran.
   pub begins : All (HasSeenAll last) seats
 
--- A legal order of exactly the calls in these records, which leaves these keys and also linearizes the history of some
--- run. The run begins with all events that the seats had seen.
+-- States that some legal order of exactly the calls in these records leaves these keys, and that this order also
+-- linearizes the history of a run. The run begins with all events that the seats had seen.
 pub record IsWorkInTime (T : Table) (k : Opening) (seats : List SeatValue) (records : List Record) (keys : List ℕ) : Type 0 where
   pub events : List Event
   pub begins : All (λ (s : SeatValue). StartsWith events s.events) seats

@@ -1,4 +1,5 @@
-//! Runs programs of calls on the seats of a running set, all at the same time.
+//! Runs programs of calls on the seats of a running set, all at the same time. A seat is the right to call as one
+//! thread.
 ghost use Rattle.std.specs.Prelude.{◌≡◌, ◌<◌, ◌^◌, ◌↔◌, IfOk, IfErr, IsOk, MatchResult, All, map, length, true};
 ghost use Rattle.lset_live.specs.Explained.{IsOneLegalOrder};
 ghost use Rattle.lset_work.specs.Programs.{Fit, GivesBack, HaveRun, IsOfThreads, IsWorkInTime, worked};
@@ -111,12 +112,12 @@ pub fn work<R: Threads + Wait + Sync, M: Running + Send + Sync, G: Gate + Sync>(
     ensures replies { IfOk result (λ o. map (λ v. length v.items) o.replies.items ≡ map (λ p. length p.items) programs.items) }
     ensures outcome { IfOk result (λ o. IsOneLegalOrder set.shape (worked
         (map (λ s. s.past) seats.items) (map (λ p. p.items) programs.items) (map (λ v. v.items) o.replies.items)) o.keys.items) }
-    // The order also linearizes a history that begins with the events that the seats had seen. Calls that had ended in
-    // these events precede calls that began later, even if a seat knew of them only from a receipt of another seat.
+    // The legal order of all calls also linearizes a history that begins with the events that the seats had seen. Calls
+    // that had ended in these events precede calls that began later. (A seat can know of such an end from a receipt,
+    // which contains the events that another seat had seen.)
     ensures in_time { IfOk result (λ o. IsWorkInTime M.table set.shape seats.items (worked
         (map (λ s. s.past) seats.items) (map (λ p. p.items) programs.items) (map (λ v. v.items) o.replies.items)) o.keys.items) }
-    // If the cause is `Programs`, the numbers of programs, seats and threads of the set do not match. If they do not
-    // match, the cause is `Programs`.
+    // The cause is `Programs` if and only if the numbers of programs, seats and threads of the set do not match.
     ensures fitting { IsOk result → Fit set seats.items (length programs.items) }
     ensures refused { IfErr result (λ f. f.cause ≡ WorkCause.Programs ↔ ¬ (Fit set seats.items (length programs.items))) }
     ensures back { IfErr result (λ f. GivesBack (set, seats) f.cause f.back) }

@@ -18,8 +18,8 @@ pub const MOST_SESSIONS_ASKED: u32 = 10_000;
 /// The largest port number.
 pub const MOST_PORT: u32 = 65_535;
 
-/// The arguments of the command `gen`, which are also the first six of `run`: a list, the sizes of a run, the number of
-/// calls, and a random seed.
+/// The arguments of the command `gen`, which are also the first six of `run`: a kind of list, the numbers of threads,
+/// keys and calls, and a random seed.
 #[derive(Clone, Copy)]
 pub struct RandomRequest {
     /// The kind of list.
@@ -30,7 +30,7 @@ pub struct RandomRequest {
     pub quota: u32,
     /// The number of calls, 0 to `MOST_CALLS_ASKED`.
     pub calls: u32,
-    /// The number of keys to draw from, at least 1. Keys start at 0.
+    /// The number of keys that calls choose from, at least 1. The keys are the numbers below it.
     pub keys: u32,
     /// The random seed; any number is allowed.
     pub seed: u64,

@@ -40,7 +40,7 @@ pub enum SystemCause {
     Programs,
     /// The gate, which decides before each call whether the call is made, refused a call.
     Gate,
-    /// The final keys of a round are more than a set can open with.
+    /// A round has more final keys than a set can open with.
     Opening,
     /// Some seats of the set are missing. (A seat is the right to call the set as one thread.)
     Seats,

@@ -1,4 +1,5 @@
-//! Determines how far a thread can run, by expanding the lines before an error as a draft.
+//! Determines how far a thread can run after the lines before an error. Expands these lines as a draft: a schedule in
+//! which a line can state where a thread stops, in place of a number of steps.
 
 use crate::event_errors::thread_text;
 use std::alloc::{AllocError, Global};
@@ -30,7 +31,7 @@ fn answer_on<T: Tool>(alloc: Global, tool: &T, text: &[u8]) -> Option<Vec<u8>> {
     }
 }
 
-/// Returns the schedule of the lines before the error and, after them, `ending`, which can have lines of a draft. Returns
+/// Expands the lines before the error, followed by `ending`, to a schedule. `ending` can have lines of a draft. Returns
 /// `None` if a line has an error: a thread in `ending` waits for a lock, or has no pending call.
 fn schedule_up_to(
     alloc: Global,
@@ -90,8 +91,8 @@ fn held_lock<'a>(trace: &Lines<'a>) -> Option<(&'a str, &'a str)> {
     }
 }
 
-/// Explains why a thread does not reach the row that a draft's line names: the thread waits for a lock, or its call
-/// ends first.
+/// Explains why a thread does not reach the row of the step table that a draft's line names: the thread waits for a
+/// lock, or its call ends first.
 pub(crate) fn put_lock(
     alloc: Global,
     out: &mut String,

@@ -76,7 +76,7 @@ fn put_form(out: &mut String, lines: &Lines<'_>, place: Place<'_>) -> Result<(),
     }
 }
 
-/// Explains an event with a wrong number, or a line of a draft in a schedule.
+/// Explains an event with a wrong number, or a line in a schedule that only a draft can have.
 fn put_event_number(out: &mut String, place: Place<'_>) -> Result<(), AllocError> {
     let (line, file) = (place.line, place.file);
     let is_stop = matches!(field_or_empty(line, 2), b"out" | b"to");
@@ -148,7 +148,7 @@ fn put_call(
     }
 }
 
-/// Prints how the pending call of the thread can be ended by lines before the wrong line.
+/// Prints how to end the pending call of the thread with lines that are inserted before the wrong line.
 fn put_ending(
     alloc: Global,
     out: &mut String,
@@ -173,7 +173,8 @@ fn put_ending(
     }
 }
 
-/// Explains why a thread cannot make all steps of a line: its call of line `since` has ended, or ends first.
+/// Explains why a thread cannot make all steps of a line: the call that line `since` begins has already ended, or ends
+/// before the last step.
 fn put_idle(
     alloc: Global,
     out: &mut String,

@@ -14,8 +14,8 @@ use Rattle.tool_base.specs.Trouble.{of_line_fault}
 use Rattle.tool_base.specs.declared.trouble.Trouble.TheVariants as trouble
 use Rattle.tool_base.specs.Tools.{AnswerValue, Made, OnInput}
 
--- The order in the report does not explain the history, and `fault` is the order's first error, not a failed
--- allocation.
+-- States that the order in the report does not explain the history, and that `fault` is the order's first error, not a
+-- failed allocation.
 pub record IsRefused (r : ReportValue) (fault : OrderFault) : Type 0 where
   pub first_fault : IsFault r.history r.order r.keys fault
   pub of_the_order : fault ≢ Memory
@@ -42,11 +42,11 @@ abbrev pub answer_of : Option OrderFault → AnswerValue
 answer_of None = record { text = codes "ok\n"; status = 0 }
 answer_of (Some fault) = record { text = refusal_text fault; status = 1 }
 
--- The answer states the correct verdict on this report.
+-- States that the answer has the correct verdict on this report.
 abbrev pub IsAnswerOn : ReportValue → AnswerValue → Type 0
 IsAnswerOn r answer = (verdict : Option OrderFault) × IsVerdict r verdict × (answer ≡ answer_of verdict)
 
--- The error is the first error of the text.
+-- States that the error is the first error of the text.
 abbrev pub IsFirstFault : Result ReportValue LineFault → Trouble → Type 0
 IsFirstFault (Err fault) t = t ≡ of_line_fault fault
 IsFirstFault (Ok r) t = ⊥

@@ -72,8 +72,8 @@ fn add_opening(opening: &mut Vec<u32>, key: u32) -> Result<(), Cause>
 }
 
 impl Draft {
-    /// Adds a line to the draft, which has space for `left` more events. Returns the number of events that the draft has
-    /// space for after this line.
+    /// Adds a line to the draft. `left` is the number of events that can still be added. Returns how many are left
+    /// after this line.
     fn add_line(&mut self, line: &[u8], left: u32) -> Result<u32, Cause> {
         if self.lines.is_empty()
             && let Some(key) = opening_piece(line)
@@ -95,9 +95,9 @@ impl Draft {
 ///
 /// # Errors
 ///
-/// Returns the first wrong line with the first check that it fails. The checks are the checks of `read_schedule` for version
-/// 2, in the same order. The cause is `Number` if a thread is not a number or a row is not a number from 1 to 255. A line
-/// without a count is counted as one event.
+/// Returns the first wrong line, and the first check that this line fails. The checks are the checks of `read_schedule`
+/// for version 2, in the same order. The cause is `Number` if a thread is not a number or a row is not a number from 1
+/// to 255. A line without a count is counted as one event.
 pub fn read_draft(alloc: Global, bytes: &[u8]) -> Result<Draft, LineFault> {
     let (header, text) = read_header(TITLE.as_bytes(), bytes)?;
     let mut draft = Draft {

@@ -20,7 +20,7 @@ const TITLE_TWO: &[u8] = b"listset-report 2\n";
 pub struct Show {
     /// The format of the picture: text or SVG.
     pub form: Form,
-    /// The range of moments to draw.
+    /// The range of moments (positions in the history) to draw.
     pub window: Window,
     /// The broken list (a list without one of its checks) that runs the schedule; `None` for the list that the schedule
     /// names.
@@ -40,9 +40,9 @@ impl Show {
     /// Reads a schedule or a report and returns its picture. If a broken list is selected, the text must be a schedule,
     /// and the picture shows the report of its run on that list. Allocates.
     ///
-    /// The error is `Memory`, or `Line` with the first error of the text. That is the error of `report_broken` if a
-    /// broken list is selected, of `read_report` if the text starts with a report's title, and of `read_schedule` for
-    /// any other text.
+    /// The error is `Memory`, or `Line` with the first error of the text. The text is read by `report_broken` if a
+    /// broken list is selected, by `read_report` if the text starts with a report's title, and otherwise by
+    /// `read_schedule`.
     pub fn picture(self, alloc: Global, bytes: &[u8]) -> Result<Picture, Trouble> {
         if let Some(broken) = self.lacks {
             let report = report_broken(alloc, broken, bytes)?;
