@@ -112,12 +112,16 @@ pub extern "C" fn listset_why(alloc: Global, text: &[u8], room: &mut [u8], statu
 }
 
 /// Diagnoses a refused recording and writes a record, with status 1. The record has these lines, in this order:
-/// `headline TEXT`; `call THREAD OPERATION KEY BEGIN END REPLY MARK` for each call to show, ordered by start (MARK is `-`,
-/// `expected BOOL`, `leaves STATE`, `finds STATE` or `either`; STATE is `present` or `absent`); `also THREAD OPERATION KEY
-/// BEGIN END REPLY` for each change of another key at the same time (of many, the longest); `fact TEXT` for each fact; and,
-/// if there is a likely cause, `likely TEXT` and `because TEXT`. END and REPLY are `-` for a pending call. If a line has the
-/// wrong form or some order explains the calls, writes nothing and sets status 0. Judge the text first: this function does
-/// not check that keys increase, nor that each call can follow the calls before it.
+/// - `headline TEXT`;
+/// - `call THREAD OPERATION KEY BEGIN END REPLY MARK` for each call to show, ordered by start; MARK is `-`, `expected BOOL`,
+///   `leaves STATE`, `finds STATE` or `either`, and STATE is `present` or `absent`;
+/// - `also THREAD OPERATION KEY BEGIN END REPLY` for each change of another key at the same time (of many, the longest);
+/// - `fact TEXT` for each fact;
+/// - `likely TEXT` and `because TEXT`, if there is a likely cause.
+///
+/// END and REPLY are `-` for a pending call. If a line has the wrong form or some order explains the calls, writes
+/// nothing and sets status 0. Judge the text first: this function does not check that keys increase, nor that each call
+/// can follow the calls before it.
 #[unsafe(no_mangle)]
 pub extern "C" fn listset_why_record(
     alloc: Global,

@@ -13,8 +13,8 @@ use Rattle.lset_live.specs.Explained.{HasAnswered, HasMadeAtMost}
 use Rattle.ffi_sets.specs.declared.held.Held.{Held}
 use Rattle.ffi_sets.specs.Sets.{table_in, set_in, seat_in, spare_in, keys_in, number_in, receipt_in, SameSet}
 
--- The effect of a call from a seat of a set (the right to call as one thread). Either the call returned this reply, or the
--- call gave up and the seat is lost, or the seat was already lost.
+-- States the effect of a call from a seat of a set (the right to call as one thread). Either the call returned this
+-- reply, or the call gave up and the seat is lost, or the seat was already lost.
 abbrev pub HasCalledOf : Table → SetValue → Option SeatValue → Call → Option Reply → Option SeatValue → Type 0
 HasCalledOf T set (Some old) c (Some r) (Some new) = HasAnswered T set old c r new
 HasCalledOf T set (Some old) c None None = Unit {0}
@@ -34,8 +34,8 @@ abbrev pub CallsIn : Option Table → Option SetValue → Option SeatValue → C
 CallsIn (Some T) (Some set) old c r new = HasCalledOf T set old c r new
 CallsIn T set old c r new = r ≡ None
 
--- The effect of call `c` on the value that a C handle owns. The list, the set, its number, and the seats that can be split
--- off do not change. A receipt or a closed set cannot make a call: the reply is `None`.
+-- States the effect of call `c` on the value that a C handle owns. The list, the set, its number, and the seats that
+-- can be split off do not change. A receipt or a closed set cannot make a call: the reply is `None`.
 pub record HasCalledHeld (h : Held) (c : Call) (r : Option Reply) (h' : Held) : Type 0 where
   pub same : SameSet h h'
   pub spare : spare_in h' ≡ spare_in h
@@ -73,14 +73,14 @@ HasCeiling true h c n a a' true h' = (r : Option Reply) × (n ≡ code_of r) × 
 HasCeiling false h c n a a' false h' = (n ≡ 255) × (a' ≡ a)
 HasCeiling full h c n a a' full' h' = ⊥
 
--- States that a seat of a set issued this receipt: the receipt names the seat's set and contains the events that the seat has
--- seen.
+-- States that a seat of a set issued this receipt. The receipt names the seat's set and contains the events that the
+-- seat has seen.
 abbrev pub HasNotedOf : Option SeatValue → Option ReceiptValue → Type 0
 HasNotedOf (Some s) (Some given) = given ≡ record { set = s.set; events = s.events }
 HasNotedOf s given = ⊥
 
--- The value `h` of a C handle has issued the receipt `given`, with the number of its set. `h'`, the value afterwards, has the
--- same list, set, number and seats as `h`.
+-- States that a C handle with the value `h` has issued the receipt `given`, which has the number of the handle's set.
+-- `h'`, the value afterwards, has the same list, set, number and seats as `h`.
 pub record HasNotedHeld (h given h' : Held) : Type 0 where
   pub same : SameSet h h'
   pub spare : spare_in h' ≡ spare_in h

@@ -79,14 +79,14 @@ abbrev pub keys_in : Held → Option (List ℕ)
 keys_in (Closed keys) = Some keys.items
 keys_in h = None
 
--- The values of two C handles have the same list, set and number.
+-- States that the values of two C handles have the same list, set and number.
 pub record SameSet (h h' : Held) : Type 0 where
   pub table : table_in h' ≡ table_in h
   pub set : set_in h' ≡ set_in h
   pub number : number_in h' ≡ number_in h
 
--- States that the two values belong to the same set if they have the same number. A caller ensures this by giving each
--- open set its own number.
+-- States that two values with the same number belong to the same set. A caller ensures this by giving each open set its
+-- own number.
 abbrev pub Gathers : Held → Held → Type 0
 Gathers h h' = number_in h ≡ number_in h' → set_in h ≡ set_in h'
 

@@ -1,8 +1,8 @@
 //! A first program that uses the library.
 //!
 //! One thread makes calls on its own set. Two threads share a set, the set is closed, and a set of another kind of list
-//! opens with the final keys. The program then starts two threads itself, and a receipt orders their calls. Finally,
-//! the program replays a recorded schedule.
+//! opens with the final keys. The program then starts two threads itself. A receipt, which one thread sends to the
+//! other, orders their calls. Finally, the program replays a recorded schedule.
 #![tactic(auto)]
 
 ghost use Rattle.std.specs.Prelude.{◌≡◌, [], ◌∷◌, IfOk, map};
@@ -54,8 +54,8 @@ fn two_threads<M: Running + Send + Sync + Drop, R: Threads + Wait + Sync>(
     first: [Call; 2],
     second: [Call; 2],
 ) -> Result<Outcome>
-    // All these calls, with their replies, have a legal order that keeps the order of each thread's calls and leaves
-    // the final keys.
+    // Some legal order of the calls of both programs has these replies, keeps the order of each thread's calls, and
+    // leaves the final keys.
     ensures { IfOk result (λ o. IsOneLegalOrder (record { threads = 2; quota = 2; keys = keys.now })
         (worked (fresh 0 ∷ fresh 1 ∷ []) (first ∷ second ∷ []) (map (λ v. v.items) o.replies.items)) o.keys.items) }
 {

@@ -80,8 +80,8 @@ fn call_each_within<M: Running>(
     call_within(alloc, calls, set, seat, Call::Remove(key), Reply::True)
 }
 
-/// Makes the calls that return a `bool`, `Added` or `Option<Key>` instead of a `Reply`. The seat can still add keys, or has
-/// used up its quota. The set has the same keys at the end.
+/// Makes the calls that return a `bool`, `Added` or `Option<Key>` instead of a `Reply`. Expects the result `added` when
+/// it adds the absent key 8. The set has the same keys at the end.
 fn call_typed<M: Running, R: Wait>(
     rt: &R,
     alloc: Global,
@@ -172,8 +172,8 @@ fn running_set<M: Running, R: Wait>(rt: &R, alloc: Global, calls: &mut Calls) ->
     gather_and_close(alloc, calls, set, zero, one)
 }
 
-/// Makes calls with `key`, which is absent before and present afterwards. They return a `bool`, `Added` or `Option<Key>`
-/// instead of a `Reply`.
+/// Makes calls on `key`, which is absent before and present afterwards. The calls return a `bool`, `Added` or
+/// `Option<Key>` instead of a `Reply`.
 fn add_typed<M: Running, R: Wait>(
     rt: &R,
     set: &LiveSet<M>,

@@ -2,9 +2,9 @@
 //! that returned `Memory` (or `Spawn`, if no thread could be created). The program makes this call again, and the
 //! result must be as if no allocation had failed.
 //!
-//! If the program is run by hand, no allocation fails. `tests/failed_allocations.py` makes each allocation fail in
-//! turn: it selects the allocation by its number. On standard input, it passes the number of blocks that the program
-//! allocates before its first call.
+//! If the program is run by hand, no allocation fails. `tests/failed_allocations.py` makes the allocation with a fixed
+//! number fail. The program's input is the number of blocks that it allocates before its first call. A different number
+//! in each run therefore makes a different allocation of the calls fail.
 #![tactic(auto)]
 
 /// Makes a call, and repeats the call once if it returns `Memory`. Returns the result of the last attempt.
@@ -58,8 +58,8 @@ fn take_blocks(alloc: Global, count: u32) -> Result<(), AllocError> {
 }
 
 /// Returns the two parts of the line to print after all calls had the expected results. If a call returned `Memory`,
-/// the line names this call. Otherwise allocates `blocks` blocks. If this fails, the selected allocation is later than all
-/// calls, and the line states that.
+/// the line names this call. Otherwise allocates `blocks` blocks. If one of them is refused, the failing allocation
+/// comes after all calls, and the line states that.
 fn told(alloc: Global, calls: &Calls, blocks: u32) -> (&'static str, &'static str) {
     match calls.refused {
         Some(name) => (name, " asked for memory"),

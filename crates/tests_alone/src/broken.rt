@@ -7,7 +7,7 @@ use lset_replay::{Steps, calls_of};
 use lset_schedule::read_schedule;
 use lset_text::{call_word, kind_word};
 
-/// The maximum number of runs on each list. A refused run must occur before.
+/// The maximum number of runs on each list. At least one of them must be refused.
 const RUNS: u64 = 2_000;
 
 const EVENTS: u32 = 120;

@@ -73,7 +73,7 @@ fn opening_and_final_keys_are_counted(rt: HostRuntime) -> Result<(), Fail> {
     Ok(())
 }
 
-/// Returns a random call on key 5 that runs between two moments, with a random reply. Some calls are pending.
+/// Returns a random call on key 5 that runs between these two moments, with a random reply. Some calls are pending.
 fn any_call(random: &mut Pcg32, thread: u32, one: u64, other: u64) -> StreamCall {
     let call = match random.next_u32() % 4 {
         0 | 1 => Call::Add(FIVE),

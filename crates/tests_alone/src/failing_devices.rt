@@ -22,7 +22,7 @@ pub enum Failure {
 }
 
 impl Failure {
-    /// Returns the error of a failing call that cannot report a number of bytes.
+    /// Returns the error of a failing call whose result is no number of bytes, such as a flush.
     fn error(self) -> io::Error {
         io::Error::from(match self {
             Failure::Interrupted => ErrorKind::Interrupted,
@@ -39,8 +39,8 @@ impl Failure {
     }
 }
 
-/// When a reader or writer fails: call number `fails_at`, counted from 0, fails, and all later calls succeed. A call
-/// transfers at most `most` bytes.
+/// Determines when a reader or writer fails: call number `fails_at`, counted from 0, fails, and all later calls
+/// succeed. A call transfers at most `most` bytes.
 #[derive(Clone, Copy)]
 pub struct Plan {
     pub most: usize,

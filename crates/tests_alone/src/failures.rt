@@ -1,5 +1,5 @@
-//! Runs the program again and again. In each run, another read or write fails. (`tests/transcripts` checks the output of runs
-//! without failures.)
+//! Runs the program repeatedly. In each run, a different read or write fails. (`tests/transcripts` checks the output of
+//! runs without failures.)
 use crate::failing_devices::{
     CANNOT_READ, CANNOT_WRITE, Failure, Plan, Reader, WHOLE, Way, Writer, planned,
 };

@@ -1,5 +1,5 @@
-//! Tests of the largest histories and recordings. Each test must end within a minute. Comparing all pairs of calls would need
-//! more time.
+//! Tests of the largest histories and recordings. Each test must end within a minute. This is too short for a
+//! comparison of all pairs of calls.
 
 use crate::prelude::*;
 use crate::test_histories::{FIVE, in_turn, increasing_keys};

@@ -28,7 +28,7 @@ pub fn two_seats<M: Machine, R: Abort>(rt: &R, alloc: Global) -> (LiveSet<M>, Se
     two_seats_on::<M, R>(rt, alloc, &[])
 }
 
-/// Makes a call by the method for its operation.
+/// Makes a call with the set's method for the operation.
 fn reply<M: Running, R: Wait>(rt: &R, set: &LiveSet<M>, seat: &mut Seat<M>, call: Call) -> Reply {
     match call {
         Call::Add(key) => set.add(rt, seat, key),

@@ -202,7 +202,7 @@ fn a_gate_that_refuses_a_call_ends_only_its_program(rt: HostRuntime) {
     }
 }
 
-/// Opens a set with three seats. Returns seat 2, after seat 1 was merged into it, and then seat 0.
+/// Opens a set with three seats, and merges seat 1 into seat 2. Returns the set, and the seats 2 and 0, in this order.
 fn two_before_zero<M: Running, R: Abort>(rt: &R, alloc: Global) -> (LiveSet<M>, Vec<Seat<M>>) {
     let (set, mut seats) = in_a_row::<M, R>(rt, alloc, 3);
     let mut two = last_of(rt, &set, &mut seats);

@@ -86,7 +86,7 @@ fn life<R: Host>(
     }
 }
 
-/// For each list, a number of seats and a quota.
+/// Each kind of list, with a number of seats and a quota.
 const LIVES: [(Kind, u32, u32); 5] = [
     (Kind::Coarse, 6, 40),
     (Kind::Fine, 4, 30),

@@ -4,7 +4,7 @@ use lset_words::{Call, Key, Kind};
 use std::marker::PhantomData;
 
 /// The list `M`, run by the interpreter of its step table instead of its own loops. Tests and `bench/run` compare the
-/// two. The traits `Bounded`, `Running` and `OpenContains` have their default bodies here.
+/// two. Implements the traits `Bounded`, `Running` and `OpenContains` with their default bodies.
 pub struct Stepped<M: Machine> {
     list: PhantomData<M>,
 }

@@ -1,4 +1,5 @@
--- The lines that `judge` prints for a contradiction about a key, byte by byte.
+-- The lines that `judge` prints for a contradiction about a key, byte by byte. In a contradiction, one call leaves the
+-- key present or absent, the next call needs the opposite, and no call can change the key in between.
 use Rattle.std.specs.Prelude.{ℕ, Bool, true, false, if◌then◌else◌, nat_le, List, ◌++◌, codes, Option, Some, None}
 use Rattle.std.specs.Fmt.{decimal}
 use Rattle.lset_words.specs.declared.Call.{Call}
@@ -26,7 +27,8 @@ is_change (Add k) (Some (end, True)) = true
 is_change (Remove k) (Some (end, True)) = true
 is_change c ended = false
 
--- The state in which a call needs the key: the state after the call or, if the call changes the key, the other state.
+-- The state (present or absent) that a call needs its key to have. If the call changes the key, this is the opposite of
+-- the state after the call, otherwise it is the state after the call.
 abbrev pub need_of : Bool → Presence → Presence
 need_of changes leaves = if changes then other leaves else leaves
 
@@ -59,7 +61,7 @@ end_text begun (Some e) = codes " " ++ reply_text e.1 ++ codes ", " ++ between b
 unfoldable pub made_text : StreamCall → List ℕ
 made_text x = thread_text x.thread ++ words.call_text x.call ++ key_text (key_of x.call).0 ++ end_text x.begun x.ended
 
--- ---- Contradictions in one order: one call leaves the key in one state, the next call needs the other
+-- ---- Contradictions in one order: one call leaves the key in one state, the next call needs the opposite state
 
 abbrev pub leaves_text : ℕ → Presence → List ℕ
 leaves_text key Present = codes "leaves key " ++ decimal key ++ codes " present,\n"
@@ -123,8 +125,8 @@ abbrev pub nor_text : Presence → List ℕ
 nor_text Present = codes ", and no such add overlaps "
 nor_text Absent = codes ", and no such remove overlaps "
 
--- The words for two overlapping calls: no call changes the key between them if the first takes effect before the second
--- (`turned_there`), nor if it takes effect after it (`turned_back`).
+-- The words about two overlapping calls: no call can change the key between them. `turned_there` is for the case that
+-- the first call takes effect first, `turned_back` for the case that the second does.
 unfoldable pub turned_there : ℕ → Presence → ℕ → ℕ → List ℕ
 turned_there key need from to = no_change key need ++ codes "that returned true or is pending overlaps " ++ between from to
 
@@ -143,7 +145,7 @@ lines_turned key was x y = turned_first key (need_of (is_change x.call x.ended) 
     ++ turned_there key (other was) x.begun (end_of y.begun y.ended)
     ++ turned_back (need_of (is_change x.call x.ended) was) y.begun (end_of x.begun x.ended)
 
--- The lines of a contradiction about a key. Two calls that overlap are described in both orders.
+-- The lines of a contradiction about a key. If its two calls overlap, the lines describe both orders of the calls.
 abbrev pub lines_of : ℕ → Presence → Option StreamCall → Option StreamCall → List ℕ
 lines_of key was (Some x) (Some y) = if overlap x.ended y.begun then lines_turned key was x y else lines_in_order key was (Some x) (Some y)
 lines_of key was first second = lines_in_order key was first second

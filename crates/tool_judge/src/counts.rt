@@ -63,8 +63,8 @@ fn maker(count: &Count, state: Presence) -> Call {
     }
 }
 
-/// Writes the calls that a contradiction by counting counts. If there are many, writes only the first and last calls,
-/// with the number of calls between them.
+/// Writes the calls of a contradiction by counting: calls that all need the key in the same state. If there are many,
+/// writes only the first and last calls, with the number of calls between them.
 fn put_calls(out: &mut String, count: &Count) -> Result<(), AllocError> {
     let (key, all) = (count.key.0, count.calls.len());
     let mut is_first = true;
@@ -100,7 +100,8 @@ fn put_calls(out: &mut String, count: &Count) -> Result<(), AllocError> {
     Ok(())
 }
 
-/// Writes how many times the key must change back between the counted calls, and the period for these changes.
+/// Writes how many times the key must change back between these calls, and between which moments (positions in the
+/// recording).
 fn put_need(out: &mut String, count: &Count) -> Result<(), AllocError> {
     let (key, state) = (count.key.0, state_word(other(count.was)));
     write!(out, "  need key {key} to become {state}")?;
@@ -117,7 +118,7 @@ fn put_need(out: &mut String, count: &Count) -> Result<(), AllocError> {
     Ok(())
 }
 
-/// Writes the period that the calls that change the key back must overlap.
+/// Writes which moments a call must overlap to change the key back.
 fn put_stretch(out: &mut String, count: &Count, is_one: bool) -> Result<(), AllocError> {
     let s = if is_one { "s" } else { "" };
     match (count.since, count.until) {
@@ -129,7 +130,7 @@ fn put_stretch(out: &mut String, count: &Count, is_one: bool) -> Result<(), Allo
     Ok(())
 }
 
-/// Writes the calls that can have changed the key back. There are too few of them.
+/// Writes the calls that can have changed the key back. A contradiction has too few of them.
 fn put_backs(out: &mut String, count: &Count) -> Result<(), AllocError> {
     let (word, key) = (call_word(maker(count, other(count.was))), count.key.0);
     let all = count.backs.len();

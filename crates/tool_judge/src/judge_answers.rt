@@ -12,8 +12,8 @@ use std::alloc::{AllocError, Global};
 use std::io::Read;
 use tool_base::{Answer, READ_SIZE, Trouble};
 
-/// The level of detail of an answer. Every answer has the verdict, the number of calls that overlap, and whether the
-/// recording was cut off.
+/// The level of detail of an answer. Every answer has the verdict. After `ok`, it states how many calls overlap a
+/// change of their key, and whether the recording was cut off.
 #[derive(Clone, Copy, PartialEq, Eq)]
 pub(crate) enum Detail {
     /// The answer also has the contradiction if one was found, and advice if few calls overlap.
@@ -85,10 +85,10 @@ fn answer_of(alloc: Global, reader: RecordingReader, detail: Detail) -> Result<A
 /// replies, whatever its final keys are. Allocates. Does not block.
 ///
 /// After `ok N calls`, the answer states how many calls overlap a change of their key. It adds advice if these are
-/// fewer than 5 of 100, and a remark if the recording was cut off. After `not linearizable`, the answer names a key with
-/// calls that no order explains, and a moment such that the calls up to it already have no order. If a contradiction was
-/// found, the answer also shows the two calls: the first leaves the key in one state, the second needs the opposite
-/// state, and no call can have changed the state in between.
+/// fewer than 5 of 100, and a remark if the recording was cut off. After `not linearizable`, the answer names a key
+/// with calls that no order explains, and a moment (a position in the recording): already the calls up to this moment
+/// have no order. If a contradiction was found, the answer also shows the two calls: the first leaves the key in one
+/// state, the second needs the opposite state, and no call can have changed the state in between.
 ///
 /// # Errors
 ///
@@ -150,7 +150,8 @@ pub fn judge_briefly<R: Read>(alloc: Global, input: &mut R) -> Result<Answer, Tr
 /// fails, there are three cases:
 /// - the answer is `ok` with status 0 if and only if the bytes are a recording, and some order explains its calls and
 ///   ends with its final keys (with any keys, if the recording was cut off);
-/// - the answer is `not linearizable` with status 1 if and only if the bytes are a recording and no order does;
+/// - the answer is `not linearizable` with status 1 if and only if the bytes are a recording, and no order explains its
+///   calls and ends with its final keys;
 /// - the result is an error with a line and a cause if and only if this is the first wrong line and its cause.
 pub fn answers_are_right()
     ensures { AnswersAreRight }

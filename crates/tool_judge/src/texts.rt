@@ -70,8 +70,8 @@ fn calls_of_key(alloc: Global, key: u32) -> Result<Vec<u8>, AllocError>
     Ok(text.into_bytes())
 }
 
-/// Returns the rest of the second line: the moment such that the calls up to it have no order, or that no order ends
-/// with the key's final state.
+/// Returns the rest of the second line. It names the moment (a position in the recording) up to which the calls already
+/// have no order. Without a moment, it states that no order ends with the key's final state.
 fn extent(alloc: Global, moment: Option<u64>) -> Result<Vec<u8>, AllocError>
     ensures { IfOk result (λ text. text.items ≡ extent moment) }
 {
@@ -117,13 +117,14 @@ fn refused_text(
     Ok(text)
 }
 
-/// Returns when a contradiction ends. Returns `None` if there is no contradiction, or if it is with the final state.
+/// Returns when the second call of a contradiction ended. Returns `None` if this call is pending, if the contradiction
+/// is with the final state, or if there is no contradiction.
 fn end_of(clash: Option<Clash>) -> Option<u64> {
     let (end, _) = clash?.second?.ended?;
     Some(end)
 }
 
-/// Returns an explanatory line if the contradiction ends later than the moment of the refusal; otherwise returns an
+/// Returns a line for a contradiction whose second call ended after the moment of the refusal. Otherwise returns an
 /// empty text.
 fn later_note(alloc: Global, refusal: Refusal, clash: Option<Clash>) -> Result<String, AllocError> {
     match (refusal.moment, end_of(clash)) {
@@ -134,8 +135,8 @@ fn later_note(alloc: Global, refusal: Refusal, clash: Option<Clash>) -> Result<S
     }
 }
 
-/// Returns the lines of `refused_text`. Appends a line if the contradiction ends later than the moment of the refusal.
-/// Allocates.
+/// Returns the lines of `refused_text`. Appends a line if the second call of the contradiction ended after the moment
+/// of the refusal. Allocates.
 pub(crate) fn refusal_text(
     alloc: Global,
     refusal: Refusal,

@@ -107,8 +107,8 @@ fn run_rounds<M: Running + Send + Sync, R: Threads + Wait + Sync>(
 
 /// Runs random programs in threads, in rounds, with a new set for each round. The answer has exit status 0.
 ///
-/// All programs of a round run at the same time on one set. The programs of round `i`, counted from 0, are drawn with
-/// the seed plus `64 * i` (wrapping). The first set opens empty, and every later set with the final keys of the
+/// All programs of a round run at the same time on one set. The programs of round `i`, counted from 0, are generated
+/// from the seed plus `64 * i` (wrapping). The first set opens empty, and every later set with the final keys of the
 /// previous round. The text has the lines `calls N`, `true N`, `false N`, `full N` and `keys N`, followed by `key k`
 /// for each final key of the last round, in increasing order. Allocates. Blocks until all threads have ended.
 pub fn run_lives<R: Threads + Wait + Sync>(
