@@ -5,15 +5,15 @@
 //! a schedule. Some runs have calls that no order explains.
 #![tactic(auto)]
 
-mod broken_fine;
-mod broken_lock_free;
-mod broken_optimistic;
-mod broken_reports;
-mod broken_runs;
-mod broken_world;
-mod chain_walk;
-mod flaws;
-mod lists;
+mod broken_fine; // the steps of broken FineLists
+mod broken_lock_free; // the steps of broken LockFreeLists
+mod broken_optimistic; // the steps of broken OptimisticLists
+mod broken_reports; // reports of schedules on broken lists
+mod broken_runs; // creates a broken list for a schedule
+mod broken_world; // a broken list during a run
+mod chain_walk; // walks along the links of nodes
+mod flaws; // the steps of all broken lists
+mod lists; // the names of the broken lists
 
 pub use broken_reports::{read_broken_schedule, report_broken};
 pub use broken_runs::broken_world_of;

@@ -7,14 +7,14 @@
 //! block.
 #![tactic(auto)]
 
-mod diagnosing;
-mod handing;
-mod host;
-mod page_arguments;
-mod page_explanations;
-mod page_pictures;
-mod page_schedules;
-mod records;
+mod diagnosing; // why a recording is refused
+mod handing; // copies results to the caller's buffer
+mod host; // reads a file by its descriptor
+mod page_arguments; // splits bytes into arguments
+mod page_explanations; // explains causes and texts
+mod page_pictures; // pictures, broken lists and examples
+mod page_schedules; // generates schedules
+mod records; // verdicts as records
 
 ghost use Rattle.tool_replay.specs.Replaying.{ReplaysText};
 ghost use Rattle.tool_replay.specs.Checking.{ChecksText};

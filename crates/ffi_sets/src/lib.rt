@@ -8,14 +8,14 @@
 //! would need a runtime, which C code does not have. The seat is then lost, and each later call from the seat returns 255.
 #![tactic(auto)]
 
-mod answers;
-mod codes;
-mod each;
-mod held;
-mod holding;
-mod loose;
-mod seat;
-mod yielding;
+mod answers; // replies and errors as numbers
+mod codes; // the numbers of errors
+mod each; // functions on a handle's value, any list
+mod held; // the value that a handle owns
+mod holding; // functions on a seat of one list
+mod loose; // a box as pointer and allocator
+mod seat; // the handle that C code keeps
+mod yielding; // pauses after failed attempts
 
 ghost use Rattle.lset_words.specs.declared.Call.TheVariants.{Add, Remove, Contains, Ceiling};
 ghost use Rattle.std.specs.Prelude.{◌≡◌, ◌<◌};

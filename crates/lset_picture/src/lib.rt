@@ -4,21 +4,21 @@
 //! is rejected, the picture has the reason. If an event in a schedule is not enabled, the picture names the event.
 #![tactic(auto)]
 
-mod beginning;
-mod columns;
-mod drawn_clashes;
-mod drawn_moments;
-mod drawn_sets;
-mod orders;
-mod picture;
-mod pictured_report;
-mod refusal;
-mod refusals;
-mod refusing;
-mod sheet;
-mod style;
-mod svg;
-mod text;
+mod beginning; // the moment at which a picture starts
+mod columns; // a column for each drawn moment
+mod drawn_clashes; // calls that contradict a rejected order
+mod drawn_moments; // moments at which something happens
+mod drawn_sets; // the sets below the rows
+mod orders; // the lines above and below the rows
+mod picture; // the content of a picture
+mod pictured_report; // the picture of a report
+mod refusal; // the reasons to reject an order
+mod refusals; // a reason as text
+mod refusing; // finds the reason
+mod sheet; // SVG elements and their positions
+mod style; // the style sheet of an SVG
+mod svg; // a picture as an SVG
+mod text; // a picture as text
 
 pub use drawn_moments::is_past_the_last;
 pub use picture::{Picture, Window};

@@ -2,26 +2,26 @@
 #![tactic(auto)]
 
 #[cfg(test)]
-mod broken;
+mod broken; // broken lists are refused
 #[cfg(test)]
-mod byte_by_byte;
+mod byte_by_byte; // inputs and outputs in single bytes
 #[cfg(test)]
-mod contradiction_counts;
+mod contradiction_counts; // contradictions found by counting
 #[cfg(test)]
-mod failing_devices;
+mod failing_devices; // readers and writers that fail
 #[cfg(test)]
-mod failures;
+mod failures; // the program with failing reads and writes
 #[cfg(test)]
-mod hand_worked;
+mod hand_worked; // cases computed by hand
 #[cfg(test)]
-mod judged_calls;
+mod judged_calls; // errors and contradictions of the judge
 #[cfg(test)]
-mod large;
+mod large; // the largest histories and recordings
 #[cfg(test)]
-mod library_sizes;
+mod library_sizes; // libraries at sizes 0 to 200
 #[cfg(test)]
-mod prelude;
+mod prelude; // imports of most tests
 #[cfg(test)]
-mod servers;
+mod servers; // servers that cannot write their output
 #[cfg(test)]
-mod test_histories;
+mod test_histories; // histories for several tests

@@ -14,40 +14,40 @@ macro_rules! at_each_list {
 }
 
 #[cfg(test)]
-mod bounded_rounds;
+mod bounded_rounds; // calls with a bound on their loops
 #[cfg(test)]
-mod buffered_sessions;
+mod buffered_sessions; // sessions with buffered answers
 #[cfg(test)]
-mod clients;
+mod clients; // clients for tests of servers
 #[cfg(test)]
-mod limits;
+mod limits; // the limit on lines of a session
 #[cfg(test)]
-mod meeting;
+mod meeting; // threads that wait for each other
 #[cfg(test)]
-mod opened;
+mod opened; // operations on sets for many tests
 #[cfg(test)]
-mod pauses;
+mod pauses; // the steps that calls report
 #[cfg(test)]
-mod prelude;
+mod prelude; // imports of most tests
 #[cfg(test)]
-mod program_sizes;
+mod program_sizes; // programs of random sizes, with models
 #[cfg(test)]
-mod programs;
+mod programs; // programs in threads, and gates
 #[cfg(test)]
-mod renewal;
+mod renewal; // sets that open with final keys
 #[cfg(test)]
-mod seats;
+mod seats; // seats, receipts and closing
 #[cfg(test)]
-mod served_sessions;
+mod served_sessions; // servers on the loopback interface
 #[cfg(test)]
-mod session_devices;
+mod session_devices; // readers and writers for sessions
 #[cfg(test)]
-mod session_faults;
+mod session_faults; // sessions with a failing device
 #[cfg(test)]
-mod session_lines;
+mod session_lines; // requests and answers of sessions
 #[cfg(test)]
-mod stepped;
+mod stepped; // lists run by their step tables
 #[cfg(test)]
-mod stopped;
+mod stopped; // calls that stop between two steps
 #[cfg(test)]
-mod typed_results;
+mod typed_results; // results other than `Reply`

@@ -2,14 +2,14 @@
 //! explained in `tool_explain`, because that needs a replay of the lines before them.
 #![tactic(auto)]
 
-mod keyed;
-mod kinds;
-mod lined;
-mod recorded;
-mod reported;
-mod spoiled;
-mod written;
-mod wrong_lines;
+mod keyed; // errors in opening keys for serve
+mod kinds; // kinds of texts
+mod lined; // a text as lines and fields
+mod recorded; // errors in recorded calls
+mod reported; // errors in reports
+mod spoiled; // errors that any text can have
+mod written; // misspelled words and wrong numbers
+mod wrong_lines; // chooses the explanation for a line
 
 pub use keyed::wrong_key;
 pub use kinds::{Place, TextKind};

@@ -4,19 +4,19 @@
 //! step table) in place of a number of steps. An example is a well-known interleaving on one of the five lists.
 #![tactic(auto)]
 
-mod check_command;
-mod draft;
-mod draft_command;
-mod draft_text;
-mod example_command;
-mod example_texts;
-mod examples;
-mod expanding;
-mod gen_command;
-mod replay_command;
-mod stepping;
-mod trace_command;
-mod version;
+mod check_command; // the command check
+mod draft; // the content of a draft
+mod draft_command; // the command draft
+mod draft_text; // reads a draft
+mod example_command; // the command example
+mod example_texts; // the texts of the examples
+mod examples; // the examples, with names and summaries
+mod expanding; // expands a draft into a schedule
+mod gen_command; // the command gen
+mod replay_command; // the command replay
+mod stepping; // steps of one thread
+mod trace_command; // the command trace
+mod version; // the lowest version for a schedule
 
 pub use check_command::{Check, tool_check};
 pub use draft::{Draft, DraftLine, MOST_ROW};
