@@ -183,7 +183,7 @@ def text_of(title, threads=1, quota=0, opening=0, lines=()):
 
 
 def tries_of(title, many):
-    """Returns a schedule with `many` events and two threads: one thread holds the lock, and the other attempts again and again
+    """Returns a schedule with `many` events and two threads. One thread holds the lock, and the other repeatedly tries
     to acquire it.
     """
     goes = [10_000] * ((many - 3) // 10_000) + [it for it in [(many - 3) % 10_000] if it]

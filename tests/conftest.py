@@ -77,8 +77,8 @@ def pytest_collection_modifyitems(config, items):
 
 
 def print_missing(items):
-    """Prints, for each missing command that some mark `needs` names, how to install the command and how many tests are
-    skipped without it.
+    """Prints how to install each missing command that a mark `needs` names, and how many tests are skipped without the
+    command.
     """
     wanted = [it for item in items for it in {word for mark in item.iter_markers("needs") for word in mark.args}]
     for it, many in collections.Counter(wanted).items():

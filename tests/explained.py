@@ -1,5 +1,6 @@
-"""Tests how mistakes are explained. A pipe gets exactly one fixed line; `explain` prints the wrong line, an explanation, and
-how to correct the line. tests/hints.py tests the lines that a terminal shows below the fixed line.
+"""Tests how mistakes are explained. If the output is a pipe, a command prints exactly one fixed line. `explain` prints
+the wrong line, an explanation, and how to correct the line. tests/hints.py tests the lines that a terminal shows below
+the fixed line.
 """
 
 import bz2
@@ -159,8 +160,8 @@ WRITTEN = re.compile(r"(?<!>)> *((?:'[^']*'|\\'|[^\s;'>)])+)")
 
 
 def files_written(program, room, file, text, size=0):
-    """Returns the files to which the commands write that explain prints for a file with this text. The file is extended to
-    `size` bytes.
+    """Returns the files that the commands in an explanation write to. `explain` reads a file with this text, extended
+    to `size` bytes.
     """
     (room / file).write_bytes(text if isinstance(text, bytes) else text.encode())
     os.truncate(room / file, max(size, (room / file).stat().st_size))
@@ -190,8 +191,8 @@ def test_a_long_schedule_is_shortened_to_whole_lines(program, room):
 
 
 def test_the_lines_that_end_a_pending_call_end_it(program, room, few):
-    """Tests random positions of two threads. Thread 1 begins a second call. The lines that the explanation adds must end its
-    first call, also if this call waits for a lock.
+    """Tests a thread that begins a second call while its first call is pending. The lines that the explanation suggests
+    must end the first call, even if this call waits for a lock.
     """
     dice, waited = random.Random(13), 0
     for _ in range(20 if few else 100):
@@ -217,8 +218,8 @@ LINES_OF_KEYS = ["listening 127.0.0.1:1", "sessions 3", "calls 9", "key 1", "key
 
 
 def test_explain_finds_the_errors_in_keys_that_serve_finds(program, room, few):
-    """Tests random texts of a server's lines, keys and wrong lines. Most have the right order, and some have no newline at
-    the end.
+    """Tests random texts with lines of a server, keys and wrong lines. In most texts the lines have the right order.
+    Some texts have no newline at the end.
     """
     dice = random.Random(11)
     for _ in range(20 if few else 200):
@@ -265,8 +266,8 @@ def test_a_shell_reads_the_name_in_a_command(program, room, name):
 
 
 def test_explain_succeeds_for_every_text(program, few):
-    """Tests parts of texts that were cut out, repeated or replaced. `explain` must succeed and name the same line as the
-    command.
+    """Tests texts with parts that were removed, repeated or replaced. `explain` must succeed and name the same line as
+    the command.
     """
     dice = random.Random(7)
     of_commands = {"replay": RIGHT, "draft": DRAFT + "begin 0 add 5\ngo 0 out\n", "check": RIGHT_REPORT, "judge": RIGHT_CALLS}

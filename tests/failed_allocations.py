@@ -5,9 +5,9 @@ has a visible effect. The program must print `out of memory` and nothing else (e
 soon as it is executed). If std can continue with less memory than it requested, the program may instead print its usual
 output. If even the error line cannot be allocated, the exit status must still be the status for this error.
 
-CALLS is the program in crates/memory_calls. It calls the functions of the libraries one by one; its input is the number of
-allocations before the first call. It fails unless each call reports a failed allocation (or that a thread could not be
-started) or returns the right result, and unless a repeated call returns the right result.
+CALLS is the program in crates/memory_calls. It calls the functions of the libraries one by one. Its input is the number
+of blocks that it allocates before the first call. Each call must either report a failed allocation (or that a thread
+could not be started) or return the right result. A call that is repeated must return the right result.
 """
 
 import functools
@@ -65,8 +65,8 @@ def ran_where(refuse, number, *words, **how):
 
 
 def answers(program, refuse):
-    """Runs CALLS again and again. In each run, a different allocation fails. Returns the names of the calls that CALLS
-    prints. Stops at the first number that is larger than the number of allocations.
+    """Runs CALLS repeatedly. In each run, a different allocation fails. Stops when the failing allocation comes after
+    all calls. Returns the names of the calls that CALLS prints.
     """
     told = []
     for number in range(1, REFUSED):
@@ -86,7 +86,7 @@ LAST = 10  # after this many consecutive runs without an effect, the program is 
 
 
 def out_of_memory_at_each(program, words, refuse):
-    """Runs a command again and again. In each run, a different allocation fails. Returns the number of runs that report a
+    """Runs a command repeatedly. In each run, a different allocation fails. Returns the number of runs that report a
     failed allocation.
     """
     how = {"cwd": TOP / "examples/schedules", "stdin": subprocess.DEVNULL}

@@ -13,7 +13,7 @@ import pytest
 from explained import ADD, CALLS, RIGHT, RIGHT_CALLS, RIGHT_REPORT, SCHEDULE
 from harness.programs import SECONDS, TOP, ran, wants, well
 
-# Arguments of the script, the error line (which a pipe gets too), and the lines that a terminal shows below it
+# Arguments of the script, the error line (also printed to a pipe), and the lines that only a terminal shows below it
 AT_TERMINAL = {
     "replay no-such": ["listset: cannot read\n", "no-such: there is no such file"],
     "judge .": ["listset: cannot read\n", ".: this is a folder"],
@@ -94,8 +94,8 @@ AT_TERMINAL = {
 
 
 def at_terminal(words, cwd, typed=None, env=None, at=(None, None)):
-    """Returns the text that a command prints at a terminal, and its exit status. `typed` is its standard input. `at` is a text,
-    and a function that is called with the output when the text has been printed.
+    """Returns the text that a command prints at a terminal, and its exit status. `typed` is its standard input. `at`
+    has a text and a function. When the text has been printed, the function is called with the output so far.
     """
     text, call = at
     ours, theirs = pty.openpty()

@@ -257,8 +257,8 @@ def test_a_correct_set_that_throws_repeatedly_is_not_refused(form, program):
 
 @each(LANGUAGES)
 def test_a_set_that_continues_after_a_hang_does_not_change_the_recording(form, program):
-    """Tests a `remove` that lasts 1.2 s, if a run counts as hung after 1 s. The judge needs one second, so the set continues
-    while the run is judged.
+    """Tests a `remove` that takes 1.2 s. A run counts as hung after 1 s. The judge takes one second, so the set
+    continues while the run is judged.
     """
     judge = form.script("judge", f"#!/bin/sh\n[ $1 = --version ] || sleep 1\n'{program}' \"$@\"\n")
     kind, said = form.told(judge, "naps", "threads=4 calls=1000 keys=4 seconds=1")

@@ -48,7 +48,7 @@ def drawn(rng, calls):
 
 
 def with_pending(rng, calls):
-    """Makes the last calls of some threads pending, and returns all calls."""
+    """Returns the calls. The last call of some threads is now pending."""
     last, share = {it.thread: it for it in calls}, rng.choice([0, 0.3, 0.9])
     pending = {it.begin for it in last.values() if rng.random() < share}
     return [it._replace(end=None, reply=None) if it.begin in pending else it for it in calls]

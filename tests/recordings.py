@@ -1,5 +1,6 @@
-"""Tests examples/recorders and examples/recordings: the recorder that docs/YOUR-SET.md shows, and a script that judges the
-keys of a recording in separate parts. For any number of parts, the verdict must be the verdict of `listset judge`.
+"""Tests the recorder in examples/recorders, which docs/YOUR-SET.md shows, and a script in examples/recordings that
+judges the keys of a recording in separate parts. For any number of parts, its verdict must be the verdict of `listset
+judge`.
 """
 
 import os

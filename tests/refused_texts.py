@@ -1,5 +1,5 @@
-"""Tests which error is named first in a text of each kind. The texts are the rows of a table, and the prefixes of a valid
-text. The program must print exactly one line about the error and exit with status 1.
+"""Tests that the program names the first error of a text, for texts of each kind. The texts come from a table, or are
+prefixes of a valid text. The program must print exactly one line about the error and exit with status 1.
 """
 
 import re

@@ -33,9 +33,9 @@ LATE = 3
 
 
 class Sharing:
-    """A client. It sends its requests in pieces of random size, byte by byte, or all of them before
-    it reads an answer. It ends with QUIT, in the middle of a line, or with random bytes. `told` contains the answers to
-    its calls on shared keys, and `own` its own keys.
+    """A client. It sends its requests in pieces of random size, byte by byte, or all of them before it reads an answer.
+    It ends with QUIT, in the middle of a line, or with random bytes. `told` contains the answers to its calls on shared
+    keys, and `own` the keys that no other client uses.
 
     On a LockFreeList, the client sends no CEILING: a ceiling that reaches a marked node restarts until another call has
     unlinked the node.

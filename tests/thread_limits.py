@@ -1,4 +1,4 @@
-"""Tests how `run` and `serve` end when fewer and fewer threads can be started.
+"""Tests how `run` and `serve` end if not all of their threads can be started.
 
 A thread's stack needs address space, so a limit on the program's address space (`ulimit -v`) refuses some or all
 threads. Under each limit, `run` must print its outcome, or that a thread or an allocation was refused. The same is required
@@ -62,8 +62,8 @@ def ended_serve(program, limit):
 
 @pytest.fixture
 def limits(program):
-    """Returns limits, in KiB, that let the program start (its loader needs address space too). They increase by half the size
-    of a stack, and by less at first.
+    """Returns limits, in KiB, under which the program can start. (Its loader needs address space too.) Successive
+    limits differ by half the size of a stack, and the first ones by less.
     """
     limits = [*range(2_000, 12_000, 128), *range(12_000, 4 * (THREADS + 2) * STACK, STACK // 2)]
     return [it for it in limits if ran(*limited(it, program, "example", "full")).returncode == 0]

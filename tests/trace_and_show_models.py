@@ -85,8 +85,8 @@ class Compared:
         assert texts <= {it.text for it in svg.iter()}, f"{' '.join(words)} of {self.text!r}"
 
     def pictures(self, picture, below=()):
-        """Compares three text pictures and two SVGs: one shows all moments, others begin at a random moment, or have the start
-        or the end of a call at their edge. Some options are absent.
+        """Compares three text pictures and two SVGs. One picture shows all moments. The others begin at a random
+        moment, or begin or end exactly at the start or end of a call. Some options are missing.
         """
         draw = random.Random(self.name)
         moments = Drawn(picture, 1, GREATEST).all or [1]
@@ -175,7 +175,8 @@ def test_pictures_of_reports_match_the_model(program, report):
 
 
 def test_traces_and_pictures_of_a_broken_list_match_the_model(program, broken):
-    """Compares the trace, and the picture of the report that `replay` prints, or the error."""
+    """Compares the trace. Also compares the picture of the report that `replay` prints, or the error if it prints none.
+    """
     name, seed = broken.split()
     text = drawn_schedule(LACKING[name][0], int(seed), name, overruns=int(seed) % 4 == 0)
     looked, report = Compared(program, broken, text, "--lacks", name), ran(program, "replay", "--lacks", name, text=text)

@@ -1,6 +1,6 @@
-"""Tests the lines that `judge` prints below a refusal. page/tests/verdicts.js checks each sentence of the same engine in Node.
-The tests here check that the program prints the same. They also check refusals that count adds and removes, with a search
-through all orders.
+"""Tests the lines that `judge` prints below a refusal. page/tests/verdicts.js checks each of these sentences in Node.
+The tests here check that the program prints the same sentences. A search through all orders also checks the refusals
+that count adds and removes.
 """
 
 import itertools
@@ -87,7 +87,7 @@ def test_an_operation_that_alone_is_wrong_is_named_with_a_cause(program, path):
 
 
 def test_a_few_contradictions_are_listed(program, path):
-    """Tests two keys. Each was added twice at the same time."""
+    """Tests two keys. Two overlapping calls added each of them."""
     calls = [Call(thread, "add", key, 10 * key + thread, 10 * key + 5 + thread, "true") for key in (3, 5) for thread in range(2)]
     path.write_text(text_of(calls, [], [3, 5]))
     said = ran(program, "judge", path).stdout
@@ -95,7 +95,7 @@ def test_a_few_contradictions_are_listed(program, path):
 
 
 def test_a_key_that_is_lost_without_a_call_is_named_and_has_a_recording(program, path):
-    """Tests key 5, which is present at first and absent at the end. No call has this key."""
+    """Tests a key that is present at first and absent at the end, although no call uses it."""
     path.write_text(text_of([Call(0, "add", 1, 1, 2, "true")], [5], [1]))
     said, alone = ran(program, "judge", path).stdout, ran(program, "judge", "--only", "5", path)
     assert "\nkey 5 was lost: key 5 is absent at the end\n" in said and "\nat least 1 contradiction: key 5 lost by the end\n" in said, said

@@ -73,8 +73,9 @@ LACKING = {
     "mark-at-key": ("lock-free", "22 | load curr.link | answers true"),
     "new-slot": ("lock-free", ""),  # (each add uses the first slot)
 }
-# On the broken list second-lock, a remove locks only pred. If its table leads to a row that is a key of this dict, the
-# remove continues at the row that is the value. It reads the key of a node first, and locks the node only to move past it.
+# The broken list second-lock: a remove locks only pred. It reads the key of a node first, and locks the node only to
+# move past it. If the intact table sends a remove to a row that is a key of this dict, the remove continues at the row
+# that is the value.
 ROWS_OF_ONE_LOCK = {3: 4, 4: 5, 5: 3, 12: 13}
 
 # The conditions in a table. The arguments are a thread, the value s that its step saw, the key word K, and the value

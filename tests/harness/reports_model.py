@@ -1,5 +1,6 @@
-"""A model of the pictures of reports, written from docs/TEXTS.md alone: the message for the first error of an order or, if
-the order has no error, the first moment that each call can take effect at. Also damages reports at random.
+"""A model of the pictures of reports, written from docs/TEXTS.md alone. If the order of a report has an error, the
+model returns the message for the first error, otherwise the first moment at which each call can take effect. Also
+damages reports at random.
 """
 
 import collections
@@ -101,8 +102,8 @@ class Sets:
 
 
 def places_of(report):
-    """Returns the entries of an order. Each is at the first moment that is neither before the start of its call nor before an
-    earlier entry.
+    """Returns the entries of an order with their moments. An entry is at the start of its call or, if the previous
+    entry is later, at the moment of the previous entry.
     """
     at = 0
     for it, reply in report.order:
