@@ -3,7 +3,7 @@ answers of a set in Python.
 
 A valid input must get the right answer within a few seconds of processor time. Beyond a limit, the documented error is
 expected. Time and memory may grow with the input: for eight times as many calls, at most 24 times as much. `--few`
-draws a tenth of the inputs.
+tests a tenth of the inputs.
 """
 
 import collections

@@ -3,7 +3,7 @@
     pytest-3                          runs all tests; -n 4 runs four in parallel
     pytest-3 tests/serve_clients.py   runs the tests of a file, or of a page in tests/transcripts; -k WORD selects tests by name
     pytest-3 --program=PROGRAM        tests this program; by default the most recently built program, proved or unproved
-    pytest-3 --few                    draws a tenth of the random inputs
+    pytest-3 --few                    tests a tenth of the random inputs
     pytest-3 --show PAGE              prints the current output of the commands on PAGE, a file in tests/transcripts, in its form
     pytest-3 --tools                  also fails a test that runs a command of build/needs.txt without a mark `needs` for it
 
@@ -109,8 +109,8 @@ NOTES = '#!/bin/sh\necho "{name}" >>"${{TOOLS_USED:-/dev/null}}"\nexec "{place}"
 
 @pytest.fixture(scope="session")
 def noting(pytestconfig, tmp_path_factory):
-    """Returns a folder for PATH if --tools is set, otherwise None. For each optional command of build/needs.txt, the folder
-    has a script that writes the command's name to the file TOOLS_USED and then runs the command.
+    """Returns a folder to add to PATH if --tools is set, otherwise None. For each optional command of build/needs.txt,
+    the folder has a script that writes the command's name to the file TOOLS_USED and then runs the command.
     """
     if not pytestconfig.option.tools:
         return None
@@ -198,5 +198,5 @@ def once(tmp_path_factory, worker_id):
 
 @pytest.fixture(scope="session")
 def few(pytestconfig):
-    """Returns whether only a tenth of the random inputs should be drawn."""
+    """Returns whether only a tenth of the random inputs should be tested."""
     return pytestconfig.option.few

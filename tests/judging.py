@@ -21,8 +21,8 @@ Call = collections.namedtuple("Call", "thread word key begin end reply")
 
 
 def drawn(rng, calls):
-    """Draws overlapping calls of threads, ordered by their start, with the opening keys and the final keys. The set
-    occasionally replies wrongly. Moments are 1, 2, 3 and so on.
+    """Returns random overlapping calls of threads, ordered by their start, and the opening keys and the final keys. The
+    set occasionally returns a wrong reply. Moments are 1, 2, 3 and so on.
     """
     opening = sorted(rng.sample(range(KEYS), rng.randrange(KEYS)))
     opened, found, pending, moment = SetModel(keys=opening), [], {}, 0
@@ -55,7 +55,7 @@ def with_pending(rng, calls):
 
 
 def spread(rng, calls, opening, keys):
-    """Spreads the calls over more keys. In some recordings, a final key is missing or superfluous."""
+    """Spreads the calls over more keys. In some recordings, a final key is missing, or an absent key is a final key."""
     names = rng.sample(range(3 * KEYS), 3 * KEYS)
     others = [it for it in names[KEYS:] if rng.random() < 0.5]
     opened, left = [names[it] for it in opening] + others, {names[it] for it in keys} | {*others}
@@ -87,8 +87,8 @@ def changes(it):
 
 
 def ways_left(calls, is_there):
-    """Returns the possible states of a key after these calls, given whether it was present before them. Tries all orders of
-    the completed calls, with each subset of the pending calls that can change the key.
+    """Returns the possible states of a key after these calls. `is_there` states whether the key was present before them.
+    Tries all orders of the completed calls, with each subset of the pending calls that can change the key.
     """
     calls = [it for it in calls if it.end or changes(it)]
     ended = {number for number, it in enumerate(calls) if it.end}

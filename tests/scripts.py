@@ -1,5 +1,5 @@
 """Tests ./listset as a user would use it: without a program, with only Node, after an edit, and with an interrupted
-command; and `build/take`. The tests use small clones with a program that adds up bytes.
+command. Also tests `build/take`. The tests use small clones with a program that adds up bytes.
 """
 
 import os

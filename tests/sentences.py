@@ -3,7 +3,7 @@ whether the sentence is true, by a search through all orders. The reports have 3
 line that no property covers fails the test. `trace` and `show` must also show the same calls as the report that `replay`
 prints. (tests/judging.py checks sentences about recordings.)
 
-The environment variable CASES is the number of cases that each test draws per seed; `--few` draws a tenth.
+The environment variable CASES is the number of random cases of each test per seed. `--few` tests a tenth of them.
 """
 
 import collections
@@ -64,8 +64,8 @@ def is_reply(word, key, reply):
 
 
 def left_by_orders(calls, opening, quota):
-    """Returns the possible final keys, over all orders that explain the calls. A pending call without effect is in no
-    order.
+    """Returns all possible sets of final keys: one for each order that explains the calls. A pending call without effect
+    is in no order.
     """
     calls = [it for it in calls if it.end or changes(it)]
     completed = {number for number, it in enumerate(calls) if it.end}
@@ -91,9 +91,9 @@ def left_by_orders(calls, opening, quota):
 
 
 def drawn_calls(rng, quota, opening):
-    """Draws overlapping calls of threads, with the end and the reply of each completed call. Returns the calls; the order of
-    their linearization points, as call numbers with the set's replies; and the final keys. Occasionally, a call returns a
-    wrong reply.
+    """Returns random overlapping calls of threads, with the end and the reply of each completed call. Also returns the
+    order of their linearization points, as call numbers with the set's replies, and the final keys. Occasionally, a
+    call returns a wrong reply.
     """
     held, calls, pending, order, moment = SetModel(quota, opening), [], {}, [], 0
     count, wrong = rng.randrange(3, 10), rng.choice([0, 0.1, 0.3])

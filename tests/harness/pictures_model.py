@@ -155,8 +155,8 @@ def with_rows_of(width, drawn):
 
 
 def fitted(picture, first, last, width=None):
-    """Returns the picture of the moments from `first` to `last`. If all moments are requested but do not fit, the picture of
-    a refused order begins at the call that the refusal names.
+    """Returns the picture of the moments from `first` to `last`. If all moments are requested but do not fit, the picture
+    of a refused order begins at the call in the refusal.
     """
     drawn = with_rows_of(width, Drawn(picture, first, last))
     begun = picture.refusal.begun if picture.refusal else None

@@ -33,7 +33,7 @@ pub record IsHanded (made : Made) (old new : List ℕ) (status count : ℕ) : Ty
 abbrev pub OfText : (List ℕ → Made → Type 0) → List ℕ → Made → Type 0
 OfText Makes text made = Makes text made × (made ≢ Err CannotRead)
 
--- The arguments in the bytes, which are separated by zero bytes. Invalid UTF-8 is replaced by U+FFFD.
+-- Returns the arguments in these bytes. Zero bytes separate the arguments. Invalid UTF-8 is replaced by U+FFFD.
 abbrev pub words_in : List ℕ → List (List ℕ)
 words_in bytes = cut_at 0 (utf8_lossy bytes)
 

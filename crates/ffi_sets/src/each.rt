@@ -1,4 +1,5 @@
-//! Functions on a `Held` (the value that a C handle owns), for any of the five lists.
+//! Functions on a `Held` (the value that a C handle owns), for any of the five lists. A `Held` can have a seat of a set
+//! (the right to call as one thread) or a receipt (the events that a seat has seen).
 ghost use Rattle.lset_words.specs.declared.Call.TheVariants.{Contains};
 ghost use Rattle.std.specs.Prelude.{◌≤◌, Some, IfNone, IfSome, IfOk, IfErr};
 ghost use Rattle.ffi_sets.specs.Sets.{Gathers};

@@ -1,4 +1,5 @@
-//! Functions on a seat of a set (the right to call as one thread), for any list `M`.
+//! Functions on a seat of a set (the right to call as one thread), for any list `M`. A receipt contains the events that
+//! a seat has seen.
 ghost use Rattle.std.specs.Prelude.{◌≡◌, ◌↔◌, ◌+◌, ◌≤◌, [], Some, IfNone, IfSome, IsTrue, length, vec_capacity};
 ghost use Rattle.std.specs.Arc.{arc_value};
 ghost use Rattle.lset_words.specs.declared.Call.TheVariants.{Contains};

@@ -22,9 +22,9 @@ use std::time::Clock;
 use tool_base::{Answer, FAULTS, Trouble, deliver, put};
 use tool_explain::{explain_input, explain_unopened};
 
-/// Ends the program after `words_given` refused the command line, and returns the exit status. If the user asked for
-/// the help or the version, writes it to `output` with status 0, or status 1 if it cannot be written completely. If an
-/// allocation failed, writes that to `stderr` with status 3. Otherwise writes the mistake to `stderr` with status 2.
+/// Handles a command line that `words_given` refused, and returns the exit status. If the user asked for the help or
+/// the version, writes it to `output` with status 0, or status 1 if it cannot be written completely. If an allocation
+/// failed, writes that to `stderr` with status 3. Otherwise writes the mistake to `stderr` with status 2.
 fn decline<W: Write, E: Write>(alloc: Global, error: &Error, output: &mut W, stderr: &mut E) -> u8
     ensures { Declines (kind_of error.now)
         (W.contents output.old) (W.contents output.new) (E.contents stderr.old) (E.contents stderr.new) result }

@@ -22,7 +22,7 @@ fn record_of(history: &History, call: u32) -> Option<CallRecord> {
     history.calls().get(call as usize).copied()
 }
 
-/// Returns the sequential set after the calls of these entries were made in turn.
+/// Returns the sequential set after the calls of these entries were made one after another.
 fn set_after(alloc: Global, history: &History, places: &[Placed]) -> Result<Oracle, AllocError>
     ensures { IfOk result (λ o. o.threads ≡ history.now.opening.threads) }
 {

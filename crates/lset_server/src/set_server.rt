@@ -1,4 +1,5 @@
-//! Serves a running set to the connections that a listener accepts.
+//! Serves a running set to the connections that a listener accepts. A seat is the right to call the set as one thread.
+//! Seats can be merged into one seat.
 ghost use Rattle.std.specs.Prelude.{◌≡◌, ◌≢◌, ◌<◌, ◌≤◌, ◌↔◌, ◌++◌, [], All, None, Some, length, map, sum_by};
 ghost use Rattle.std.specs.Prelude.{IfErr, IfOk, IfSome, IsOk, OnOk};
 ghost use Rattle.std.specs.Option.{option_map};

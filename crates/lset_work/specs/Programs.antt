@@ -1,4 +1,5 @@
--- Programs of calls, and the results of running them in threads.
+-- Programs of calls, and the results of running them in threads. Each program runs on a seat: the right to call the set
+-- as one thread.
 use Rattle.std.specs.Prelude.{◌≡◌, ℕ, Bool, true, List, [], ◌∷◌, length, map, sum_by, Option, Some, None, IfSome, All}
 use Rattle.std.specs.Option.{option_map}
 use Rattle.lset_words.specs.declared.Call.{Call}

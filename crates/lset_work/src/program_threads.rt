@@ -12,15 +12,15 @@ use std::snapshot::Snapshot;
 use std::sync::Wait;
 use std::thread::{Promise, PromisedHandle, Scope, Threads};
 
-/// The result of a thread: its seat, and the replies to the calls of its program, or `None` if the gate has stopped the
-/// program.
+/// The result of a thread: its seat (the right to call as one thread), and the replies to the calls of its program, or
+/// `None` if the gate has stopped the program.
 #[derive(Drop)]
 pub(crate) struct Done<M: Running> {
     pub seat: Seat<M>,
     pub replies: Option<Vec<Reply>>,
 }
 
-/// The promise of a thread, in contracts: it makes the calls of its program on its seat, unless the gate stops the
+/// What a thread promises in contracts: it makes the calls of its program on its seat, unless the gate stops the
 /// program.
 #[derive(Drop)]
 pub(crate) struct WorkerPromise<M: Running, G: Gate> {

@@ -21,8 +21,8 @@ pub enum WorkCause {
     Memory,
 }
 
-/// The error of `work`. After `Programs` and `Memory`, no thread was started, and `back` contains the set and the
-/// seats, unchanged. After the other causes, `back` is `None`.
+/// The error of `work`. After `Programs` and `Memory`, no thread was started, and `back` contains the set and the seats
+/// (a seat is the right to call as one thread), unchanged. After the other causes, `back` is `None`.
 #[derive(Drop, Error)]
 #[error("{cause}")]
 pub struct WorkFault<M: Running> {

@@ -120,7 +120,7 @@ fn pass_receipts<M: Running>(
     Ok(())
 }
 
-/// Serves a session. Its lines are in memory. Every kind of answer except `FULL` occurs.
+/// Serves a session with lines from memory. Every kind of answer except `FULL` occurs.
 fn answer_session<M: Running, R: Wait>(
     rt: &R,
     alloc: Global,

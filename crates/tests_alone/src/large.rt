@@ -21,7 +21,7 @@ fn true_calls<F: Fn(u32) -> Call>(
     Ok(calls)
 }
 
-/// Judges calls that do not overlap. Each call finds another key of a set with the maximum number of opening keys.
+/// Judges calls that do not overlap. Each call finds a different key of a set with the maximum number of opening keys.
 #[test]
 fn a_million_calls_are_judged(rt: HostRuntime) -> Result<(), Fail> {
     let alloc = rt.alloc();

@@ -119,7 +119,7 @@ fn has_oracle<R: Abort>(rt: &R, alloc: Global, size: u32) -> Result<(), Fail> {
     Ok(())
 }
 
-/// Returns a history of `size` adds that do not overlap, each of another key.
+/// Returns a history of `size` adds that do not overlap, each of a different key.
 fn adds(alloc: Global, size: u32) -> Result<History, Fail> {
     let mut calls = Vec::new(alloc);
     for key in 0..size {
@@ -129,7 +129,8 @@ fn adds(alloc: Global, size: u32) -> Result<History, Fail> {
     Ok(in_turn(history, &calls)?)
 }
 
-/// Judges a history of `size` adds. The history must be linearizable with these final keys, but not with no final keys.
+/// Judges a history of `size` adds. The history must be linearizable with these final keys, and not linearizable
+/// without final keys.
 fn is_judged<R: Abort>(rt: &R, alloc: Global, size: u32) -> Result<(), Fail> {
     let history = adds(alloc, size)?;
     let judged = judge(alloc, &history, &increasing_keys(alloc, size)?)?;

@@ -89,7 +89,7 @@ fn after_digits(text: &str) -> (&str, usize) {
     (rest, text.len().saturating_sub(rest.len()))
 }
 
-/// Returns `true` if the bytes are a prefix of the first line followed by `after`.
+/// Returns `true` if the bytes are a prefix of the whole output: the first line, then `after`.
 fn is_front(bytes: &[u8], after: &str) -> Option<bool> {
     let text = std::str::from_utf8(bytes).ok()?;
     let Some(named) = text.strip_prefix(LISTENING) else {
@@ -102,7 +102,7 @@ fn is_front(bytes: &[u8], after: &str) -> Option<bool> {
     }
 }
 
-/// Returns `true` if the bytes are exactly the first line followed by `after`.
+/// Returns `true` if the bytes are the whole output: the first line, then `after`.
 fn is_whole(bytes: &[u8], after: &str) -> Option<bool> {
     let ends = bytes.ends_with(after.as_bytes());
     Some(ends && is_front(bytes, after)?)
@@ -161,7 +161,7 @@ fn each_call_fails<R: Host>(rt: &R, alloc: Global, way: Way) -> Result<usize, Fa
     Err(Fail::new("no run ends without a failure"))
 }
 
-/// The server must accept no client unless the first line was written and flushed completely.
+/// The server must not accept a client before the first line has been written and flushed completely.
 #[test]
 fn a_server_accepts_no_client_before_its_first_line_is_written(
     rt: HostRuntime,

@@ -38,7 +38,7 @@ impl<'a> Lines<'a> {
         self.lines.len()
     }
 
-    /// Returns line `number`, counted from 1, without its newline. Returns no bytes if the text has fewer lines.
+    /// Returns line `number`, counted from 1, without its newline. Returns an empty slice if the text has fewer lines.
     pub fn line(&self, number: usize) -> &'a [u8] {
         match self.lines.get(number.saturating_sub(1)) {
             Some(line) => *line,
@@ -79,7 +79,7 @@ pub fn field(line: &[u8], index: usize) -> Option<&[u8]> {
     }
 }
 
-/// Returns field `index` (from 0) of a line. Returns no bytes if the line has fewer fields.
+/// Returns field `index` (from 0) of a line. Returns an empty slice if the line has fewer fields.
 pub fn field_or_empty(line: &[u8], index: usize) -> &[u8] {
     field(line, index).unwrap_or(b"")
 }

@@ -67,7 +67,7 @@ fn without_indent(line: &[u8]) -> &[u8] {
     b""
 }
 
-/// Returns `true` if a title of listset is in line 2, or in line 1 after spaces or tabs.
+/// Returns `true` if line 2 begins with a title of listset, or if line 1 has one after spaces or tabs.
 fn has_spoiled_title(lines: &Lines<'_>) -> bool {
     let (first, second) = (without_indent(lines.line(1)), lines.line(2));
     first.starts_with(b"listset-") || second.starts_with(b"listset-")

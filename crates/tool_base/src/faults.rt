@@ -161,7 +161,7 @@ fn from_name(line: &[u8]) -> &[u8] {
     line.strip_prefix(b"line 1: ").unwrap_or(line)
 }
 
-/// Returns `name` as a line of `FAULTS` spells it, if the line (without its prefix) starts with `name` in either case.
+/// Returns `name` as a line of `FAULTS` spells it, if the line (without its prefix) starts with `name`, ignoring case.
 /// Otherwise returns `None`.
 fn name_of_line<'a>(line: &'a [u8], name: &[u8]) -> Option<&'a [u8]> {
     let line = from_name(line);
@@ -205,7 +205,7 @@ fn parts() -> &'static [u8] {
     rest
 }
 
-/// Reads the argument of `faults`: the name of a cause, message or section (in either case), or a whole error line.
+/// Reads the argument of `faults`: the name of a cause, message or section (ignoring case), or a whole error line.
 /// Returns `ValueName::Cause` if no section title and no entry of `FAULTS` starts with that name.
 pub fn read_fault_name(word: &[u8]) -> Result<FaultName, ValueName> {
     let word = name_in(word);

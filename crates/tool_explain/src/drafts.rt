@@ -7,7 +7,7 @@ use text_errors::{Lines, Place, TextKind, field_or_empty, number_at};
 use tool_base::{Tool, answer_text};
 use tool_replay::{Expand, Trace};
 
-/// Returns a draft of the lines from line 2 up to the error and, after them, `ending`.
+/// Returns a draft that has the lines from line 2 up to the error, followed by `ending`.
 fn draft_up_to(
     alloc: Global,
     lines: &Lines<'_>,
@@ -59,8 +59,8 @@ pub(crate) fn steps_out(
     Ok(number_at(made.line(made.count()), 2))
 }
 
-/// Returns the trace of the lines before the error and of 10,000 steps of the thread after them. Returns `None` if the call of
-/// the thread ends within these steps.
+/// Returns the trace of the lines before the error, followed by 10,000 steps of the thread. Returns `None` if the call
+/// of the thread ends within these steps.
 fn trace_up_to(
     alloc: Global,
     lines: &Lines<'_>,

@@ -201,8 +201,8 @@ fn final_text(alloc: Global, key: u32, need: Presence) -> Result<Vec<u8>, AllocE
     }
 }
 
-/// Returns line 1 of 3: the first call and the key's presence after it. If `first` is `None`, returns the
-/// key's state at the start.
+/// Returns line 1 of 3: the first call, and whether it leaves the key present or absent. If `first` is `None`, the line
+/// has the key's state at the start instead.
 fn first_line(
     alloc: Global,
     key: u32,
@@ -222,8 +222,8 @@ fn first_line(
     }
 }
 
-/// Returns line 2 of 3: the second call and the presence of the key that it needs. If `second` is `None`, returns the
-/// key's state at the end.
+/// Returns line 2 of 3: the second call, and whether it needs the key present or absent. If `second` is `None`, the
+/// line has the key's state at the end instead.
 fn second_line(
     alloc: Global,
     key: u32,
@@ -349,7 +349,7 @@ fn needs_key(alloc: Global, key: u32) -> Result<Vec<u8>, AllocError>
     Ok(text.into_bytes())
 }
 
-/// Returns the words for the state that a call needs and the state that the call leaves.
+/// Returns the words for the state of the key that a call needs, and for the state that it leaves.
 #[tactic(auto, unfolding(crate::specs::Clashes::needs_and_leaves))]
 fn needs_and_leaves(
     alloc: Global,

@@ -74,7 +74,7 @@ fn lines_on<M: Machine>(alloc: Global, draft: &Draft) -> Result<Vec<Line>, Troub
     Ok(lines)
 }
 
-/// The expansion of a draft's lines, as a task that `on_list` runs on the list of the draft's kind.
+/// A task that expands the lines of a draft. `on_list` runs it on the list of the draft's kind.
 #[derive(Clone, Copy)]
 struct Expanding<'a> {
     alloc: Global,

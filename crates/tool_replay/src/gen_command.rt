@@ -13,7 +13,7 @@ use std::alloc::Global;
 use std::io::Write;
 use tool_base::{Answer, RandomRequest, Trouble, deliver, read_random_request};
 
-/// The generation of a random schedule, as a task that `on_list` runs on the list of the requested kind.
+/// A task that generates a random schedule. `on_list` runs it on the list of the requested kind.
 #[derive(Clone, Copy)]
 struct Generating {
     alloc: Global,

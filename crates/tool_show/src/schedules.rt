@@ -6,7 +6,7 @@ use lset_replay::{RunCalls, calls_of, world_of};
 use lset_schedule::Schedule;
 use std::alloc::{AllocError, Global};
 
-/// A run of a schedule, as a task that `on_list` runs on the list of the schedule's kind.
+/// A task that runs a schedule. `on_list` runs it on the list of the schedule's kind.
 #[derive(Clone, Copy)]
 struct Running<'a> {
     alloc: Global,

@@ -12,7 +12,7 @@ pub(crate) fn put_keys(out: &mut String, keys: &[u32]) -> Result<(), AllocError>
     Ok(())
 }
 
-/// The lines of an input that were not read yet, and the number of the first such line.
+/// The lines of an input that have not been read yet, and the number of the first of them.
 #[derive(Clone, Copy)]
 struct Remaining<'a> {
     line: u64,
