@@ -87,8 +87,8 @@ def changes(it):
 
 
 def ways_left(calls, is_there):
-    """Returns the possible states of a key after these calls. `is_there` states whether the key was present before them.
-    Tries all orders of the completed calls, with each subset of the pending calls that can change the key.
+    """Returns the possible states of a key after these calls. `is_there` states whether the key was present before
+    them. Tries all orders of the completed calls, with each subset of the pending calls that can change the key.
     """
     calls = [it for it in calls if it.end or changes(it)]
     ended = {number for number, it in enumerate(calls) if it.end}

@@ -64,8 +64,8 @@ def is_reply(word, key, reply):
 
 
 def left_by_orders(calls, opening, quota):
-    """Returns all possible sets of final keys: one for each order that explains the calls. A pending call without effect
-    is in no order.
+    """Returns all possible sets of final keys: one for each order that explains the calls. A pending call without
+    effect is in no order.
     """
     calls = [it for it in calls if it.end or changes(it)]
     completed = {number for number, it in enumerate(calls) if it.end}

@@ -1,4 +1,5 @@
-"""Tests how `listset serve` answers clients, at the same time and one after another.
+"""Tests how `listset serve` answers clients, at the same time and one after another. A server has seats, and each seat
+serves one client at a time.
 
 Only the loopback is used. All waits are bounded, and a server that does not end is killed by its process id.
 """
@@ -95,8 +96,8 @@ class Sharing:
 
 @pytest.mark.parametrize("kind", KINDS)
 def test_clients_at_once_receive_right_answers(program, kind):
-    """Tests that all answers about a client's own keys are right, and that the answers about shared keys agree with the final
-    keys that the server prints. All clients have a seat at the same time: each waits until all have received an answer.
+    """Tests clients that are served at the same time: each waits until all have received an answer. The answers about a
+    client's own keys must be right. The answers about shared keys must agree with the final keys of the server.
     """
     with serving(program, kind, SEATS, ROOM, CLIENTS + 1) as server, server.connect() as idle:
         all_are_served = threading.Barrier(CLIENTS)

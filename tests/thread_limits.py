@@ -22,7 +22,7 @@ REFUSALS = {
 
 
 def limited(limit, *words, of="-v"):
-    """Returns a command that runs the command `words` with a limit: on its address space in KiB, or on its open files."""
+    """Returns a command that runs the command `words` with a limit on its address space (in KiB) or its open files."""
     return ["sh", "-c", f'ulimit -s {STACK} && ulimit {of} "$0" && exec "$@"', str(limit), *map(str, words)]
 
 

@@ -69,8 +69,8 @@ def test_a_message_has_at_most_fifteen_lines_and_its_count_is_true(program, path
 
 
 def mark_not_read(rounds):
-    """Returns a recording of a set with a bug in `contains`: during a `remove`, `contains` still finds the key, although a
-    second `remove` has already found the key absent.
+    """Returns a recording of a set with a bug in `contains`: during a `remove`, `contains` still finds the key, even if
+    a second `remove` has already found the key absent.
     """
     made = [("add", 1, 2, 0, "true"), ("remove", 3, 8, 1, "true"), ("remove", 4, 5, 0, "false"), ("contains", 6, 7, 0, "true")]
     calls = [Call(thread, word, 3, moment + begin, moment + end, reply) for moment in range(0, 8 * rounds, 8) for word, begin, end, thread, reply in made]
@@ -275,7 +275,7 @@ def test_brief_prints_only_the_verdict(program, path):
 
 
 def test_a_long_recording_is_explained_by_its_first_calls(program, path):
-    """Tests a recording of more than a million calls. The message must state that it is only about the first million."""
+    """Tests a recording of more than a million calls. The message must state that it covers only the first million."""
     lines = (f"call 0 contains {number % 4} {2 * number + 1} {2 * number + 2} {'true' if number == 9 else 'false'}\n" for number in range(1_100_000))
     with path.open("w") as file:
         file.writelines(itertools.chain(["listset-calls 1\n"], lines, ["end\n"]))

@@ -1,6 +1,7 @@
-"""A model of the text picture that `show` prints, written from docs/TEXTS.md alone. A picture has a column for each moment,
-a row for each thread with the starts, ends and linearization points of its calls, the set after each change, and the order of
-the calls below these rows. A Picture shows a run (traces_model) or a report (reports_model).
+"""A model of the text picture that `show` prints, written from docs/TEXTS.md alone. A picture has a column for each
+moment (position in the history), a row for each thread with the starts, ends and linearization points of its calls, the
+set after each change, and the order of the calls below these rows. A Picture shows a run (traces_model) or a report
+(reports_model).
 """
 
 import collections
@@ -155,8 +156,8 @@ def with_rows_of(width, drawn):
 
 
 def fitted(picture, first, last, width=None):
-    """Returns the picture of the moments from `first` to `last`. If all moments are requested but do not fit, the picture
-    of a refused order begins at the call in the refusal.
+    """Returns the picture of the moments from `first` to `last`. If all moments are requested but do not fit, the
+    picture of a refused order begins at the call in the refusal.
     """
     drawn = with_rows_of(width, Drawn(picture, first, last))
     begun = picture.refusal.begun if picture.refusal else None

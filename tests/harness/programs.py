@@ -56,7 +56,7 @@ def wants(run, status=0, output=None, tells=(), no=()):
 
 
 def comes(condition, what):
-    """Waits until a condition is true."""
+    """Waits until a condition is true, at most SECONDS."""
     end = time.monotonic() + SECONDS
     while not condition():
         assert time.monotonic() < end, f"{what} does not come"

@@ -1,4 +1,4 @@
-//! Reads a schedule for a broken list, runs it, and returns a report of the run.
+//! Reads a schedule for a broken list (a list without one of its checks), runs it, and returns a report of the run.
 ghost use Rattle.std.specs.Prelude.{◌≡◌, IfOk};
 ghost use Rattle.lset_words.specs.Words.{Opens};
 ghost use Rattle.lset_text.specs.declared.words.Version.TheVariants.{Two};

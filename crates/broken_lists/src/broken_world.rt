@@ -10,7 +10,7 @@ use lset_text::Cause;
 use lset_words::{Call, Layout, MOST_NODES, MOST_QUOTA, MOST_THREADS};
 use std::alloc::{AllocError, Global};
 
-/// A broken list during a run: its shared words and the local state of each thread.
+/// A broken list (a list without one of its checks) during a run: its shared words and the local state of each thread.
 #[derive(Drop)]
 pub struct BrokenWorld {
     alloc: Global,

@@ -1,5 +1,5 @@
-//! Walks along the links of a broken list from the head. The words can have any values, because a broken list can lose
-//! its nodes.
+//! Walks along the links of a broken list (a list without one of its checks) from the head. The words can have any
+//! values, because a broken list can lose its nodes.
 
 ghost use Rattle.std.specs.Prelude.{◌<◌, ◌^◌, IsTrue};
 

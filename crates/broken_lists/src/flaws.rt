@@ -1,5 +1,5 @@
-//! Implements the steps of the broken lists. In each `match`, the flaw is in the arm that does not call the function of
-//! the intact list.
+//! Implements the steps of the broken lists (lists without one of their checks). In each `match`, the flaw is in the
+//! arm that does not call the function of the intact list.
 //!
 //! Steps are defined for every thread state with small numbers (`IsSmall`), even if no run leads to this state. `seen`
 //! is the value that a load read, a store wrote, or a compare-and-exchange found.

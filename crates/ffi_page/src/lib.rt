@@ -113,9 +113,10 @@ pub extern "C" fn listset_why(alloc: Global, text: &[u8], room: &mut [u8], statu
 
 /// Diagnoses a refused recording and writes a record, with status 1. The record has these lines, in this order:
 /// - `headline TEXT`;
-/// - `call THREAD OPERATION KEY BEGIN END REPLY MARK` for each call to show, ordered by start; MARK is `-`, `expected BOOL`,
-///   `leaves STATE`, `finds STATE` or `either`, and STATE is `present` or `absent`;
-/// - `also THREAD OPERATION KEY BEGIN END REPLY` for each change of another key at the same time (of many, the longest);
+/// - `call THREAD OPERATION KEY BEGIN END REPLY MARK` for each call to show, ordered by start; MARK is `-`,
+///   `expected BOOL`, `leaves STATE`, `finds STATE` or `either`, and STATE is `present` or `absent`;
+/// - `also THREAD OPERATION KEY BEGIN END REPLY` for each change of another key at the same time (of many, the
+///   longest);
 /// - `fact TEXT` for each fact;
 /// - `likely TEXT` and `because TEXT`, if there is a likely cause.
 ///
@@ -257,13 +258,13 @@ pub extern "C" fn listset_show_svg(
     hand(draw_text(alloc, text, true, options), room, status)
 }
 
-/// Runs a schedule on the broken list with this name, as `--lacks NAME` does, and writes the command's text.
-/// `words` contains the command (`replay`, `trace`, `trace_with_chains`, `show` or `show_svg`) and the options of
-/// `listset_show`, separated by zero bytes. Only `show` and `show_svg` check the report's order. If the order is
-/// refused, the last lines of `show` state whether another order explains the report.
+/// Runs a schedule on the broken list (a list without one of its checks) with this name, as `--lacks NAME` does, and
+/// writes the command's text. `words` contains the command (`replay`, `trace`, `trace_with_chains`, `show` or
+/// `show_svg`) and the options of `listset_show`, separated by zero bytes. Only `show` and `show_svg` check the
+/// report's order. If the order is refused, the last lines of `show` state whether another order explains the report.
 ///
-/// The errors are the errors of the command on the intact list; `listset: bad NAME: ..` with status 2 if no broken list has
-/// this name; and `Kind` in line 2 if the schedule names another list.
+/// The errors are the errors of the command on the intact list; `listset: bad NAME: ..` with status 2 if no broken list
+/// has this name; and `Kind` in line 2 if the schedule names another list.
 #[unsafe(no_mangle)]
 pub extern "C" fn listset_lacking(
     alloc: Global,

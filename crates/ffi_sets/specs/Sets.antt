@@ -1,5 +1,5 @@
--- The parts of the value that a C handle owns: its list, its set, the number of the set, and its seats, its receipt or
--- its keys.
+-- The parts of the value that a C handle owns: its list, its set, the number of the set, and its seats (rights to call
+-- the set as one thread), its receipt (the events that a seat has seen) or its keys.
 use Rattle.std.specs.Prelude.{Bool, true, ◌≡◌, ◌+◌, ℕ, List, [], Option, Some, None, length}
 use Rattle.std.specs.Arc.{arc_value}
 use Rattle.lset_steps.specs.Steps.{Table}

@@ -1,4 +1,5 @@
-//! Makes calls for C, and converts replies and errors to the numbers that C functions return.
+//! Makes calls for C from seats (a seat is the right to call a set as one thread), and converts replies and errors to
+//! the numbers that C functions return.
 ghost use Rattle.std.specs.Prelude.{◌≡◌, true, false};
 ghost use Rattle.ffi_sets.specs.Calls.{HasMade, code_of};
 

@@ -1,4 +1,5 @@
-//! The numbers that the C functions return. `listset.h` has constants for them.
+//! The numbers that the C functions return. `listset.h` has constants for them. A seat is the right to call a set as
+//! one thread. A receipt contains the events that a seat has seen.
 
 /// The function succeeded.
 pub const DONE: u8 = 0;

@@ -44,8 +44,8 @@ fn decline<W: Write, E: Write>(alloc: Global, error: &Error, output: &mut W, std
     }
 }
 
-/// Returns the help for the option `--lacks`: the names of the broken lists, each with the kind of list that it was
-/// made from.
+/// Returns the help for the option `--lacks`: the names of the broken lists (lists without one of their checks), each
+/// with the kind of list that it was made from.
 fn lacks_help(alloc: Global) -> Result<String, AllocError> {
     let mut help = String::from_str(alloc, "Run a broken list, with one check removed")?;
     for (number, broken) in ALL.iter().enumerate() {

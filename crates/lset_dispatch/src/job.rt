@@ -39,7 +39,8 @@ pub(crate) enum Job {
     Explain,
 }
 
-/// Returns the broken list that the option `--lacks` names; `None` if the option is missing.
+/// Returns the broken list (a list without one of its checks) that the option `--lacks` names; `None` if the option is
+/// missing.
 fn find_broken(lacks: &Option<String>) -> Result<Option<BrokenList>, ValueName> {
     match lacks {
         None => Ok(None),

@@ -22,7 +22,7 @@ use tool_replay::{
 };
 use tool_threads::{run_lives, serve_set, serve_set_of};
 
-/// Replays the schedule in the input, on a broken list if `broken` names one.
+/// Replays the schedule in the input, on a broken list (a list without one of its checks) if `broken` names one.
 fn replay<R: Read, W: Write, E: Write>(
     alloc: Global,
     broken: Option<BrokenList>,

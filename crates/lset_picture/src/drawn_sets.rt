@@ -1,4 +1,4 @@
-//! Computes the sets that are printed below a picture, and writes sets as text.
+//! Computes the sets that are printed below a picture, and writes sets as text. A moment is a position in the history.
 use crate::MOST_KEYS_SHOWN;
 use crate::picture::{Picture, Standing, standing_at};
 use lset_words::Call;

@@ -1,4 +1,4 @@
--- [Served]: the calls of a server that has ended.
+-- [Served]: the calls of a server that has ended. The server calls from seats: rights to call the set as one thread.
 use Rattle.std.specs.Prelude.{◌≡◌, ℕ, List, [], ◌∷◌, length, sum_by, Option, None}
 use Rattle.lset_words.specs.Records.{Record, CallMade, with_calls}
 use Rattle.lset_live.specs.Explained.{IsOneLegalOrder}

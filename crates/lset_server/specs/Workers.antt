@@ -1,4 +1,5 @@
--- The results of the worker threads of a server.
+-- The results of the worker threads of a server. Each worker calls from its own seat: the right to call the set as one
+-- thread.
 use Rattle.std.specs.Prelude.{◌≡◌, ℕ, ◌+◌, List, [], ◌++◌, length, sum_by, Option, None}
 use Rattle.lset_words.specs.Records.{Record, CallMade, with_calls}
 use Rattle.lset_live.specs.Seats.{SeatValue, gather_onto}

@@ -19,7 +19,7 @@ Wrote why.WriteFault w w' talk = CutAnswers w w' talk
 Wrote end w w' talk = Appends w w' (answers_in talk)
 
 -- Returns the reason that the bytes read so far give for the end of a session. The bytes do not show that a read
--- failed, so that the result for `ReadFault` is `End`. The result for any other reason is the reason itself.
+-- failed. Therefore the result for `ReadFault` is `End`. The result for any other reason is the reason itself.
 abbrev pub text_end : EndReason → EndReason
 text_end why.ReadFault = why.End
 text_end end = end

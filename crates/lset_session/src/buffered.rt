@@ -152,8 +152,7 @@ pub fn buffered_session<R: Wait, I: Source + Drop, O: Sink + Drop, S: SetCalls>(
 ) -> Ended
     requires seat { S.is_of set.now seat.old }
     requires works { (I.has_failed reader ≡ false) × (O.has_failed writer ≡ false) }
-    // [Session] is true of the bytes that were read and the calls that were made. Nothing is stated about the written
-    // bytes.
+    // [Session] is true of the bytes read and the calls made. No contract covers the bytes written.
     ensures session { (end : Ending) × (left : Option (List ℕ)) × (result.why ≢ EndReason.WriteFault → result.why ≡ end)
         × IsSession end result.calls (I.remaining reader) left (S.record_of seat.old) (S.record_of seat.new) None None }
     ensures few { result.calls ≤ MOST_LINES }

@@ -232,8 +232,7 @@ pub fn session<R: Wait, I: Source, O: Sink, S: SetCalls>(
 ) -> Ended
     requires seat { S.is_of set.now seat.old }
     requires works { (I.has_failed reader.old ≡ false) × (O.has_failed writer.old ≡ false) }
-    // [Session]: the calls that were made and the bytes that were written are exactly the calls and answers that the
-    // input demands.
+    // [Session]: the session has made exactly the calls, and written exactly the answers, that its input demands.
     ensures session { IsSession result.why result.calls (I.remaining reader.old) (I.remaining reader.new)
         (S.record_of seat.old) (S.record_of seat.new) (O.written writer.old) (O.written writer.new) }
     // The session ends with `ReadFault` if and only if the reader has failed, and with `WriteFault` if and only if the

@@ -5,7 +5,7 @@ pub trait Gate {
     /// States whether this gate can return false, that is, can stop a program.
     ghost may_shut: { Self → Bool } = { λ _. true };
 
-    /// Returns whether to make call number `call` (from 0) of the program that runs on the seat of thread `seat`.
+    /// Returns whether to make call number `call` (from 0) of the program of thread `seat`.
     fn pass(&self, seat: u32, call: u32) -> bool
         ensures { may_shut self.now ≡ false → IsTrue result };
 }

@@ -113,8 +113,8 @@ pub fn work<R: Threads + Wait + Sync, M: Running + Send + Sync, G: Gate + Sync>(
     ensures outcome { IfOk result (λ o. IsOneLegalOrder set.shape (worked
         (map (λ s. s.past) seats.items) (map (λ p. p.items) programs.items) (map (λ v. v.items) o.replies.items)) o.keys.items) }
     // The legal order of all calls also linearizes a history that begins with the events that the seats had seen. Calls
-    // that had ended in these events precede calls that began later. (A seat can know of such an end from a receipt,
-    // which contains the events that another seat had seen.)
+    // that had ended in these events precede calls that began later. (A seat can learn from a receipt that a call has
+    // ended: a receipt contains the events that another seat had seen.)
     ensures in_time { IfOk result (λ o. IsWorkInTime M.table set.shape seats.items (worked
         (map (λ s. s.past) seats.items) (map (λ p. p.items) programs.items) (map (λ v. v.items) o.replies.items)) o.keys.items) }
     // The cause is `Programs` if and only if the numbers of programs, seats and threads of the set do not match.

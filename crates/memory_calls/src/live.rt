@@ -1,4 +1,5 @@
-//! Makes all calls of sets in threads, from opening a set to reading its final keys, on each of the five lists.
+//! Makes all calls of sets in threads, from opening a set to reading its final keys, on each of the five lists. A seat
+//! is the right to call a set as one thread.
 
 use crate::prelude::*;
 use lset_coarse::CoarseList;

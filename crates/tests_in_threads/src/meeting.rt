@@ -90,7 +90,7 @@ impl<'a, R: Clock> Meeting<'a, R> {
     }
 }
 
-/// Makes each seat wait before its second call until all seats have arrived.
+/// Makes each thread wait before its second call until all threads have arrived.
 impl<'a, R: Clock> Gate for Meeting<'a, R> {
     fn pass(&self, seat: u32, call: u32) -> bool {
         call != 1 || self.come(seat)

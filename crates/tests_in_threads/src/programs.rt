@@ -1,4 +1,5 @@
-//! Tests of programs in threads, and of the gates that can stop a program before a call.
+//! Tests of programs in threads, and of the gates that can stop a program before a call. Each program runs on a seat:
+//! the right to call as one thread.
 
 use crate::meeting::Meeting;
 use crate::opened::{last_of, make_calls, two_seats};

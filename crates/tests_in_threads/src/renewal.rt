@@ -1,5 +1,5 @@
-//! Tests of sets that open with the final keys of a closed set. The new set has a different number of seats, a
-//! different quota or a different kind of list.
+//! Tests of sets that open with the final keys of a closed set. The new set has a different number of seats (rights to
+//! call as one thread), a different quota or a different kind of list.
 
 use crate::opened::{close_with, gathered, increasing_keys, keys_left, last_of, make_calls};
 use crate::prelude::*;

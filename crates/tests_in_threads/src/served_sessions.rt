@@ -1,4 +1,5 @@
-//! Tests of servers on the loopback interface.
+//! Tests of servers on the loopback interface. A server has one worker for each seat (a right to call the set as one
+//! thread).
 
 use crate::clients::{all_meet, asks, leaves, meets};
 use crate::opened::last_of;

@@ -1,5 +1,6 @@
-//! Tests of two calls at the same time. One call stops between two of its steps until the other call has ended or
-//! waits. Each case runs twice: with the loops of the list, and with the interpreter of its step table.
+//! Tests of two calls at the same time, from two seats (rights to call as one thread). One call stops between two of
+//! its steps until the other call has ended or waits. Each case runs twice: with the loops of the list, and with the
+//! interpreter of its step table.
 
 use crate::meeting::{calls, comes};
 use crate::opened::two_seats_on;

@@ -1,4 +1,5 @@
-//! Explains errors in reports, and calls that conflict in reports and recordings.
+//! Explains errors in reports, and calls that conflict in reports and recordings. The moments of a call are its start
+//! and its end.
 
 use crate::kinds::{Place, TextKind};
 use crate::lined::{Lines, field, moment_at, number_at};

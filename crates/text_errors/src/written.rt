@@ -5,10 +5,10 @@ use crate::lined::{field, field_or_empty, put_quoted};
 use lset_text::long_number;
 use std::alloc::AllocError;
 
-/// The largest moment in a recording.
+/// The largest moment (start or end of a call) in a recording.
 const MOST_MOMENT: u64 = 9_223_372_036_854_775_807;
 
-/// The largest moment in a report.
+/// The largest moment (start or end of a call) in a report.
 const MOST_MOMENT_OF_REPORT: u64 = 4_294_967_295;
 
 /// The maximum number of steps in one line of a schedule.

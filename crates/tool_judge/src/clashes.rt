@@ -1,5 +1,5 @@
 //! Writes the lines that describe a contradiction between two calls of a key, or between a call and the key's first or
-//! final state.
+//! final state. Moments are positions in the recording.
 
 ghost use Rattle.std.specs.Prelude.{◌≡◌, IfOk};
 ghost use Rattle.tool_judge.specs.Clashes as lines;

@@ -8,7 +8,7 @@ use tool_base::{Answer, Trouble, ValueName};
 pub enum ExampleRequest {
     /// The names of all examples.
     Names,
-    /// The text of a schedule, or of the report of a broken list.
+    /// The text of a schedule, or of the report of a broken list (a list without one of its checks).
     Text(&'static str),
 }
 

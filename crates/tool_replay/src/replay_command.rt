@@ -44,8 +44,9 @@ impl Tool for Replay {
     }
 }
 
-/// The command `replay --lacks NAME`. The answer is the report of the schedule's run on the broken list, in version 2
-/// of the format, with exit status 0. The command fails with `Line`, as `report_broken` does, or with `Memory`.
+/// The command `replay --lacks NAME`. The answer is the report of the schedule's run on the broken list (a list without
+/// one of its checks), in version 2 of the format, with exit status 0. The command fails with `Line`, as
+/// `report_broken` does, or with `Memory`.
 #[derive(Clone, Copy)]
 pub struct ReplayBroken {
     pub broken: BrokenList,

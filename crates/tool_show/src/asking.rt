@@ -27,9 +27,9 @@ fn number_or(text: Option<&str>, smallest: u32, absent: u32) -> Option<u32> {
 /// Reads the options of the command `show`. `svg` is true if `--svg` is present. The values of `--from`, `--to` and
 /// `--width` are decimals without leading zeros.
 ///
-/// `from` is at least 1 and defaults to 1. `to` is at least `from` and defaults to the last moment. `width` is at least
-/// 1 and defaults to 100. An SVG has no width, but `width` is checked even with `--svg`. The error names the first
-/// wrong option.
+/// `from` is at least 1 and defaults to 1. `to` is at least `from` and defaults to the last moment (position in the
+/// history). `width` is at least 1 and defaults to 100. An SVG has no width, but `width` is checked even with `--svg`.
+/// The error names the first wrong option.
 pub fn read_show(
     svg: bool,
     from: Option<&str>,
