@@ -73,7 +73,7 @@ def call_line(made):
 
 
 def text_of(calls, opening, keys):
-    """Returns the text of a recording. If there are no final keys, the recording was cut off."""
+    """Returns the text of a recording. If `keys` is None, the recording was cut off."""
     ends = ["cut"] if keys is None else [*(f"key {it}" for it in keys), "end"]
     return "".join(f"{it}\n" for it in [TITLE, *(f"opening {it}" for it in opening), *map(call_line, calls), *ends])
 
@@ -176,8 +176,8 @@ def call_in(line, form, of_key):
 
 
 def may_be_made(of_key, word, since, until):
-    """Returns whether some call that brings the key into this state overlaps the period from `since` to `until`. The call
-    must have returned true or be pending.
+    """Returns whether some call of the operation `word` can have changed the key between `since` and `until`: the call
+    returned true or is pending, and overlaps this time.
     """
     return any(it.word == word and changes(it) and it.begin < until and since < (it.end or LAST + 1) for it in of_key)
 
@@ -260,7 +260,7 @@ def in_pieces(program, text, size):
 
 @pytest.mark.parametrize("size", [1, 7, 16, 4096])
 def test_the_verdict_does_not_depend_on_the_pieces(program, size):
-    """Tests three texts: a recording, a recording without its last line, and a recording with another title."""
+    """Tests three texts: a recording, a recording without its last newline, and a recording with a wrong title."""
     rng = random.Random(size)
     for many in (3, 30, 400):
         calls, opening, keys = drawn(rng, many)

@@ -170,8 +170,8 @@ def drips(connection, end):
 
 
 def test_clients_of_one_seat_are_served_in_turn(program):
-    """Tests clients that use one seat in turn. The seat can add 2 keys. The system refuses a connection to a different address
-    of this machine, and a connection after the last session.
+    """Tests clients that use one seat one after another. The seat can add 2 keys. The system refuses a connection to a
+    different address of this machine. A client after the last session receives no answer.
     """
     with serving(program, ONE_LIST, 1, 2, 6) as server:
         with pytest.raises(ConnectionRefusedError):

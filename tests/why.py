@@ -69,8 +69,8 @@ def test_a_message_has_at_most_fifteen_lines_and_its_count_is_true(program, path
 
 
 def mark_not_read(rounds):
-    """Returns a recording of a set with a bug in `contains`: during a `remove`, `contains` still finds the key, even if
-    a second `remove` has already found the key absent.
+    """Returns a recording of a set with a bug in `contains`: during a `remove`, `contains` still finds the key, even
+    after a second `remove` has found the key absent.
     """
     made = [("add", 1, 2, 0, "true"), ("remove", 3, 8, 1, "true"), ("remove", 4, 5, 0, "false"), ("contains", 6, 7, 0, "true")]
     calls = [Call(thread, word, 3, moment + begin, moment + end, reply) for moment in range(0, 8 * rounds, 8) for word, begin, end, thread, reply in made]

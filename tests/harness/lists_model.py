@@ -32,8 +32,8 @@ def rows_of(text):
 
 
 def table(one):
-    """Returns a list's table: its rows, the row at which calls begin, and the rows at which a call adds its key, removes its
-    key, and exits. (On some lists, a call exits by returning and has no row for the exit.)
+    """Returns a list's table: its rows, the row at which each operation begins, and the rows at which a call adds its
+    key, removes its key, and exits. (On some lists, a call exits by returning and has no row for the exit.)
     """
     own, reads = SECTIONS[one.type], SECTIONS["Reads without locks"] if one.has_reads() else ""
     places = {word: int(row) for text in (own, reads) for word, row in re.findall(r"(begin|begins|add|remove|leave|ceiling) at row (\d+)", text)}
@@ -185,8 +185,8 @@ class List:
         return action, seen, reply
 
     def follow(self, it, parts, seen, old):
-        """Executes the part of a row that follows its step: the first alternative with a true condition. Returns the reply if
-        the call ends.
+        """Executes the actions of a row after its step, up to the first action with a true condition (or `else`). Returns
+        the reply if the call ends.
         """
         for part in parts:
             test, is_test, then = part.rpartition(": ")
@@ -200,8 +200,8 @@ class List:
         return reply
 
     def do(self, it, done, seen):
-        """Executes one alternative of a row. Returns the reply if the call ends. (On an intact list, the changes of the set
-        are read from the chain.)
+        """Executes one action of a row. Returns the reply if the call ends. (On an intact list, the changes of the set are
+        read from the chain.)
         """
         if done.isdigit():
             it.pc = int(done)

@@ -1,6 +1,6 @@
 use lset_words::Kind;
 
-/// A broken list, named after the check that was removed.
+/// A list with one check removed. It is named after this check.
 #[derive(Clone, Copy, Debug, PartialEq, Eq)]
 pub enum BrokenList {
     /// CoarseList: a call continues even if it did not get the lock.

@@ -27,8 +27,8 @@ use thiserror::Error;
 /// The cause of a `ServeFault`.
 #[derive(Clone, Copy, Debug, PartialEq, Eq, Error)]
 pub enum ServeCause {
-    /// The seats passed to `serve`, with the seats merged into them, are not all seats of the set. No connection was
-    /// accepted.
+    /// Not all seats of the set were passed to `serve`. (Seats that were merged into another seat are passed with it.)
+    /// No connection was accepted.
     #[error("the seats do not hold all seats of the set")]
     Seats,
     /// The system did not accept a connection.
@@ -230,8 +230,8 @@ fn serve_all<R: Threads + Wait + Clock + Sync, M: Running + Send + Sync>(
 ///
 /// Returns a `ServeFault` with one of these causes:
 ///
-/// - `Seats`: if and only if `seats`, with the seats merged into them, are not all seats of the set. No connection was
-///   accepted, and the set and the seats are returned.
+/// - `Seats`: if and only if `seats`, including the seats merged into them, are not all seats of the set. No connection
+///   was accepted, and the set and the seats are returned.
 /// - `Accept`, `Spawn`: the system refused a connection or a thread.
 /// - `Send`: the channel returned a connection.
 /// - `Left`: the workers received fewer connections than were accepted.

@@ -28,8 +28,8 @@ worked (r ∷ rs) [] replies = []
 worked (r ∷ rs) (p ∷ ps) [] = []
 worked (r ∷ rs) (p ∷ ps) (a ∷ more) = with_calls r (made p a) ∷ worked rs ps more
 
--- States that the number of programs equals the number of seats, and that these seats, with the seats merged into them,
--- are all seats of the set.
+-- States that the number of programs equals the number of seats, and that these seats, including the seats merged into
+-- them, are all seats of the set.
 abbrev pub Fit : SetValue → List SeatValue → ℕ → Type 0
 Fit set seats programs = (programs ≡ length seats) × (sum_by (λ (s : SeatValue). s.held) seats ≡ set.shape.threads)
 

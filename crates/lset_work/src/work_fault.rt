@@ -5,8 +5,8 @@ use thiserror::Error;
 /// The cause of a `WorkFault`.
 #[derive(Clone, Copy, Debug, PartialEq, Eq, Error)]
 pub enum WorkCause {
-    /// The number of programs differs from the number of seats, or the seats, with the seats merged into them, are not
-    /// all seats of the set. No thread was started.
+    /// The number of programs differs from the number of seats, or not all seats of the set were passed to `work`.
+    /// (Seats that were merged into another seat are passed with it.) No thread was started.
     #[error("the number of programs is not the number of seats, or seats are missing")]
     Programs,
     /// The system refused to start a thread. The threads that had been started have ended.

@@ -90,8 +90,8 @@ fn run_all<R: Threads + Wait + Sync, M: Running + Send + Sync, G: Gate + Sync>(
 ///
 /// Returns a `WorkFault` with one of these causes:
 ///
-/// - `Programs`: if and only if the number of programs differs from the number of seats, or the seats, with the seats
-///   merged into them, are not all seats of the set. No call was made, and the set and the seats are returned.
+/// - `Programs`: if and only if the number of programs differs from the number of seats, or the seats, including the
+///   seats merged into them, are not all seats of the set. No call was made, and the set and the seats are returned.
 /// - `Spawn`: the system refused to start a thread. The threads that had been started have ended.
 /// - `Gate`: the gate returned false, and no further call of this program was made. All threads have ended.
 /// - `Memory`: an allocation failed. All memory, including the memory for the final keys, is allocated before the first

@@ -202,8 +202,8 @@ impl Device {
     }
 }
 
-/// Runs the program repeatedly. In each run, the next call of the reader or writer fails, until a run ends without a
-/// failure. Returns the number of runs with a failure.
+/// Runs the program repeatedly. In run number n, call number n of the reader or writer fails. Stops when a run ends
+/// without a failure. Returns the number of runs with a failure.
 fn each_call_fails<R: Host>(
     rt: &R,
     alloc: Global,
@@ -297,7 +297,7 @@ fn a_failed_write_of_a_long_trace_leaves_a_prefix(rt: HostRuntime) -> Result<(),
     Err(Fail::new("no run ends without a failure"))
 }
 
-/// Another program listens on the port. The exit status must be 1 even if the error line cannot be written.
+/// Another listener has the port. The exit status must be 1 even if the error line cannot be written.
 #[test]
 fn a_server_on_a_taken_port_exits_with_status_1(rt: HostRuntime) -> Result<(), Fail> {
     let alloc = rt.alloc();

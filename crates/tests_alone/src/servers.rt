@@ -150,8 +150,8 @@ fn output_fails<R: Host>(rt: &R, alloc: Global, plan: Plan) -> Result<bool, Fail
     Ok(true)
 }
 
-/// Runs servers repeatedly. In each run, the next call of the output fails, until a run ends without a failure. Returns
-/// the number of runs with a failure.
+/// Runs servers repeatedly. In run number n, call number n of the output fails. Stops when a run ends without a
+/// failure. Returns the number of runs with a failure.
 fn each_call_fails<R: Host>(rt: &R, alloc: Global, way: Way) -> Result<usize, Fail> {
     for fails_at in 0..MOST_CALLS {
         if !output_fails(rt, alloc, planned(way, fails_at))? {
