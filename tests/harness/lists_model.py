@@ -185,8 +185,8 @@ class List:
         return action, seen, reply
 
     def follow(self, it, parts, seen, old):
-        """Executes the actions of a row after its step, up to the first action with a true condition (or `else`). Returns
-        the reply if the call ends.
+        """Executes the actions of a row after its step, up to the first action with a true condition (or `else`).
+        Returns the reply if the call ends.
         """
         for part in parts:
             test, is_test, then = part.rpartition(": ")
@@ -200,8 +200,8 @@ class List:
         return reply
 
     def do(self, it, done, seen):
-        """Executes one action of a row. Returns the reply if the call ends. (On an intact list, the changes of the set are
-        read from the chain.)
+        """Executes one action of a row. Returns the reply if the call ends. (On an intact list, the changes of the set
+        are read from the chain.)
         """
         if done.isdigit():
             it.pc = int(done)

@@ -6,12 +6,12 @@ use Rattle.tool_base.specs.declared.trouble.Trouble.TheVariants.{CannotRead, Mem
 use Rattle.tool_base.specs.Tools.{Made}
 use Rattle.tool_base.specs.Trouble as trouble
 
--- The text that the program prints for a result: the answer's text, or the line about the error.
+-- Returns the text that the program prints for a result: the answer's text, or the line about the error.
 abbrev pub text_of : Made → List ℕ
 text_of (Ok answer) = answer.text
 text_of (Err t) = trouble.trouble_text t
 
--- The program's exit status for a result.
+-- Returns the program's exit status for a result.
 abbrev pub status_of : Made → ℕ
 status_of (Ok answer) = answer.status
 status_of (Err t) = trouble.status_of t

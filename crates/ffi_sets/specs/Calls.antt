@@ -62,8 +62,8 @@ HasMade true h c n true h' = (r : Option Reply) × (n ≡ code_of r) × HasCalle
 HasMade false h c n false h' = n ≡ 255
 HasMade full h c n full' h' = ⊥
 
--- The key that a `ceiling` stores through its pointer: the key in the reply `At`. For any other reply, the key that was
--- stored before the call.
+-- Returns the key that a `ceiling` stores through its pointer: the key in the reply `At`. For any other reply, this is
+-- the key that was stored before the call.
 abbrev pub at_of : Option Reply → ℕ → ℕ
 at_of (Some (reply.At k)) a = k.0
 at_of r a = a

@@ -17,27 +17,28 @@ use Rattle.lset_command.specs.declared.command_line.Command.TheVariants.{Gen, Ru
 use Rattle.lset_command.specs.declared.command_line.Options.{Options}
 use Rattle.lset_command.specs.declared.command_line.Words.{Words}
 
--- The rule for a flag `--NAME`.
+-- Returns clap's rule for a flag `--NAME`.
 abbrev pub flag_rule : Text → Rule
 flag_rule name = record (new_rule name) { long = Some name; action = Some SetTrue }
 
--- The rule for an option with a value, `--NAME VALUE`.
+-- Returns clap's rule for an option with a value, `--NAME VALUE`.
 abbrev pub option_rule : Text → Rule
 option_rule name = record (new_rule name) { long = Some name; value_names = 1 }
 
--- The rules of `check [FILE]`, `draft [FILE]` and `explain [FILE]`. The rules of some other commands extend them.
+-- Returns the rules of the commands `check [FILE]`, `draft [FILE]` and `explain [FILE]`, with this name. The rules of
+-- some other commands extend them.
 abbrev pub file_app : Text → App
 file_app name = with_rule (new_app name) (new_rule (codes "FILE"))
 
--- The rules of `judge [--brief] [--only KEY] [FILE]`.
+-- The rules of the command `judge [--brief] [--only KEY] [FILE]`.
 abbrev pub judge_app : App
 judge_app = with_rule (with_rule (file_app (codes "judge")) (flag_rule (codes "brief"))) (option_rule (codes "only"))
 
--- The rules of `replay [--lacks NAME] [FILE]`.
+-- The rules of the command `replay [--lacks NAME] [FILE]`.
 abbrev pub replay_app : App
 replay_app = with_rule (file_app (codes "replay")) (option_rule (codes "lacks"))
 
--- The rules of `show [--svg] [--from M] [--to M] [--width N] [--lacks NAME] [FILE]`.
+-- The rules of the command `show [--svg] [--from M] [--to M] [--width N] [--lacks NAME] [FILE]`.
 abbrev pub show_app : App
 show_app =
     with_rule (with_rule (with_rule (with_rule (with_rule (file_app (codes "show"))
@@ -47,15 +48,16 @@ show_app =
     (option_rule (codes "width")))
     (option_rule (codes "lacks"))
 
--- The rules of `trace [--chain] [--lacks NAME] [FILE]`.
+-- The rules of the command `trace [--chain] [--lacks NAME] [FILE]`.
 abbrev pub trace_app : App
 trace_app = with_rule (with_rule (file_app (codes "trace")) (flag_rule (codes "chain"))) (option_rule (codes "lacks"))
 
--- The rules of `example [--broken] [NAME]`.
+-- The rules of the command `example [--broken] [NAME]`.
 abbrev pub example_app : App
 example_app = with_rule (with_rule (new_app (codes "example")) (new_rule (codes "NAME"))) (flag_rule (codes "broken"))
 
--- The rules of `gen KIND THREADS QUOTA CALLS KEYS SEED`. The rules of `run` extend them.
+-- Returns the rules of the command `gen KIND THREADS QUOTA CALLS KEYS SEED`, with this name. The rules of `run` extend
+-- them.
 abbrev pub six_values : Text → App
 six_values name =
     with_rule (with_rule (with_rule (with_rule (with_rule (with_rule (new_app name)
@@ -66,11 +68,11 @@ six_values name =
     (new_rule (codes "KEYS")))
     (new_rule (codes "SEED"))
 
--- The rules of `run KIND THREADS QUOTA CALLS KEYS SEED [LIVES]`.
+-- The rules of the command `run KIND THREADS QUOTA CALLS KEYS SEED [LIVES]`.
 abbrev pub run_app : App
 run_app = with_rule (six_values (codes "run")) (new_rule (codes "LIVES"))
 
--- The rules of `serve KIND SEATS QUOTA PORT SESSIONS [FILE]`.
+-- The rules of the command `serve KIND SEATS QUOTA PORT SESSIONS [FILE]`.
 abbrev pub serve_app : App
 serve_app =
     with_rule (with_rule (with_rule (with_rule (with_rule (with_rule (new_app (codes "serve"))
@@ -81,7 +83,7 @@ serve_app =
     (new_rule (codes "SESSIONS")))
     (new_rule (codes "FILE"))
 
--- The rules of `faults [CAUSE]`.
+-- The rules of the command `faults [CAUSE]`.
 abbrev pub faults_app : App
 faults_app = with_rule (new_app (codes "faults")) (new_rule (codes "CAUSE"))
 
@@ -127,21 +129,22 @@ MakesWithSubcommand old sub new = (a b : App) → Makes old a → Makes sub b �
 
 -- ---- The result of parsing a command line
 
--- True if this is the name of a flag or an option. All other names are names of arguments.
+-- Returns whether this is the name of a flag or an option. All other names are names of arguments.
 abbrev pub is_option : Text → Bool
 is_option name = bytes_eq name (codes "svg") || (bytes_eq name (codes "from") || (bytes_eq name (codes "to")
     || (bytes_eq name (codes "width") || (bytes_eq name (codes "brief") || (bytes_eq name (codes "only")
     || (bytes_eq name (codes "chain") || (bytes_eq name (codes "broken") || bytes_eq name (codes "lacks"))))))))
 
--- The values that a parse found for the argument with this name; empty for the name of a flag or an option.
+-- Returns the values that a parse found for the argument with this name. The list is empty for the name of a flag or an
+-- option.
 abbrev pub values_by : Text → List Row → List Text
 values_by name rows = if is_option name then [] else unwrap_or (all_of name rows) []
 
--- The values of all arguments of a command, in order.
+-- Returns the values of all arguments of a command, in order.
 abbrev pub values_in : List Row → List Text
 values_in rows = flat_map (λ row. values_by row.id rows) rows
 
--- True if the flag with this name is on. clap represents a flag by the text `true` or `false`.
+-- Returns whether the flag with this name is on. clap represents a flag by the text `true` or `false`.
 abbrev pub is_on : Text → List Row → Bool
 is_on name rows = option_map_or (λ text. bytes_eq text (codes "true")) (first_of name rows) false
 
@@ -172,7 +175,7 @@ options_in rows = record {
   lacks = first_of (codes "lacks") rows;
 }
 
--- The command with this name. A parse finds only the names in `listset`.
+-- Returns the command with this name. A parse finds only the names in `listset`.
 unfoldable pub command_named : Text → Command
 command_named name =
     if bytes_eq name (codes "judge") then Judge
@@ -194,7 +197,7 @@ pub record Choice : Type 0 where
   pub values : List Text
   pub options : OptionValues
 
--- The command that was chosen on the command line: `replay` if no command is named.
+-- Returns the command that was chosen on the command line: `replay` if no command is named.
 abbrev pub choice_of : Option (Text × List Row) → Choice
 choice_of None = record { command = Replay; values = []; options = options_in [] }
 choice_of (Some found) = record { command = command_named found.0; values = values_in found.1; options = options_in found.1 }
@@ -218,7 +221,7 @@ options_of o = record {
 abbrev pub choice_in : Words → Choice
 choice_in w = record { command = w.command; values = map string_bytes w.values.items; options = options_of w.options }
 
--- The path that an argument FILE contains. `-` means standard input and is not a path.
+-- Returns the path that an argument FILE contains. `-` means standard input and is not a path.
 abbrev pub path_in : Text → Option Text
 path_in word = if bytes_eq word (codes "-") then None else Some word
 

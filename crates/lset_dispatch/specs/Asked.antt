@@ -17,13 +17,13 @@ use Rattle.lset_dispatch.specs.declared.job.Job.TheVariants.{Replay, Judge, Verd
 abbrev pub Asked : Type 0
 Asked = Result Job ValueName
 
--- The job of `replay` without `--lacks`. With `--lacks`, nothing is proved.
+-- Returns the job of `replay` without `--lacks`. With `--lacks`, nothing is proved.
 abbrev pub asked_replay : Option Text → Option Asked
 asked_replay None = Some (Ok (Replay None))
 asked_replay (Some name) = None
 
--- The job of `judge`: with `--brief` the verdict alone, otherwise the verdict with all details. With `--only`, nothing
--- is proved.
+-- Returns the job of `judge`: with `--brief` the verdict alone, otherwise the verdict with all details. With `--only`,
+-- nothing is proved.
 abbrev pub asked_judge : Option Text → Bool → Option Asked
 asked_judge None true = Some (Ok Verdict)
 asked_judge None false = Some (Ok Judge)
@@ -40,7 +40,7 @@ asked_by command.Check values options = Some (Ok Check)
 asked_by command.Gen values options = Some (asked_gen (random_request_of values))
 asked_by other values options = None
 
--- The job that a command line asks for, if something is proved about its command.
+-- Returns the job that a command line asks for, if something is proved about its command.
 abbrev pub asked : Choice → Option Asked
 asked choice = asked_by choice.command choice.values choice.options
 

@@ -43,8 +43,9 @@ JobEnds (Gen random) input output_old output_new stderr_old stderr_new status =
     Ends (Answers (Ok random)) output_old output_new stderr_old stderr_new status
 JobEnds job input output_old output_new stderr_old stderr_new status = Unit {0}
 
--- A job without a path ends with its result for standard input. A job with a path ends with its result for the bytes of
--- some file, or with `CannotRead`. (Nothing is proved about which file this is, or that it is read from its start.)
+-- States that a job without a path ends with its result for standard input. A job with a path ends with its result for
+-- the bytes of some file, or with `CannotRead`. (Nothing is proved about which file this is, or that it is read from
+-- its start.)
 abbrev pub EndsOn : Option Text → Job → (Option (List ℕ) → Type 0) → Option (List ℕ) → Ending
 EndsOn None job IsFile input output_old output_new stderr_old stderr_new status =
     JobEnds job input output_old output_new stderr_old stderr_new status
@@ -52,7 +53,8 @@ EndsOn (Some path) job IsFile input output_old output_new stderr_old stderr_new 
     Ends (λ made. made ≡ Err CannotRead) output_old output_new stderr_old stderr_new status
     ⊎ ((bytes : Option (List ℕ)) × IsFile bytes × JobEnds job bytes output_old output_new stderr_old stderr_new status)
 
--- If a command line asks for a job, the job ends as `EndsOn` states. Otherwise the program reports the wrong argument.
+-- States that the job that a command line asks for ends as `EndsOn` states. If an argument is wrong, the program
+-- reports the argument.
 abbrev pub EndsAsked : Option Asked → Option Text → (Option (List ℕ) → Type 0) → Option (List ℕ) → Ending
 EndsAsked None path IsFile input output_old output_new stderr_old stderr_new status = Unit {0}
 EndsAsked (Some (Ok job)) path IsFile input output_old output_new stderr_old stderr_new status =
@@ -66,20 +68,21 @@ EndsOnInput choice IsFile input output_old output_new stderr_old stderr_new stat
 
 -- ---- Refused command lines
 
--- The user asked for the help or the version.
+-- States that the user asked for the help or the version.
 abbrev pub IsHelp : ErrorKind → Type 0
 IsHelp kind = (kind ≡ DisplayHelp) ⊎ (kind ≡ DisplayVersion)
 
--- The command line is wrong.
+-- States that the command line is wrong.
 abbrev pub IsMistake : ErrorKind → Type 0
 IsMistake kind = (kind ≢ OutOfMemory) × (kind ≢ DisplayHelp) × (kind ≢ DisplayVersion)
 
--- The result if the user asked for the help or the version: a text with status 0, or an error if an allocation failed.
+-- States the result if the user asked for the help or the version: a text with status 0, or an error if an allocation
+-- failed.
 abbrev pub Helps : ErrorKind → Made → Type 0
 Helps kind made = (made ≡ Err Memory) ⊎ (IsHelp kind × (text : List ℕ) × (made ≡ Ok (record { text = text; status = 0 })))
 
--- A wrong command line writes nothing to the output and ends with status 2. clap writes the text on stderr; nothing is proved
--- about this text.
+-- States that a wrong command line writes nothing to the output and ends with status 2. clap writes the text on stderr.
+-- Nothing is proved about this text.
 abbrev pub Refuses : ErrorKind → Ending
 Refuses kind output_old output_new stderr_old stderr_new status =
     IsMistake kind × Keeps output_old output_new × (text : List ℕ) × AppendsFront stderr_old stderr_new text × (status ≡ 2)

@@ -7,8 +7,8 @@ use Rattle.lset_server.specs.declared.channel.Tally.{Tally}
 use Rattle.lset_server.specs.Serving.{followed}
 use Rattle.lset_server.specs.Tallies.{tally}
 
--- The results of a worker: it has received `sessions` connections with its pass (a right to use the channel), and has
--- made `calls` calls on its seat, which changed from s to s'.
+-- States that a worker has received `sessions` connections with its pass (a right to use the channel), and has made
+-- `calls` calls on its seat, which changed from s to s'.
 pub record HasWorked (s s' : SeatValue) (v : Tally) (sessions calls : ℕ) : Type 0 where
   pub received : List ℕ
   pub view : v ≡ tally 1 [] received
@@ -18,8 +18,9 @@ pub record HasWorked (s s' : SeatValue) (v : Tally) (sessions calls : ℕ) : Typ
   pub count : calls ≡ length added
   pub held : s'.held ≡ s.held
 
--- The results of `workers` joined workers: their passes (rights to use the channel) were joined to the sender's pass,
--- which changed its tally from v to v', their seats were merged into `end`, and their sessions and calls were added up.
+-- States the results of `workers` workers that have ended. Their passes (rights to use the channel) were joined to the
+-- sender's pass, which changed its tally from v to v'. Their seats were merged into `end`. Their sessions and calls
+-- were added up.
 pub record HaveWorked (starts : List Record) (end : Option Record) (v v' : Tally) (workers sessions calls : ℕ) : Type 0 where
   pub added : List (List CallMade)
   pub each : length added ≡ length starts

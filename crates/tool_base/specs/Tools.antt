@@ -40,7 +40,7 @@ abbrev pub status_of : Outcome → ℕ
 status_of (Ok status) = status
 status_of (Err t) = trouble.status_of t
 
--- The line that an outcome prints on stderr; empty if there is no error.
+-- Returns the line that an outcome prints on stderr. The line is empty if there is no error.
 abbrev pub line_of : Outcome → List ℕ
 line_of (Ok status) = []
 line_of (Err t) = trouble_text t

@@ -15,7 +15,8 @@ use Rattle.tool_base.specs.declared.trouble.Trouble.{Trouble}
 use Rattle.tool_base.specs.declared.trouble.Trouble.TheVariants.{CannotRead, TooLong, CannotWrite, Memory, Line, Bad}
 use Rattle.tool_base.specs.declared.trouble.Trouble.TheVariants.{CannotListen, Work, Serve}
 
--- The error for a wrong line of an input. A failed allocation at a line becomes the error `Memory`, without the line.
+-- Returns the error for a wrong line of an input. A failed allocation at a line becomes the error `Memory`, without the
+-- line.
 abbrev pub of_line : ℕ → Cause → Trouble
 of_line number cause.Memory = Memory
 of_line number c = Line number c
@@ -23,7 +24,7 @@ of_line number c = Line number c
 abbrev pub of_line_fault : LineFault → Trouble
 of_line_fault fault = of_line fault.line fault.cause
 
--- The program's error if no schedule can be generated.
+-- Returns the program's error if no schedule can be generated.
 abbrev pub of_generator : GenFault → Trouble
 of_generator generator.Threads = Bad value.Threads
 of_generator generator.Quota = Bad value.Quota

@@ -21,14 +21,14 @@ abbrev pub state_word : Presence → List ℕ
 state_word Present = codes "present"
 state_word Absent = codes "absent"
 
--- True for an add or remove that returned true.
+-- Returns whether a call is an add or remove that returned true.
 abbrev pub is_change : Call → Option (ℕ × Reply) → Bool
 is_change (Add k) (Some (end, True)) = true
 is_change (Remove k) (Some (end, True)) = true
 is_change c ended = false
 
--- The state (present or absent) that a call needs its key to have. If the call changes the key, this is the opposite of
--- the state after the call, otherwise it is the state after the call.
+-- Returns the state (present or absent) that a call needs its key to have. If the call changes the key, this is the
+-- opposite of the state after the call, otherwise it is the state after the call.
 abbrev pub need_of : Bool → Presence → Presence
 need_of changes leaves = if changes then other leaves else leaves
 
@@ -36,7 +36,7 @@ abbrev pub end_of : ℕ → Option (ℕ × Reply) → ℕ
 end_of begun None = begun
 end_of begun (Some e) = e.0
 
--- True if the second call starts at or before the end of the first, or if the first is pending.
+-- Returns whether the second call starts at or before the end of the first, or the first is pending.
 abbrev pub overlap : Option (ℕ × Reply) → ℕ → Bool
 overlap None begun = true
 overlap (Some e) begun = nat_le begun e.0
@@ -145,7 +145,8 @@ lines_turned key was x y = turned_first key (need_of (is_change x.call x.ended) 
     ++ turned_there key (other was) x.begun (end_of y.begun y.ended)
     ++ turned_back (need_of (is_change x.call x.ended) was) y.begun (end_of x.begun x.ended)
 
--- The lines of a contradiction about a key. If its two calls overlap, the lines describe both orders of the calls.
+-- Returns the lines of a contradiction about a key. If its two calls overlap, the lines describe both orders of the
+-- calls.
 abbrev pub lines_of : ℕ → Presence → Option StreamCall → Option StreamCall → List ℕ
 lines_of key was (Some x) (Some y) = if overlap x.ended y.begun then lines_turned key was x y else lines_in_order key was (Some x) (Some y)
 lines_of key was first second = lines_in_order key was first second

@@ -34,7 +34,7 @@ abbrev pub clash_text : ℕ → Option Clash → List ℕ
 clash_text key None = []
 clash_text key (Some c) = clash_lines key c
 
--- The two lines of a refusal, and the three lines of a contradiction if one was found.
+-- Returns the two lines of a refusal, and the three lines of a contradiction if one was found.
 abbrev pub refused_text : Refusal → Option Clash → List ℕ
 refused_text r clash = refused_lines r ++ clash_text r.key.0 clash
 
@@ -48,7 +48,7 @@ abbrev pub IsAnswerTo : Verdict → ℕ → AnswerValue → Type 0
 IsAnswerTo Linearizable calls answer = Begins (ok_line calls) answer.text × (answer.status ≡ 0)
 IsAnswerTo (NotLinearizable refusal clash) calls answer = Begins (refused_text refusal clash) answer.text × (answer.status ≡ 1)
 
--- The verdict without its contradiction.
+-- Returns the verdict without its contradiction.
 abbrev pub without_clash : Verdict → Verdict
 without_clash Linearizable = Linearizable
 without_clash (NotLinearizable refusal clash) = NotLinearizable refusal None

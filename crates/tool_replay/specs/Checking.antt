@@ -21,13 +21,14 @@ pub record IsRefused (r : ReportValue) (fault : OrderFault) : Type 0 where
   pub of_the_order : fault ≢ Memory
   pub not_explained : Explains r.history r.order r.keys → ⊥
 
--- The verdict on a report: `None` if the order explains the history and leaves exactly the final keys, otherwise the
--- order's first error.
+-- States the verdict on a report: `None` if the order explains the history and leaves exactly the final keys, otherwise
+-- the order's first error.
 abbrev pub IsVerdict : ReportValue → Option OrderFault → Type 0
 IsVerdict r None = Explains r.history r.order r.keys
 IsVerdict r (Some fault) = IsRefused r fault
 
--- The line that `check` prints for a refused order. Empty for a failed allocation, which `check` reports as an error.
+-- Returns the line that `check` prints for a refused order. The line is empty for a failed allocation, which `check`
+-- reports as an error.
 abbrev pub refusal_text : OrderFault → List ℕ
 refusal_text (Unknown number) = codes "refused Unknown " ++ decimal number ++ codes "\n"
 refusal_text (Twice number) = codes "refused Twice " ++ decimal number ++ codes "\n"
@@ -37,7 +38,7 @@ refusal_text (TooEarly number) = codes "refused TooEarly " ++ decimal number ++ 
 refusal_text WrongSet = codes "refused WrongSet\n"
 refusal_text Memory = []
 
--- The text that `check` prints for a verdict, and the exit status.
+-- Returns the text that `check` prints for a verdict, and the exit status.
 abbrev pub answer_of : Option OrderFault → AnswerValue
 answer_of None = record { text = codes "ok\n"; status = 0 }
 answer_of (Some fault) = record { text = refusal_text fault; status = 1 }

@@ -24,7 +24,7 @@ pub record IsReported (bytes : List ℕ) (p : Plan) (r : ReportValue) : Type 0 w
   pub replay : IsReplay (table_of p.kind) p r
   pub explained : IsExplained r
 
--- The program's error for a schedule that cannot be replayed.
+-- Returns the program's error for a schedule that cannot be replayed.
 abbrev pub of_replay : ReplayFault → Trouble
 of_replay (replay.NoThread number) = Line number cause.NoThread
 of_replay (replay.Busy number) = Line number cause.Busy
