@@ -161,8 +161,8 @@ fn put_backs(out: &mut String, count: &Count) -> Result<(), AllocError> {
 }
 
 /// Writes the three lines of a contradiction by counting: the calls that need the key in one state, how many times the
-/// key must change back between these calls, and the calls that can have changed it back (there are too few). Shortens
-/// long lists of calls. Allocates.
+/// key must change back between these calls, and the calls that can have changed it back, which are fewer than needed.
+/// Shortens long lists of calls. Allocates.
 pub fn put_count(out: &mut String, count: &Count) -> Result<(), AllocError> {
     write!(out, "contradiction: ")?;
     put_calls(out, count)?;
