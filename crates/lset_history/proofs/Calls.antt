@@ -36,7 +36,7 @@ pub record Beginning (r : Run) (thread : ℕ) (call : Call) (begun : ℕ) : Type
   pub is : begun ≡ suc before
   pub entry : r.log before ≡ began thread call
 
--- States that this call changes the set in the log's entry just before the moment `changed`, and may make this change.
+-- States that this call changes the set in the log's entry just before the moment `changed`, and is allowed to do so.
 pub record ChangeAt (r : Run) (thread : ℕ) (call : Call) (begun changed : ℕ) : Type 0 where
   pub before : ℕ
   pub is : changed ≡ suc before
@@ -178,7 +178,7 @@ way_of t x u = (grind (arith, nat_tests), grind (arith, nat_tests))
 pub is_way : (t : ℕ) (x : TracedCall) → x.thread ≡ t → x.ended ≡ None → is_under_way t x ≡ true
 is_way t x e n = rw (equal_test x.thread t e, n) refl
 
--- If a call has a change after a step, the call had this change before the step, or the step made it.
+-- If a call has made a change by the end of a step, it made the change in this step or before it.
 changed_as : (m n : ℕ) (change : Option Change) (before : Option ℕ) → changed_by m change before ≡ Some n
     → ((change ≡ None) × (before ≡ Some n)) ⊎ ((c : Change) × (change ≡ Some c) × (n ≡ m))
 changed_as m n None before e = inl (refl, e)

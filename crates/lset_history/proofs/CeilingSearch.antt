@@ -15,8 +15,8 @@ use Rattle.lset_history.proofs.ChangeLaws.{present_past}
 abbrev pub CeilingAt : (ℕ → List ℕ) → ℕ → Option ℕ → ℕ → Type 0
 CeilingAt changes key found m = IsCeiling (λ j. is_present changes j m ≡ true) key found
 
--- States that none of these moments is after `a` and at or before `b`. If a key changes at exactly these moments, it
--- does not change in this time.
+-- States that no moment of the list is after `a` and at or before `b`. If the list has all moments when a key changes,
+-- the key does not change from `a` to `b`.
 abbrev IsQuiet : List ℕ → ℕ → ℕ → Type 0
 IsQuiet ms a b = All (λ m. a < m → m ≤ b → ⊥) ms
 
@@ -120,7 +120,7 @@ module _ (changes : ℕ → List ℕ) (key : ℕ) (found : Option ℕ) where
 
 -- ---- Lemmas about the search after the last change
 
--- A key from `key` to just below the found key refutes the result `found` if and only if the key is present.
+-- A key from `key` to just below the found key is a counterexample to the result if and only if the key is present.
 against_below : (changes : ℕ → List ℕ) (key : ℕ) (o : Option ℕ) (j m : ℕ) → key ≤ j → IsBelow j o
     → is_against changes key o j m ≡ is_present changes j m
 against_below changes key None j m l u = if_not_below j key l false (is_present changes j m)

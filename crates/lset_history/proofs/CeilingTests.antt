@@ -1,5 +1,5 @@
--- A computable test whether a key is the smallest present key at or above another key at a moment. All keys must be
--- below 2^32.
+-- A computable test for whether a key is the smallest present key at or above another key at a given moment. All keys
+-- must be below 2^32.
 use Rattle.std.proofs.Common.{rules, ◌≡◌, ℕ, ◌+◌, ◌-◌, ◌<◌, ◌≤◌, ◌⊎◌, inl, inr, true, List, refl, subst, ap, arith}
 use Rattle.std.specs.Prelude.{Option, Some, None}
 use Rattle.lset_words.proofs.Numbers.{same_number, equal_test}

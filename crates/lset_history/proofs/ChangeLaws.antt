@@ -1,4 +1,4 @@
--- The effect of an additional change of a key on the moments when the key is present.
+-- How appending a change of a key affects the moments when the key is present.
 use Rattle.std.proofs.lemmas.Grind.{common_steps}
 use Rattle.std.proofs.Common.{◌≡◌, ◌≢◌, ℕ, zero, suc, ◌<◌, ◌≤◌, Bool, true, false, not, List, [], ◌∷◌, ◌++◌, length, get_or}
 use Rattle.std.proofs.Common.{sym, refl, ap, ◌∙◌, arith}
@@ -13,7 +13,7 @@ abbrev pub turned : ℕ → Bool → Bool
 turned zero b = b
 turned (suc i) b = turned i (not b)
 
--- A key's presence at moment `m` is its presence before the first change, negated once for each change at or before
+-- A key is present at moment `m` if it was present before its first change, negated once for each change at or before
 -- `m`.
 pub state_between : (b : Bool) (ms : List ℕ) (i m : ℕ) → i ≤ length ms → ((j : ℕ) → j < i → get_or ms j 0 ≤ m)
     → (i < length ms → m < get_or ms i 0) → state_at b ms m ≡ turned i b

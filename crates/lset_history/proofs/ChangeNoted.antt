@@ -1,4 +1,4 @@
--- The effect of recording an additional change on the recorded changes of all keys.
+-- How recording a new change affects the recorded changes of all keys.
 use Rattle.std.proofs.lemmas.Grind.{common_steps}
 use Rattle.std.proofs.Common.{◌≡◌, ◌≢◌, ℕ, ◌<◌, ◌^◌, ◌≤◌, inl, inr, Bool, true, false, List, [], ◌∷◌, ◌++◌, get_or, map, sym}
 use Rattle.std.proofs.Common.{refl, subst, ap, ◌∙◌, arith, append_assoc}
@@ -37,8 +37,7 @@ pub noted_in : (keys : List ℕ) (m : Kept) (k : ℕ) → noted_of (changes_in k
 noted_in keys m k = ap moments_in (lookup-map_values (λ (v : Vec ℕ Global). v.items) (is_at (nat_cmp k)) m.entries)
     ∙ items_mapped (get nat_cmp m k)
 
--- After a moment of `key` is recorded, the recorded moments of `key` end with it, and those of all other keys are
--- unchanged.
+-- Recording a moment for `key` appends it to the moments of `key`, and leaves those of all other keys unchanged.
 noted_items : (m n : Kept) (key at : ℕ) (w : Vec ℕ Global) → UpdatesBy nat_cmp (nat_cmp key) m n (Some w)
     → w.items ≡ items_in (get nat_cmp m key) ++ at ∷ [] → (k : ℕ) → items_in (get nat_cmp n k)
     ≡ (if k == key then items_in (get nat_cmp m k) ++ at ∷ [] else items_in (get nat_cmp m k))
@@ -86,8 +85,8 @@ bounded_noted c d key at low bounded is k high =
 all_both : (P Q R : ℕ → Type 0) → ((m : ℕ) → P m → Q m → R m) → (ms : List ℕ) → All P ms → All Q ms → All R ms
 all_both P Q R f ms p q = All-from_get_or R ms 0 (λ i l. f (get_or ms i 0) (All-get_or P ms i 0 l p) (All-get_or Q ms i 0 l q))
 
--- Lemmas about an additional change: `c` is the record of changes before key `key` changed at moment `at`, and `d` the
--- record after it.
+-- Lemmas about recording a change: `c` is the record before key `key` changed at moment `at`, and `d` the record after
+-- it.
 module _ (c d : ChangesValue) (key at : ℕ) (noted : (k : ℕ) → moments_of d k ≡ with_change (moments_of c) key at k) where
   listed_noted : (keys_at : BTreeMap ℕ ℕ) → (0 < at → get nat_cmp keys_at at ≡ Some key)
       → ((k : ℕ) → All (IsListed keys_at k) (moments_of c k)) → (k : ℕ) → All (IsListed keys_at k) (moments_of d k)

@@ -135,8 +135,7 @@ others_begun calls x t other =
     (and_left (x.thread == t) (is_none x.ended) (ne_eqb x.thread t (λ same. other (sym same))))
     ∙ or-false (has_open calls t)
 
--- A thread of the history can begin a call if its `busy` flag is false and the moment is after the latest moment of
--- the history.
+-- A thread can begin a call if its `busy` flag is false and the moment is after the latest moment of the history.
 pub may_begin : (h : HistoryValue) (busy : List Bool) (latest thread at : ℕ)
     → IsKept h busy latest → thread < h.opening.threads → get_or busy thread false ≡ false → latest < at → MayBegin h thread at
 may_begin h busy latest thread at kept low idle above = record {

@@ -1,5 +1,5 @@
--- The sequential set at each moment of a run, if it makes the run's changes: it has the run's keys and numbers of
--- successful adds.
+-- If the sequential set makes the changes of a run, it has the run's keys and numbers of successful adds at each
+-- moment.
 use Rattle.std.proofs.Common.{rules, ◌≡◌, ◌≢◌, ℕ, zero, suc, ◌+◌, ◌<◌, ◌≤◌, true, false, inl, inr, List, length, sym, refl, subst}
 use Rattle.std.proofs.Common.{◌∙◌, arith}
 use Rattle.std.specs.Prelude.{Contains, Option, Some, None, slice_index, slice_set}

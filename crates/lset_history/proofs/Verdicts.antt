@@ -97,7 +97,7 @@ linearizes o calls order known once none replies early = record {
               (reply_of_end _ end reply _ e recorded)),
         )
 
--- ---- Lemmas that combine the single checks to the result of the whole check
+-- ---- Lemmas that combine the results of the single checks
 
 -- States the result of the first two checks: all calls of the order are in the history, none is in the order twice,
 -- and the marks are set for exactly the calls of the order.
@@ -142,7 +142,8 @@ pub missing_fault : (h : HistoryValue) (calls : List CallRecord) (order : List P
 missing_fault h calls order keys marks number s out =
     (passes_known h.calls order (rw s.calls_are at s.known), s.once, misses_first h.calls order marks number s.holds (rw s.calls_are at out))
 
--- Replaces the calls and the set of the loop by the history's own calls and the opening state of the set.
+-- Replaces the calls and the sequential set that the loop works on by those of the history: its own calls, and the set
+-- in its opening state.
 settled : (h : HistoryValue) (calls : List CallRecord) (order : List Placed) (marks : List Bool) (oracle : OracleValue)
     → LeavesNoneOut h calls order marks oracle → LeavesNoneOut h h.calls order marks (set_opened h.opening)
 settled h calls order marks oracle l =

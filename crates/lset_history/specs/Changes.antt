@@ -19,7 +19,7 @@ pub record ChangesValue : Type 0 where
 abbrev pub no_changes : ChangesValue
 no_changes = record { opening = []; entries = [] }
 
--- Returns moment 0 if the key is an opening key, else no moment: an opening key counts as added at moment 0.
+-- Returns the moments when a key was added by opening the set: moment 0 if it is an opening key, else none.
 abbrev pub opened_moments : List ℕ → ℕ → List ℕ
 opened_moments keys key = if has_key key keys then 0 ∷ [] else []
 
@@ -34,14 +34,14 @@ noted_of c key = moments_in (lookup (is_at (nat_cmp key)) c.entries)
 abbrev pub moments_of : ChangesValue → ℕ → List ℕ
 moments_of c key = opened_moments c.opening key ++ noted_of c key
 
--- Returns whether a key is present at `moment`, if the key is added or removed at each moment of the list. `present`
--- is true if the key is present before the first of these moments.
+-- Returns whether a key is present at `moment`. Each moment of the list is a change, which adds the key if it was
+-- absent and else removes it. `present` is true if the key is present before the first change.
 abbrev pub state_at : Bool → List ℕ → ℕ → Bool
 state_at present [] moment = present
 state_at present (m ∷ ms) moment = if nat_lt moment m then present else state_at (not present) ms moment
 
--- Returns whether a key is present at the end, if the key is added or removed at each moment of the list. `present` is
--- true if the key is present before the first of these moments.
+-- Returns whether a key is present after the last change. Each moment of the list is a change, which adds the key if
+-- it was absent and else removes it. `present` is true if the key is present before the first change.
 abbrev pub state_after : Bool → List ℕ → Bool
 state_after present [] = present
 state_after present (m ∷ ms) = state_after (not present) ms
@@ -87,8 +87,8 @@ same_key (Some a) (Some b) = a == b
 abbrev pub smallest_present : (ℕ → List ℕ) → ℕ → ℕ → Option ℕ
 smallest_present changes key m = first_passing true (λ j. is_present changes j m) key (4294967295 - key)
 
--- Returns whether, at moment `m`, `found` is the smallest present key at or above `key` (`None`: that no such key is
--- present). All keys must be below 2^32.
+-- Returns whether `found` is the smallest key at or above `key` that is present at moment `m`. If `found` is `None`:
+-- whether no such key is present. All keys must be below 2^32.
 abbrev pub has_ceiling : (ℕ → List ℕ) → ℕ → Option ℕ → ℕ → Bool
 has_ceiling changes key found m = same_key (smallest_present changes key m) found
 
@@ -99,7 +99,7 @@ changes_in opening kept = record { opening = opening; entries = map (λ (e : ℕ
 abbrev pub Increase : ChangesValue → Type 0
 Increase c = (key : ℕ) → IsStrictlyIncreasing (moments_of c key)
 
--- States that no number from 2^32 up has changes. (Such a number is not a key.)
+-- States that numbers from 2^32 up never change, since they are not keys.
 abbrev pub IsBounded : (ℕ → List ℕ) → Type 0
 IsBounded changes = (key : ℕ) → 2 ^ 32 ≤ key → changes key ≡ []
 
@@ -108,8 +108,8 @@ IsBounded changes = (key : ℕ) → 2 ^ 32 ≤ key → changes key ≡ []
 abbrev pub IsListed : BTreeMap ℕ ℕ → ℕ → ℕ → Type 0
 IsListed keys_at key moment = 0 < moment → get nat_cmp keys_at moment ≡ Some key
 
--- The invariant of the Rust type `Changes`. Its two indexes must contain all changes: `keys_at` has the key of each
--- moment of a change, and `keys_now` has each key that is present at the end. Both can have surplus entries.
+-- The invariant of the Rust type `Changes`. Both indexes are complete: `keys_at` has the key of each moment of a
+-- change, and `keys_now` has each key that is present at the end. Both can have surplus entries.
 pub record AreKept (c : ChangesValue) (keys_at : BTreeMap ℕ ℕ) (keys_now : BTreeSet ℕ) : Type 0 where
   pub opening : IsStrictlyIncreasing c.opening
   pub increase : Increase c

@@ -13,7 +13,7 @@ use Rattle.lset_history.specs.declared.fault.OrderFault.TheVariants.{Unknown, Tw
 use Rattle.lset_history.specs.declared.fault.OrderFault.TheVariants.{Memory}
 use Rattle.lset_history.specs.History.{HistoryValue}
 
--- Returns the state of a set in state `start` after the calls of an order.
+-- Returns the state of a set after the calls of an order. `start` is the state before the first call.
 abbrev pub set_left_by : SetState → List CallRecord → List Placed → SetState
 set_left_by start calls order = set_left start (map (answered calls) order)
 
@@ -24,7 +24,7 @@ pub record Explains (h : HistoryValue) (order : List Placed) (keys : List ℕ) :
   pub keys_left : keys ≡ (set_left_by (opening_set h.opening) h.calls order).keys
   pub increasing : IsStrictlyIncreasing keys
 
--- Returns the element of the order at an index, from 0. The default is never used for an index inside the order.
+-- Returns element `i` of the order, from 0. An index past the end returns a default, which no definition depends on.
 abbrev pub place_at : List Placed → ℕ → Placed
 place_at order i = slice_index_or order i (record { call = 0; reply = True })
 
@@ -61,7 +61,8 @@ pub record IsMissing (calls : List CallRecord) (order : List Placed) (number : �
   pub ended : IsSome (call_numbered calls number).ended
   pub absent : All (λ (p : Placed). p.call ≢ number) order
 
--- States that a check finds no error at any index of the order.
+-- States that a check finds no error at any index of the order. `Refuses i` states that it finds an error at index
+-- `i`.
 abbrev pub Passes : (ℕ → Type 0) → List Placed → Type 0
 Passes Refuses order = (place : ℕ) → place < length order → Refuses place → ⊥
 

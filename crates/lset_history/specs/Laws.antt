@@ -13,8 +13,8 @@ use Rattle.lset_words.specs.Account.{Content, Contents, Counts, Fits, Account}
 use Rattle.lset_history.specs.Placement.{IsPlacement}
 use Rattle.lset_words.specs.Words.{Opening}
 
--- Returns the keys of a list as a set, given by a predicate. `contents_of_lists` does this for the list of each
--- moment.
+-- Converts a list of keys to a predicate that holds for exactly these keys. `contents_of_lists` converts the list of
+-- each moment.
 abbrev pub content_of : List ℕ → Content
 content_of keys j = Contains keys j
 
@@ -63,7 +63,7 @@ IncreasesFor (call.Contains k) keys = Unit {0}
 IncreasesFor (call.Ceiling k) keys = IsStrictlyIncreasing keys
 
 -- States that [Fits] agrees with the sequential set: a reply fits these keys and this number of successful adds if and
--- only if the set returns the reply and the call changes nothing.
+-- only if the set returns the reply and does not change.
 abbrev pub FitsAreReplies : Type 0
 FitsAreReplies = (quota thread count : ℕ) (keys : List ℕ) (s : SetState) (call : Call) (reply : Reply)
     → ((j : ℕ) → Contains keys j ↔ Contains s.keys j) → IncreasesFor call s.keys → count_of s thread ≡ count

@@ -4,8 +4,8 @@ use Rattle.std.specs.Prelude.{◌≡◌, ℕ, ◌<◌, ◌≤◌, ◌==◌, nat_
 use Rattle.std.specs.Prelude.{None}
 use Rattle.lset_history.specs.Changes.{is_present, is_present_now}
 
--- States that the result has the first moment after `moment` when a key can have changed, and this key. No key changes
--- in between. `None` states that no key changes after `moment`.
+-- States that the result is the next change after `moment`: no key changes before the result's moment, and only the
+-- result's key can change at that moment. `None` states that no key changes after `moment`.
 abbrev pub IsNextNote : (ℕ → List ℕ) → ℕ → Option (ℕ × ℕ) → Type 0
 IsNextNote changes moment None = (j : ℕ) → All (λ m. m ≤ moment) (changes j)
 IsNextNote changes moment (Some n) = (moment < n.0)
@@ -17,17 +17,17 @@ abbrev pub IsNextPresent : (ℕ → List ℕ) → ℕ → Option ℕ → Type 0
 IsNextPresent changes key None = (j : ℕ) → key < j → is_present_now changes j ≡ false
 IsNextPresent changes key (Some k) = (key < k) × ((j : ℕ) → key < j → j < k → is_present_now changes j ≡ false)
 
--- Returns whether key `j` refutes the claim that, at this moment, `found` is the smallest present key at or above
--- `key`. If `found` is `None`, the claim is that no such key exists.
+-- Returns whether key `j` is a counterexample to the claim that, at this moment, `found` is the smallest present key
+-- at or above `key`. If `found` is `None`, the claim is that no such key exists.
 abbrev pub is_against : (ℕ → List ℕ) → ℕ → Option ℕ → ℕ → ℕ → Bool
 is_against changes key None j moment = if nat_lt j key then false else is_present changes j moment
 is_against changes key (Some x) j moment =
     if nat_lt j key then false else if nat_lt x j then false else if x == j then not (is_present changes j moment)
     else is_present changes j moment
 
--- States the result of the search after it has read the changes up to `last`. At each moment from `from` to just
--- before `moment`, some key refutes that `found` is the smallest present key at or above `key`. Each key that refutes
--- this at `moment` also refutes it at all moments up to `last`.
+-- States the result of the search for the first moment when `found` is the smallest present key at or above `key`,
+-- after the search has read the changes up to `last`. Each moment from `from` to just before `moment` has a
+-- counterexample (see `is_against`). A counterexample at `moment` is also one at all later moments up to `last`.
 pub record IsCandidateUpTo (changes : ℕ → List ℕ) (key : ℕ) (found : Option ℕ) (from moment last : ℕ) : Type 0 where
   pub low : from ≤ moment
   pub before : (m : ℕ) → from ≤ m → m < moment → (j : ℕ) × (is_against changes key found j m ≡ true)

@@ -32,17 +32,17 @@ use std::collections::{BTreeMap, BTreeSet};
 use std::marker::Model;
 use std::ops::Bound;
 
-/// The keys that a set had at each moment, stored as changes: the moments when each key was added and removed. At
-/// moment 0, the set contains exactly the opening keys.
+/// The changes of a set's keys in time: for each key, the moments when it was added and removed. A moment is a number
+/// that dates an event, from 1. At moment 0, before all events, the set has exactly its opening keys.
 #[derive(Drop)]
 pub struct Changes {
     alloc: Global,
-    /// The opening keys, in increasing order. The other fields do not mention moment 0.
+    /// The keys in the set at moment 0, in increasing order. `moments` and `keys_at` cover only the later changes.
     opening: Vec<u32>,
     /// For each key that changed, the moments above 0 when it was added and removed, alternately.
     moments: BTreeMap<u32, Vec<u32>>,
-    /// The key that was added or removed at each moment of a change. If an allocation fails in `note`, this map and
-    /// `keys_now` can keep an entry for the change that was not recorded.
+    /// Maps the moment of each change to the key that changed. If an allocation fails in `note`, this map and
+    /// `keys_now` can keep an extra entry, for a change that was not recorded.
     keys_at: BTreeMap<u32, u32>,
     /// The keys that the set has after the last change.
     keys_now: BTreeSet<u32>,
@@ -58,8 +58,8 @@ impl Model for Changes {
     ghost invariant = { λ c. AreKept (changes_in c.opening.items c.moments) c.keys_at c.keys_now };
 }
 
-/// Returns the number of `moments` at or before `at`; `moments` must increase strictly. The second result is the
-/// number of moments that the binary search compared with `at`.
+/// Returns how many of `moments` are at or before `at`, and how many of them the binary search compared with `at`.
+/// `moments` must increase strictly.
 fn count_upto(moments: &[u32], at: u32) -> (usize, u32)
     requires { IsStrictlyIncreasing moments.now }
     ensures count { IsCountUpTo moments.now at result.0 }
@@ -113,7 +113,8 @@ fn push_moment(
 }
 
 impl Changes {
-    /// Returns an empty record of changes, for a set that opens empty. Does not allocate; later calls use `alloc`.
+    /// Returns a record without changes, for a set that is empty at moment 0. Does not allocate; later calls use
+    /// `alloc`.
     pub fn new(alloc: Global) -> Changes
         ensures { result ≡ no_changes }
     {
@@ -126,8 +127,8 @@ impl Changes {
         }
     }
 
-    /// Returns an empty record of changes, for a set that opens with `keys`, which must be in strictly increasing
-    /// order. Allocates a copy of the keys; returns `AllocError` if that fails.
+    /// Returns a record without changes, for a set that has exactly `keys` at moment 0. `keys` must increase strictly.
+    /// Allocates a copy of the keys; returns `AllocError` if that fails.
     pub fn opened(alloc: Global, keys: &[u32]) -> Result<Changes, AllocError>
         requires { IsStrictlyIncreasing keys.now }
         ensures { IfOk result (λ c. (k : ℕ) → moments_of c k ≡ opened_moments keys.now k) }
@@ -151,8 +152,9 @@ impl Changes {
         ensures noted { OnOk result ((k : ℕ) → moments_of self.new k ≡ with_change (moments_of self.old) key at k) }
         ensures unchanged { OnErr result (self.new ≡ self.old) }
     {
-        // `key` is inserted into the two indexes before the change is recorded, and removed from `keys_now`
-        // afterwards. A failed allocation can leave a surplus entry in an index, but an index never lacks an entry.
+        // The key is inserted into both indexes before its change is recorded. A removed key is taken out of
+        // `keys_now` only afterwards. An index can therefore have a surplus entry after a failed allocation, but never
+        // lacks one.
         self.keys_at.insert(at, key)?;
         self.keys_now.insert(key)?;
         push_moment(&mut self.moments, self.alloc, key, at)?;
@@ -168,7 +170,7 @@ impl Changes {
     ///
     /// The binary search compares at most 24 moments if the key changed at most 1,000,000 times. If the key changed n
     /// times after moment 0, the search compares at least log2(n + 1) moments, rounded down. No search by comparisons
-    /// always needs fewer. Does not allocate.
+    /// can guarantee fewer. Does not allocate.
     pub fn first(&self, key: u32, present: bool, from: u32, to: u32) -> (Option<u32>, u32)
         requires { from ≤ to }
         ensures first { IsFirst (λ m. is_present (moments_of self.now) key m ≡ present) from to result.0 }
@@ -212,8 +214,8 @@ impl Changes {
         self.first(key, true, moment, moment).0.is_some()
     }
 
-    /// Returns the first entry of `keys_at` after `moment`: the moment, and the only key that can have changed then.
-    /// No key changed in between. Returns `None` if no change follows.
+    /// Returns the first entry of `keys_at` after `moment`: a moment, and the only key that can have changed at that
+    /// moment. No key changed between `moment` and the result. Returns `None` if no change comes after `moment`.
     fn note_after(&self, moment: u32) -> Option<(u32, u32)>
         ensures { IsNextNote (moments_of self.now) moment result }
     {
@@ -236,9 +238,9 @@ impl Changes {
         }
     }
 
-    /// Returns whether key `other` refutes that, at `moment`, `found` is the smallest key of the set at or above `key`
-    /// (if `found` is `None`: that no such key is in the set). A key from `key` to just below `found` refutes this if
-    /// it is present; `found` itself does if it is absent.
+    /// Returns whether key `other` is a counterexample to this claim: at `moment`, `found` is the smallest key of the
+    /// set at or above `key`. (`None` claims that there is no such key.) A key from `key` to just below `found` is a
+    /// counterexample if it is present; `found` itself is one if it is absent.
     fn is_against(&self, key: u32, found: Option<u32>, other: u32, moment: u32) -> bool
         ensures { result ≡ is_against (moments_of self.now) key found other moment }
     {
@@ -251,15 +253,16 @@ impl Changes {
     }
 
     /// Returns the only moment, from `from` on, that can be the first moment when `found` is the smallest key at or
-    /// above `key`. At each earlier moment, some key refutes this. Each key that refutes this at the returned moment
-    /// also does so at all later moments.
+    /// above `key`. Each earlier moment has a counterexample (see `is_against`). A key that is a counterexample at the
+    /// returned moment is also one at all later moments.
     fn candidate(&self, key: u32, found: Option<u32>, from: u32) -> u32
         ensures { IsCandidate (moments_of self.now) key found from result }
     {
         let mut moment = from;
         let mut last = from;
         while let Some((at, noted)) = self.note_after(last) {
-            // A key that refutes `found` at `moment` refutes it until this key changes, at the moment `at`.
+            // A key that is a counterexample at `moment` remains one until it changes. The next key to change is
+            // `noted`, at the moment `at`.
             if self.is_against(key, found, noted, moment) {
                 moment = at;
             }
@@ -268,8 +271,9 @@ impl Changes {
         moment
     }
 
-    /// Returns `false` only if some key from `key` to just below `end` was in the set at `moment`. Returns `true` only
-    /// if each key in this range that is in the set after the last change was not in the set at `moment`.
+    /// Compares the keys from `key` to just below `end` at two times: at `moment`, and after the last change. If the
+    /// result is `true`, each key that is present after the last change was absent at `moment`. If it is `false`, some
+    /// key was present at `moment`.
     fn came_after(&self, key: u32, end: Option<u32>, moment: u32) -> bool
         ensures came { IsTrue result → CameAfter (moments_of self.now) key end moment }
         ensures there { result ≡ false → IsSomeThere (moments_of self.now) key end moment }
@@ -291,8 +295,9 @@ impl Changes {
     /// `found` is `None`: when no such key is in the set). Returns `None` if there is no such moment. `from` must be
     /// at most `to`.
     ///
-    /// Reads all changes after `from`, even those after `to`. If each search is made before a change after its `to` is
-    /// recorded, the searches together take time proportional to the sum of their ranges. Does not allocate.
+    /// Reads all changes after `from`, even those after `to`. A caller should therefore search before it records
+    /// changes after `to`: all its searches together then take time proportional to the sum of their ranges. Does not
+    /// allocate.
     pub fn first_ceiling(&self, key: u32, found: Option<u32>, from: u32, to: u32) -> Option<u32>
         requires { from ≤ to }
         ensures first { IsFirst (λ m. IsCeiling (λ j. is_present (moments_of self.now) j m ≡ true) key found) from to result }

@@ -25,8 +25,8 @@ fn first_unknown(calls: &[CallRecord], order: &[Placed]) -> Option<u32>
 }
 
 /// Returns the number of the first call that occurs a second time in the order. `placed` must have one mark for each
-/// call of the history, all false. If no call is in the order twice, exactly the marks of the order's calls are true
-/// at the end.
+/// call of the history, all false. If no call is in the order twice, the marks of exactly the calls in the order are
+/// true afterwards.
 fn first_twice(order: &[Placed], placed: &mut [bool]) -> Option<u32>
     requires known { All (λ (p : Placed). p.call < length placed.old) order.now }
     requires none_set { All (λ (mark : Bool). mark ≡ false) placed.old }
@@ -62,8 +62,8 @@ fn first_missing(calls: &[CallRecord], placed: &[bool]) -> Option<u32>
     None
 }
 
-/// Makes the call on `oracle`, the sequential set. Returns whether the set returns `reply` and, if the call is
-/// completed, whether `reply` is also its reply in the history.
+/// Applies the call to `oracle`, the sequential set. Returns whether the set returns `reply` and, if the call is
+/// completed, whether `reply` is also the call's reply in the history.
 fn has_reply(oracle: &mut Oracle, call_record: CallRecord, reply: Reply) -> Result<bool, AllocError>
     requires { call_record.thread < oracle.old.threads }
     ensures answers { IfOk result (λ right. MatchBool right
@@ -79,8 +79,8 @@ fn has_reply(oracle: &mut Oracle, call_record: CallRecord, reply: Reply) -> Resu
     Ok(oracle.apply(call_record.thread, call_record.call)? == reply)
 }
 
-/// Makes the calls of the order on `oracle`, the sequential set. Returns the number of the first call with a wrong
-/// reply: a reply that differs from the reply in the history, or from the set's reply after the earlier calls.
+/// Applies the calls to `oracle`, the sequential set, in the given order. Returns the number of the first call with a
+/// wrong reply: a reply that differs from the reply in the history, or from the set's reply after the earlier calls.
 pub(crate) fn first_wrong_reply(
     oracle: &mut Oracle,
     calls: &[CallRecord],
@@ -107,7 +107,8 @@ fn is_below(end: Option<u32>, moment: u32) -> bool
     end.is_some_and(|end| end < moment)
 }
 
-/// Returns the smaller of `smallest` and the moment when a call ends. Each of them can be missing (`None`).
+/// Returns the earlier of two moments: `smallest`, and the end of a call (`ended`). Each of them can be missing
+/// (`None`).
 fn lesser(smallest: Option<u32>, ended: Option<(u32, Reply)>) -> Option<u32>
     ensures { result ≡ smallest_with smallest ended }
 {
@@ -118,8 +119,8 @@ fn lesser(smallest: Option<u32>, ended: Option<(u32, Reply)>) -> Option<u32>
     }
 }
 
-/// Returns the number of the first call that is too early in the order: a later call of the order had ended before this
-/// call began.
+/// Returns the number of the first call that is too early in the order. A call is too early if it began after the end
+/// of a call that follows it in the order.
 fn first_too_early(calls: &[CallRecord], order: &[Placed]) -> Option<u32>
     requires { HasKnownCalls calls.now order.now }
     ensures { MatchOption result

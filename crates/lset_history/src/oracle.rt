@@ -86,14 +86,14 @@ impl Oracle {
         Oracle::opened(alloc, history.threads(), history.quota(), history.opening())
     }
 
-    /// Makes `call` as thread `thread`, which must be below the number of threads, and returns the reply.
+    /// Applies `call` of thread `thread`, which must be below the number of threads, to the set. Returns the reply.
     ///
     /// - `Add` replies `False` if the key is present; else `Full` if the thread has used up its quota; else `True`.
     /// - `Remove` and `Contains` reply `True` if the key is present, else `False`.
     /// - `Ceiling` replies `At` with the smallest key at or above its argument, or `Nothing` if no key is.
     ///
-    /// Only an `Add` or a `Remove` that replies `True` changes the set. Only such an `Add` allocates. If the allocation
-    /// fails, returns `AllocError` and changes nothing.
+    /// Only an `Add` or a `Remove` that replies `True` changes the set. Only such an `Add` allocates. If the
+    /// allocation fails, returns `AllocError` and changes nothing.
     pub fn apply(&mut self, thread: u32, call: Call) -> Result<Reply, AllocError>
         requires { thread < self.old.threads }
         ensures answers { IfOk result (Answers self.old self.new thread call) }

@@ -14,14 +14,15 @@ pub fn every_call_has_a_place()
     ensures { EveryCallHasAPlace }
 {}
 
-/// Lemma: at each moment of a run with an account (each event is a valid start of a call or a valid step), the calls so
-/// far form a history. The function does nothing.
+/// Lemma: at each moment of a run with an account (each event is a valid start of a call or a valid step), the calls
+/// that have begun form a history. The function does nothing.
 pub fn logs_tell_histories()
     ensures { LogsTellHistories }
 {}
 
-/// Lemma: a reply fits the keys of a set and a thread's number of successful adds if and only if the sequential set in
-/// this state returns the reply and the call changes nothing. The function does nothing.
+/// Lemma: the two definitions of a correct reply agree. A reply `Fits` the keys of a set and a thread's number of
+/// successful adds if and only if the sequential set in this state returns the reply and does not change. The function
+/// does nothing.
 pub fn fits_are_replies()
     ensures { FitsAreReplies }
 {}

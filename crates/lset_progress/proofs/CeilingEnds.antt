@@ -1,5 +1,5 @@
--- Proof: in a fair run of LazyList, some call ends even if only `ceiling` calls are pending. While only `ceiling` calls
--- are pending, no node of the chain is marked and no word changes. Therefore each `ceiling` ends.
+-- Proof: in a fair run of LazyList, some call ends even if only `ceiling` calls are pending. Meanwhile no node of the
+-- chain is marked and no word changes, so each `ceiling` ends.
 use Rattle.std.specs.Prelude.{◌≡◌, ◌≢◌, ℕ, ◌+◌, ◌-◌, ◌<◌, ◌≤◌, ◌⊎◌, Bool, true, false, if◌then◌else◌, List, slice_index, refl}
 use Rattle.std.proofs.Common.{arith, inl, inr, sym, ◌∙◌, ap, subst, zero, suc}
 use Rattle.lset_words.proofs.Numbers.{same_or_not, if_same, if_other}

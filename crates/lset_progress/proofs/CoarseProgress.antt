@@ -26,14 +26,14 @@ use Rattle.lset_progress.proofs.Rest.{rest, few_by, fewer}
 use Rattle.lset_progress.proofs.RowsWithLocks.{Shape, Loads, RowOf, within, Only, at_row, goes, on, takes, timed, unlocks, writes}
 use Rattle.lset_progress.proofs.Standing.{Standing, stands}
 
--- Returns how many steps of a call remain after its next step. The numbers are for the rows of the step table, from row
--- 0 on.
+-- Returns an upper bound on the steps of a call that remain after its next step, when it runs alone. The list has one
+-- number for each row of the step table, from row 0 on.
 abbrev left : ℕ → (ℕ → ℕ) → Local → ℕ
 left size key l = slice_index (0 ∷ (2 * size + 2) ∷ (2 * size + 1) ∷ (2 * ahead key size (key l.curr) + 4)
     ∷ (2 * ahead key size (key l.curr) + 3) ∷ 3 ∷ 2 ∷ 1 ∷ 2 ∷ 1 ∷ 0 ∷ []) l.pc
 
--- The facts about CoarseList that the proofs of progress for all lists use. A thread can hold the lock from row 2 of
--- the step table on, and its call has decided what to change from row 5 to row 10.
+-- The facts about CoarseList that the proofs of progress shared by all lists use. A thread can hold the lock from row
+-- 2 of the step table on. At rows 5 to 10, its call has decided what to change.
 abbrev shape : Shape
 shape = record {
   may = λ l x. (x ≡ 0) × Only (nat_le 2 l.pc);

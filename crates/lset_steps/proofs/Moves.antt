@@ -113,8 +113,8 @@ pub record At20 (vs : ℕ → View) (first now k curr : ℕ) : Type 0 where
   pub low : (vs past.at).key curr < k + 1
 
 -- The assertion of a `contains` of key `k` at row 21 of the step table, before it loads the key of `curr`. The call
--- has read a link to `curr` in a node with a smaller key than `k`, and this node had this link at a moment when it was
--- in the chain.
+-- has read a link to `curr` from a node with a smaller key than `k`. At some moment of the call, this node was in the
+-- chain with this link.
 pub record At21 (vs : ℕ → View) (first now k curr : ℕ) : Type 0 where
   pub from : ℕ
   pub word : ℕ

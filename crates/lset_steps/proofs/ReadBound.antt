@@ -72,8 +72,8 @@ true_or_false : (b : Bool) → (b ≡ true) ⊎ (b ≡ false)
 true_or_false true = inl refl
 true_or_false false = inr refl
 
--- The nodes that a call has visited: `amount` nodes with numbers below `size`. All are published (have been in the
--- chain), and have key words smaller than `below`.
+-- The nodes that a call has visited: `amount` nodes, with numbers below `size` and key words below `below`. All are
+-- published, which means that they have been in the chain.
 record Tally (v : View) (size below amount : ℕ) : Type 0 where
   met : ℕ → Bool
   are : (i : ℕ) → met i ≡ true → v.published i × (v.key i < below)

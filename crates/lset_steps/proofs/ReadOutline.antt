@@ -1,6 +1,6 @@
--- The assertions of a `contains` or a `ceiling` without locks, one for each row of the step table (a proof outline).
--- Proof that each row preserves them, and that the reply is correct at some moment of the call, not necessarily in a
--- step of its own thread (after O'Hearn and others).
+-- The proof outline of a `contains` or a `ceiling` without locks: an assertion for each row of the step table. This
+-- file proves that each row preserves these assertions, and that the reply is correct at some moment of the call. At
+-- that moment, another thread can be making a step (after O'Hearn and others).
 use Rattle.std.specs.Prelude.{◌≡◌, ◌≢◌, ℕ, suc, ◌-◌, ◌==◌, if◌then◌else◌, ◌/◌, ◌%◌, ◌<◌, ◌≤◌, ◌⊎◌, Bool, false, None, List, [], refl}
 use Rattle.std.proofs.Common.{arith, inl, inr, sym, ◌∙◌, ap, subst}
 use Rattle.lset_words.proofs.Numbers.{same_or_not, below_or_not, if_below, if_not_below, if_same, if_other}
@@ -108,8 +108,8 @@ fits_lacked q vs first now t call c a = record {
 pub even_or_odd : (x : ℕ) → (x % 2 ≡ 0) ⊎ (x % 2 ≡ 1)
 even_or_odd x = grind arith
 
--- Lemmas about rows 20 to 25 of the step table, the rows of `contains` and `ceiling`, for every protocol for sharing
--- the words.
+-- Lemmas about rows 20 to 25 of the step table, the rows of `contains` and `ceiling`. They hold for every protocol by
+-- which threads share the words.
 module _ (T : Table) (P : Protocol T.marks) (At : Outline) (sz : Sizes) (t : ℕ) (vs : ℕ → View) (first now : ℕ) (ws : List ℕ)
     (used : ℕ → ℕ) (done : Bool) (l : Local)
     (h : Here T.marks sz vs now ws used) (th : Thread At sz t vs first now ws used done l)

@@ -27,8 +27,7 @@ pub due_of : (done : Bool) (q : ℕ) (vs : ℕ → View) (first now t : ℕ) (ca
     → FitsSometime q (contents_of vs) (counts_of vs) first now t call r → Due done q vs first now t call r
 due_of done q vs first now t call r unchanged fits = rw unchanged fits
 
--- Suppose that a call has not changed the set and chooses a reply that is correct now. Then the reply is correct at a
--- moment of the call.
+-- A reply that is correct now is a correct reply of the call, if the call has not changed the set.
 pub due_now : (done : Bool) (q : ℕ) (vs : ℕ → View) (first now t : ℕ) (v : View) (call : Call) (r : Reply)
     → done ≡ false → first ≤ now → vs now ≡ v → FitsIn q v t call r → Due done q vs first (suc now) t call r
 due_now done q vs first now t v call r unchanged from present fits = due_of done q vs first (suc now) t call r unchanged (record {

@@ -38,8 +38,8 @@ BoundedReads T = (op : Opening) (last k t : ℕ) (es : ℕ → Event) → Run T 
     → ReadsNext T op es k t
 
 -- [Walk was in the chain]: thread t's last call, pending or completed at moment k, has passed node a with the link
--- word l: in the step at moment `at`, the call loaded the node's link word and saw `l`. (The load of a mark is such a
--- step as well.)
+-- word l. This means: in the step at moment `at`, the call loaded the node's link word (for its link or its mark) and
+-- saw `l`.
 pub record HasPassed (T : Table) (op : Opening) (es : ℕ → Event) (k t a l : ℕ) : Type 0 where
   pub at : ℕ
   pub from : begun_at (log_of T op es) t k ≤ at

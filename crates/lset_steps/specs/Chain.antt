@@ -28,8 +28,8 @@ pub record View : Type 1 where
   pub published : ℕ → Type 0
 
 -- States that a node is published, which means that it has been in the chain at some time. The published nodes are the
--- head, the tail, the nodes of the opening keys, and the slots that the threads have used: slot j of a thread with more
--- than j successful adds.
+-- head, the tail, the nodes of the opening keys, and the slots that the threads have used. A thread with n successful
+-- adds has used its first n slots.
 abbrev pub Published : Sizes → (ℕ → ℕ) → ℕ → Type 0
 Published sz used i = (i < 2) ⊎ ((t : ℕ) × (j : ℕ) × (t < sz.threads) × (j < used t) × (i ≡ slot_node sz.quota t j))
     ⊎ ((j : ℕ) × (j < sz.opening) × (i ≡ opening_node sz j))

@@ -15,8 +15,8 @@ use Rattle.lset_steps.specs.declared.Event.TheVariants.{Go}
 use Rattle.lset_steps.specs.Steps.{Table, State, state_at, Run, local_of, seen_next, log_of, idle}
 use Rattle.lset_steps.specs.Chain.{View, view, IsOrdered, InChain, UnmarkedInChain, Changed, UnlinkedStays, Seen, contents_of, counts_of}
 
--- Returns the number of successful adds of thread `t` in state `s`. `view_of` returns the nodes and locks of a state,
--- and `views` the nodes and locks at each moment of a run.
+-- Returns the number of successful adds of thread `t` in state `s`. `view_of` returns the nodes and locks in a state,
+-- and `views` those at each moment of a run.
 abbrev pub used_in : State → ℕ → ℕ
 used_in s t = (local_of s t).used
 
@@ -34,8 +34,8 @@ word_named (Exchange w old new) = w
 abbrev pub IsLockWord : ℕ → Type 0
 IsLockWord x = (x ≡ 0) ⊎ ((i : ℕ) × (x ≡ lock_index i))
 
--- States that the private state `l` has the number and the quota of thread `t`, and that its registers are in range:
--- each is a node of the list, or a key word up to the tail's.
+-- States that the private state `l` has the number of thread `t` and the quota of the set, and that its registers are
+-- in range: each is a node of the list, or a key word up to the tail's.
 pub record Registers (sz : Sizes) (t : ℕ) (l : Local) : Type 0 where
   pub thread : l.thread ≡ t
   pub quota : l.quota ≡ sz.quota
@@ -78,17 +78,17 @@ Answered done q vs first now t call pc None = pc ≢ 0
 Answered done q vs first now t call pc (Some r) = (pc ≡ 0) × Due done q vs first now t call r
 
 -- The laws of a step that thread `t`, in private state `l`, makes between moments k and k + 1. `change` is the key
--- that the step adds or removes according to the table.
+-- that the step adds or removes according to the step table.
 pub record StepLaws (T : Table) (op : Opening) (es : ℕ → Event) (k t : ℕ) (s : State) (l : Local)
     (change : Option (Key × Bool)) : Type 0 where
-  -- The step accesses a word of the table, and no word outside it.
+  -- The step accesses one of the list's words.
   pub in_table : word_named (T.next l) < word_count (sizes op)
   -- The step writes a lock word only to take or to release the lock.
   pub lock_use : LockUse s.words t (T.next l)
   pub same_call : (T.feed l (seen_next T s t)).local.call ≡ l.call
   -- The change of the set's keys in this step is exactly `change`.
   pub content : Changed change (views T op es k) (views T op es (suc k))
-  -- The thread's pending call may make this change.
+  -- The thread's pending call is allowed to make this change.
   pub by_call : MayChange op.quota l.used l.call (has_changed (log_of T op es) t k) change
   pub counts : (T.feed l (seen_next T s t)).local.used ≡ count_after change l.used
   -- The call ends if and only if the step has a reply, and the reply is correct.
@@ -111,7 +111,7 @@ pub record BeginLaws (begin : Call → Local → Local) (call : Call) (l : Local
   pub alike : begin call l ≡ begin call (record (idle l.quota l.thread) { used = l.used })
 
 -- The law of a machine: properties of every start of a call, of every state and step of a run, and of nodes at two
--- moments of a run. `lset_steps::laws` has the consequences that a user of the law needs.
+-- moments of a run. `lset_steps::laws` derives the laws that users of a list need.
 pub record Lawful (T : Table) : Type 0 where
   pub begins : (call : Call) (l : Local) → BeginLaws T.begin call l
   pub states : (op : Opening) (last k : ℕ) (es : ℕ → Event) → Run T op es last → k ≤ last →
@@ -122,8 +122,8 @@ pub record Lawful (T : Table) : Type 0 where
   pub unlinked_stays : (op : Opening) (last j k i : ℕ) (es : ℕ → Event) → Run T op es last → j ≤ k → k ≤ last
       → (views T op es j).published i
       → UnlinkedStays T.marks (views T op es j) (views T op es k) i
-  -- If a node is in the chain at moment `j`, then its link at a later moment `k` is a link that the node had while it
-  -- was in the chain, at some moment from `j` to `k`.
+  -- If a node is in the chain at moment `j`, its link at a later moment `k` is a link that it had at some moment from
+  -- `j` to `k`, while it was in the chain.
   pub seen_before : (op : Opening) (last j k b : ℕ) (es : ℕ → Event) → Run T op es last → j ≤ k → k ≤ last
       → InChain (views T op es j) b
       → Seen (views T op es) j k b ((views T op es k).link b)

@@ -1,5 +1,5 @@
 -- The consequences of the law of a machine, each with its own name. In all of them, `op` has the threads, quota and
--- opening keys of the set, `es` are the events of a run of `last` events, and `k` is a moment (the state after `k`
+-- opening keys of the set, the run has the first `last` events of `es`, and `k` is a moment (the state after `k`
 -- events).
 use Rattle.std.specs.Prelude.{◌≡◌, ◌≢◌, ℕ, zero, suc, ◌+◌, ◌%◌, ◌^◌, ◌<◌, ◌≤◌, ◌⊎◌, true, false, if◌then◌else◌, ◌==◌, List, []}
 use Rattle.std.specs.Prelude.{◌∷◌, ◌++◌, map, Option, Some, Contains, slice_index}
@@ -23,7 +23,7 @@ use Rattle.lset_steps.specs.Laws.{Registers, IsLockWord, LockUse, word_named, vi
 use Rattle.lset_steps.specs.Worlds.{IsContent}
 
 -- [In range]: states that the registers of thread `t` (the nodes and key words in its private state) are in range. If
--- the thread has a pending call, its next step accesses a word of the table.
+-- the thread has a pending call, its next step accesses one of the list's words.
 pub record ThreadInRange (T : Table) (sz : Sizes) (t : ℕ) (l : Local) : Type 0 where
   pub registers : Registers sz t l
   pub action : l.pc ≢ 0 → word_named (T.next l) < word_count sz
@@ -32,8 +32,8 @@ abbrev pub InRange : Table → Type 0
 InRange T = (op : Opening) (last k t : ℕ) (es : ℕ → Event) → Run T op es last → k ≤ last → t < op.threads
     → ThreadInRange T (sizes op) t (local_of (state_at T op es k) t)
 
--- [Sorted chain]: states that the chain reaches the tail, and that the keys along the chain increase strictly, up to
--- and including the tail's.
+-- [Sorted chain]: states that the chain reaches the tail, and that the keys along the chain, including the tail's,
+-- increase strictly.
 pub record ChainIsSorted (v : View) : Type 0 where
   pub nodes : List ℕ
   pub chain : IsChain v nodes
@@ -42,9 +42,8 @@ pub record ChainIsSorted (v : View) : Type 0 where
 abbrev pub SortedChain : Table → Type 0
 SortedChain T = (op : Opening) (last k : ℕ) (es : ℕ → Event) → Run T op es last → k ≤ last → ChainIsSorted (views T op es k)
 
--- [Lock words]: returns lock word `x` after an action of thread `t`. `old` is the word before the action. A lock word
--- is `t + 1` from the step in which thread `t` takes the lock until the store of 0 that releases it, and 0 at all
--- other times.
+-- [Lock words]: returns lock word `x` after an action of thread `t`. `old` is the word before the action. A successful
+-- exchange takes the lock and sets the word to `t + 1`. A store releases the lock and sets the word to 0.
 abbrev pub held : ℕ → ℕ → ℕ → Action → ℕ
 held x t old (Load w) = old
 held x t old (Store w v) = if w == x then 0 else old
@@ -55,8 +54,7 @@ abbrev pub held_after : Table → State → ℕ → ℕ → Event → ℕ
 held_after T s x old (Begin t call) = old
 held_after T s x old (Go t) = held x t old (T.next (local_of s t))
 
--- Returns lock word `x` at each moment of a run, computed only from the attempts to take the lock and the stores that
--- release it.
+-- Returns lock word `x` at each moment of a run, computed only from the actions that take and release the lock.
 abbrev pub holder : Table → Opening → (ℕ → Event) → ℕ → ℕ → ℕ
 holder T op es x zero = 0
 holder T op es x (suc k) = held_after T (state_at T op es k) x (holder T op es x k) (es k)
@@ -72,14 +70,14 @@ abbrev pub LockUses : Table → Type 0
 LockUses T = (op : Opening) (last k t : ℕ) (es : ℕ → Event) → Run T op es last → k < last → es k ≡ Go t
     → LockUse (state_at T op es k).words t (T.next (local_of (state_at T op es k) t))
 
--- [Unlinked stays]: states that a node that is published at moment j, which means that it has been in the chain, has
--- the same key at each later moment k. If the node is unlinked at j, it is unlinked at k and has the same link. In a
--- list that marks nodes, a node that is marked at j has the same link at k.
+-- [Unlinked stays]: compares node i at moment j and at a later moment k. The node must be published at j, which means
+-- that it has been in the chain. At k, it has the same key. If it was unlinked at j, it is unlinked at k and has the
+-- same link. In a list that marks nodes, a node that was marked at j has the same link at k.
 abbrev pub UnlinkedNodesStay : Table → Type 0
 UnlinkedNodesStay T = (op : Opening) (last j k i : ℕ) (es : ℕ → Event) → Run T op es last → j ≤ k → k ≤ last
     → (views T op es j).published i → UnlinkedStays T.marks (views T op es j) (views T op es k) i
 
--- [Frozen]: states that the link word of node i never changes from moment k to the end of the run.
+-- [Frozen]: states that the link word of node i does not change from moment k to the end of the run.
 abbrev pub IsFrozen : Table → Opening → ℕ → (ℕ → Event) → ℕ → ℕ → Type 0
 IsFrozen T op last es k i = (later : ℕ) → k ≤ later → later ≤ last → (views T op es later).link i ≡ (views T op es k).link i
 
@@ -111,9 +109,9 @@ NoLinkIsMarked T = (op : Opening) (last k i : ℕ) (es : ℕ → Event) → Run 
     i < node_count (sizes op)
     → (views T op es k).link i % 2 ≡ 0
 
--- [Named change]: states how entry k of a log, the event between moments k and k + 1, changes the keys of the set and
--- each thread's number of successful adds. Only the thread's own pending call can make the change, and each call makes
--- at most one change.
+-- [Named change]: states how entry k of a log (the event between moments k and k + 1) changes the keys of the set and
+-- each thread's number of successful adds. Only a step of a pending call can make a change, and each call makes at
+-- most one.
 abbrev pub ChangeIsNamed : ℕ → ℕ → Log → Contents → Counts → ℕ → Entry → Type 0
 ChangeIsNamed threads quota log contents counts k (began t call) =
     Same (contents k) (contents (suc k))

@@ -10,8 +10,8 @@ use Rattle.lset_steps.specs.declared.Fed.{Fed}
 use Rattle.lset_steps.specs.Steps.{Table}
 use Rattle.lset_steps.specs.ReadRows.{begun_reading, continued, read_key, read_mark, ceiling_key, ceiling_mark}
 
--- States the behaviour of row `pc` of the step table: the thread's next action is `acts`, its state and reply after
--- the action are `feeds`, and the change of the set is `tells`.
+-- States the behaviour of row `pc` of the step table: `acts` is the thread's next action, `feeds` returns the state
+-- and the reply after this action, and `tells` returns the change of the set.
 abbrev pub Does : Table → ℕ → (Local → Action) → (Local → ℕ → Fed) → (Local → ℕ → Option (Key × Bool)) → Type 0
 Does T pc acts feeds tells = (l : Local) → l.pc ≡ pc
     → (T.next l ≡ acts l) × ((seen : ℕ) → (T.feed l seen ≡ feeds l seen) × (T.effect l seen ≡ tells l seen))
@@ -24,13 +24,13 @@ nothing l seen = None
 -- at these rows.
 pub record HasReading (T : Table) : Type 0 where
   pub begins : (call : Call) (l : Local) → T.begin call l ≡ begun_reading call l
-  -- A `contains` loads the link of a node. It starts at the head.
+  -- Row 20: a `contains` loads the link of a node. It starts at the head.
   pub row_20 : Does T 20 (λ l. Load (link_index l.curr)) (λ l seen. continued (record l { pc = 21; curr = seen / 2 })) nothing
-  -- A `contains` loads the key of the next node, and compares this key with its own.
+  -- Row 21: a `contains` loads the key of the next node, and compares this key with its own.
   pub row_21 : Does T 21 (λ l. Load (key_index l.curr)) read_key nothing
-  -- A `contains` that has found its key loads the node's mark, and replies.
+  -- Row 22: a `contains` that has found its key loads the node's mark, and replies.
   pub row_22 : Does T 22 (λ l. Load (link_index l.curr)) read_mark nothing
-  -- Rows 23 to 25 do the same for a `ceiling`. It also stores the key word, and starts again from the head if it stops
+  -- Rows 23 to 25: the same for a `ceiling`. It also stores the key word, and starts again from the head if it stops
   -- at a marked node.
   pub row_23 : Does T 23 (λ l. Load (link_index l.curr)) (λ l seen. continued (record l { pc = 24; curr = seen / 2 })) nothing
   pub row_24 : Does T 24 (λ l. Load (key_index l.curr)) ceiling_key nothing

@@ -29,9 +29,9 @@ goes_to pc reply l = record l { pc = pc; reply = reply }
 abbrev pub ceiling_at : ℕ → Reply
 ceiling_at word = if nat_lt word tail_word then At (record { 0 = word - 1 }) else Nothing
 
--- Decides how a call continues, depending on whether its key was found and whether the thread's quota allows another
--- add (`room`). An `add` or a `remove` that will change the set continues at row `adds` or `removes` of the step
--- table. All other calls get their reply now, and continue at row `leaves`.
+-- Decides how a call continues after its walk. `found` is true if the walk found the call's key, `room` if the
+-- thread's quota allows another add. An `add` or a `remove` that will change the set continues at row `adds` or
+-- `removes` of the step table. All other calls get their reply now, and continue at row `leaves`.
 abbrev pub decided : ℕ → ℕ → ℕ → Call → Bool → Bool → ℕ → Local → Local
 decided adds removes leaves (Add k) found room key l =
     if found then goes_to leaves (Some False) l else if room then goes_to adds None l else goes_to leaves (Some Full) l
@@ -40,7 +40,8 @@ decided adds removes leaves (Contains k) found room key l = if found then goes_t
     else goes_to leaves (Some False) l
 decided adds removes leaves (Ceiling k) found room key l = goes_to leaves (Some (ceiling_at key)) l
 
--- Decides how a call continues at `key`, the first key word that is not smaller than the call's own.
+-- Decides how a call continues after its walk stopped at `key`, the first key word that is not smaller than the call's
+-- own.
 abbrev pub decided_on : Targets → ℕ → Local → Local
 decided_on rows key l = decided rows.adds rows.removes rows.leaves l.call (key == target l.call) (nat_lt l.used l.quota) key l
 

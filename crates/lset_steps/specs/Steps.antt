@@ -17,9 +17,9 @@ use Rattle.lset_steps.specs.declared.Told.{Told}
 use Rattle.lset_steps.specs.declared.Event.{Event}
 use Rattle.lset_steps.specs.declared.Event.TheVariants.{Begin, Go}
 
--- A machine: a list set as a table of steps. `begin` begins a call, `next` is the thread's next access to a word,
--- `feed` is the thread's state and reply after the access, and `effect` is the key that the step adds or removes.
--- `marks` is true if the list marks nodes before it unlinks them.
+-- A machine: a list set as a table of steps. `begin` returns a thread's state at the start of a call, `next` the
+-- thread's next access to a word, `feed` the state and reply after the access, and `effect` the key that the step adds
+-- or removes. `marks` is true if the list marks nodes before it unlinks them.
 pub record Table : Type 0 where
   pub marks : Bool
   pub begin : Call → Local → Local

@@ -17,8 +17,8 @@ pub record WorldState : Type 0 where
   pub sizes : Sizes
   pub state : State
 
--- States that the state of a world is the last state of a run that opened with the world's numbers of threads, slots
--- and opening keys.
+-- States that the state of a world is the final state of some run. The run's set opens with the world's sizes: its
+-- numbers of threads, slots and opening keys.
 pub record IsRun (T : Table) (w : WorldState) : Type 0 where
   pub opening : Opening
   pub of_sizes : sizes opening ≡ w.sizes
@@ -32,8 +32,7 @@ abbrev pub thread_of : Event → ℕ
 thread_of (Begin t call) = t
 thread_of (Go t) = t
 
--- States that this is the error returned for an event that is not enabled. If several errors apply, it is the first of
--- NoThread, Busy and Idle.
+-- States which error is returned for an event that is not enabled: the first of NoThread, Busy and Idle that applies.
 abbrev pub Refused : WorldState → Event → StepFault → Type 0
 Refused w e NoThread = w.sizes.threads ≤ thread_of e
 Refused w (Begin t call) Busy = (t < w.sizes.threads) × ((local_of w.state t).pc ≢ 0)
@@ -77,13 +76,13 @@ key_alone k = k.key
 abbrev pub unmarked_keys : List ChainKey → List ℕ
 unmarked_keys keys = map key_alone (filter is_unmarked keys)
 
--- States that the relation `answers` allows only the answers of the function `pick`. (The proof of `World::walk` knows
--- its closure only through such a relation, the closure's contract.)
+-- States that the relation `answers` allows only the results of the function `pick`. (The proof of `World::walk` knows
+-- its closure only by its contract, which is such a relation.)
 abbrev pub AnswersAs : {A : Type 0} → (ChainKey → Option A → Type 0) → (ChainKey → Option A) → Type 0
 AnswersAs {A} answers pick = (met : ChainKey) (answer : Option A) → answers met answer → answer ≡ pick met
 
--- States that `items` are the results other than `None` of a function `pick` on the keys along the chain, in this
--- order. The function is known only through the relation `answers` between keys and results.
+-- States that `items` are the results of a function `pick` on the keys along the chain, in this order and without
+-- `None`. The function is known only through the relation `answers` between keys and results.
 pub record IsPickedFromChain {A : Type 0} (answers : ChainKey → Option A → Type 0) (v : View) (items : List A) : Type 0 where
   pub nodes : List ℕ
   pub is_chain : IsChain v nodes

@@ -22,7 +22,7 @@ ghost use Rattle.lset_steps.specs.Promises.{
 use crate::{Machine, OpenReads};
 
 /// Lemma: at each moment of a run, the registers of each thread (the nodes and key words in its private state) are in
-/// range, and the next step of a pending call accesses a word of the table.
+/// range, and the next step of a pending call accesses one of the list's words.
 pub fn in_range<M: Machine>()
     ensures { InRange M.table }
 {}
@@ -45,8 +45,8 @@ pub fn lock_uses<M: Machine>()
     ensures { LockUses M.table }
 {}
 
-/// Lemma: a node that has been in the chain at some time (published) keeps its key. An unlinked node keeps its link and
-/// stays out of the chain. In a list that marks nodes, a marked node keeps its link. (Heller and others, for their lazy
+/// Lemma: a published node (one that has been in the chain) keeps its key. An unlinked node keeps its link and stays
+/// out of the chain. In a list that marks nodes, a marked node keeps its link. (Heller and others, for their lazy
 /// list; Harris, for marks.)
 pub fn unlinked_nodes_stay<M: Machine>()
     ensures { UnlinkedNodesStay M.table }
@@ -58,8 +58,8 @@ pub fn frozen_nodes<M: Machine>()
     ensures { FrozenNodes M.table }
 {}
 
-/// Lemma: if a node was in the chain at some moment, each link that is later read from the node is a link that it had
-/// while it was in the chain, at that moment or later. (O'Hearn and others' hindsight.)
+/// Lemma: if a node was in the chain at some moment, then any link read from it later is a link that the node had at
+/// that moment or later, while it was in the chain. (O'Hearn and others' hindsight.)
 pub fn seen_in_the_past<M: Machine>()
     ensures { SeenInThePast M.table }
 {}
@@ -76,9 +76,9 @@ pub fn no_link_is_marked<M: Machine>()
     ensures { NoLinkIsMarked M.table }
 {}
 
-/// Lemma: the keys of the set change only in a step that has a key as its effect, and only by this key. Only an `Add`
-/// of the key can add it, and only while its thread is below its quota. Only a `Remove` of the key can remove it. A
-/// call changes the set at most once. (Herlihy and Shavit's linearization points of calls that change the set.)
+/// Lemma: the keys of the set change only in a step whose effect is a key, and only this key changes. Only an `Add` of
+/// the key can add it, and only while its thread is below its quota. Only a `Remove` of the key can remove it. A call
+/// changes the set at most once. (Herlihy and Shavit's linearization points of calls that change the set.)
 pub fn named_change<M: Machine>()
     ensures { NamedChange M.table }
 {}
@@ -96,14 +96,14 @@ pub fn true_means_change<M: Machine>()
     ensures { TrueMeansChange M.table }
 {}
 
-/// Lemma: every run has an account. It states how each event changes the keys of the set and that each reply is
-/// correct, and mentions no nodes and no locks. (A form of Herlihy and Wing's linearizability.)
+/// Lemma: every run has an account, which states how each event changes the keys of the set and that each reply is
+/// correct. An account mentions no nodes and no locks. (A form of Herlihy and Wing's linearizability.)
 pub fn has_account<M: Machine>()
     ensures { HasAccount M.table }
 {}
 
-/// Lemma: at each moment of a run, the keys of the set are one list in strictly increasing order. (Herlihy and Shavit's
-/// abstraction map.)
+/// Lemma: at each moment of a run, some list in strictly increasing order has exactly the keys of the set. (Herlihy
+/// and Shavit's abstraction map.)
 pub fn listed_content<M: Machine>()
     ensures { ListedContent M.table }
 {}

@@ -1,5 +1,5 @@
-//! Step machines (list sets that are described one atomic step at a time), and worlds, which run the machines event by
-//! event.
+//! Step machines: list sets described as tables of atomic steps, one row for each step. A world runs a machine event
+//! by event.
 #![tactic(auto)]
 
 ghost use Rattle.std.specs.Prelude.{◌≡◌, ◌+◌, ◌*◌, ◌<◌};
@@ -16,9 +16,11 @@ mod world;
 use lset_words::{Call, Key, Kind, Layout, Reply};
 pub use world::{ChainKey, StepFault, World, opening_words};
 
-/// The private state of a thread: its number, its quota and its number of used slots; its call and the reply; the
-/// program counter `pc`, which is the next row of the step table (0 if no call is pending); and the registers `pred`
-/// to `ckey`, which are nodes and key words.
+/// The private state of a thread:
+/// - its number, its quota, and the number of slots (nodes for its adds) that it has used;
+/// - its call and the call's reply;
+/// - the program counter `pc`: the next row of the step table, or 0 if no call is pending;
+/// - the registers `pred` to `ckey`: nodes and key words.
 #[derive(Clone, Copy)]
 pub struct Local {
     pub thread: u32,
@@ -106,7 +108,8 @@ pub trait Machine {
 
     ghost table: { Table };
 
-    /// Returns the private state of a thread after it begins `call`. The thread must have no pending call.
+    /// Returns the private state of a thread after it begins `call`. `local` is its state before; no call may be
+    /// pending.
     fn begin(call: Call, local: &Local) -> Local
         ensures { result ≡ table.begin call local.now };
 

@@ -27,7 +27,7 @@ pub fn try_lock(node: u64, local: &Local) -> Action
     Action::Exchange(lock_index(node), 0, u64::from(local.thread) + 1)
 }
 
-/// Returns the private state of a thread that begins a call at row `pc` of the step table. All registers are 0.
+/// Returns the private state of a thread that begins a call at row `pc` of the step table. The registers are 0.
 #[inline(always)]
 pub fn begun(pc: u8, call: Call, local: &Local) -> Local
     ensures { result ≡ begun pc call local.now }

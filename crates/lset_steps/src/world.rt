@@ -154,7 +154,7 @@ pub fn opening_words(alloc: Global, layout: &Layout, keys: &[u32]) -> Result<Vec
     for i in 0..9 {
         words.push(opening_word_at(layout, keys, i))?;
     }
-    // All words of slots (nodes that no add has used yet) are 0. One fill writes them all.
+    // The words of all slots (nodes that no add has used yet) are 0. `resize` writes them all at once.
     words.resize(behind_slots as usize, 0)?;
     for i in behind_slots..words_in_all {
         words.push(opening_word_at(layout, keys, i))?;
@@ -195,7 +195,7 @@ fn access(words: &mut Vec<u64>, action: Action) -> u64
     }
 }
 
-/// Returns the value that an access will see, without performing the access.
+/// Returns the value that an action would see now, without performing the action.
 fn sight(words: &[u64], action: Action) -> u64
     requires { word_named action < length words.now }
     ensures { result ≡ seen_by words.now action }
@@ -207,8 +207,8 @@ fn sight(words: &[u64], action: Action) -> u64
 }
 
 impl<M: Machine> World<M> {
-    /// Returns a list that opens empty, before any event: no thread has a pending call. The layout must have no opening
-    /// keys. Allocates the words and the threads' states. If an allocation fails, returns `AllocError`.
+    /// Returns an empty list before any event: no thread has a pending call. The layout must have no opening keys.
+    /// Allocates the words and the threads' states. If an allocation fails, returns `AllocError`.
     pub fn new(alloc: Global, layout: Layout) -> Result<World<M>, AllocError>
         requires { layout.opening ≡ 0 }
         ensures { IfOk result (λ w. w ≡ record {
@@ -219,10 +219,9 @@ impl<M: Machine> World<M> {
         World::opened(alloc, layout, &[])
     }
 
-    /// Returns a list that opens with `keys`, before any event: no thread has a pending call. `keys` must contain
-    /// exactly `layout.opening()` keys, in strictly increasing order. These keys are in the set from moment 0, and any
-    /// thread can remove them. Allocates the words and the threads' states. If an allocation fails, returns
-    /// `AllocError`.
+    /// Returns a list that contains `keys`, before any event: no thread has a pending call. `keys` must contain
+    /// exactly `layout.opening()` keys, in strictly increasing order. Any thread can remove these keys. Allocates the
+    /// words and the threads' states. If an allocation fails, returns `AllocError`.
     pub fn opened(alloc: Global, layout: Layout, keys: &[u32]) -> Result<World<M>, AllocError>
         requires many { length keys.now ≡ layout.opening }
         requires rising { IsStrictlyIncreasing keys.now }
@@ -249,7 +248,7 @@ impl<M: Machine> World<M> {
         self.words[w as usize]
     }
 
-    /// Returns whether thread `t` has a pending call. `t` must be below the number of threads.
+    /// Returns whether thread `t`, which must be below the number of threads, has a pending call.
     pub fn busy(&self, t: u32) -> bool
         requires { t < self.now.sizes.threads }
         ensures { IsTrue result ↔ ((local_of self.now.state t).pc ≢ 0) }
@@ -403,8 +402,9 @@ impl<M: Machine> World<M> {
         }
     }
 
-    /// Makes the next step of a thread at row `PC` of the step table. Since `PC` is a constant, the compiler keeps only
-    /// this row of the machine's functions, and writes only the parts of the thread's state that this row changes.
+    /// Makes the next step of a thread at row `PC` of the step table. Since `PC` is a constant, the compiler keeps
+    /// only this row of the machine's functions, and the step writes only the fields of the thread's state that this
+    /// row changes.
     #[inline(always)]
     fn go_at<const PC: u8>(&mut self, t: u32) -> Told
         requires call { Enabled self.old.state (Event.Go t) }
