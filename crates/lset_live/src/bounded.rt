@@ -11,24 +11,24 @@ use lset_rule::{OwnSlots, Pause, Rounds, TableSeat, Words, interpret_within};
 use lset_steps::Machine;
 use lset_words::{Call, Reply};
 
-/// A list with calls on shared words that limit the rounds of each loop.
+/// A list whose calls on shared words limit the rounds of each loop.
 ///
 /// A list with a step table (`Machine`) can implement this trait without a body: `impl Bounded for MyList {}`. It then
 /// uses the interpreter (`lset_rule::interpret_within`). A list can also provide its own body under the same contract,
 /// as the five lists do.
 ///
-/// - Precondition `MayCall`: `place` is a seat on the words `table` without a pending call, and `slots` are the slots of
-///   its thread.
-/// - Postcondition `HasCalled`: `place` is still the same seat, the returned slots are the slots of its thread, and exactly
-///   this call has been added to the seat's record. The call started after all events that the seat had seen, and has
-///   ended. If `None` is returned, nothing is ensured.
+/// - Precondition `MayCall`: `place` is a seat on the words `table` without a pending call, and `slots` are the slots
+///   of its thread.
+/// - Postcondition `HasCalled`: `place` is still the same seat, the returned slots are the slots of its thread, and
+///   exactly this call has been added to the seat's record. The call started after all events that the seat had seen,
+///   and has ended. If `None` is returned, nothing is ensured.
 pub trait Bounded: Machine {
-    /// Makes a call of any kind, with at most `N::MOST` rounds in each loop. (A `contains` of LazyList and LockFreeList
-    /// makes as many rounds as it needs.) `place` is an idle seat on the words `table`, and `slots` are the slots of
-    /// its thread (nodes for keys that it adds). Returns the slots after the call, and the reply.
+    /// Executes a call of any kind, with at most `N::MOST` rounds in each loop. (A `contains` of LazyList and
+    /// LockFreeList makes as many rounds as it needs.) `place` is an idle seat on the words `table`, and `slots` are
+    /// the slots of its thread (nodes for keys that it adds). Returns the slots after the call, and the reply.
     ///
-    /// Returns `None` if a loop has made all its rounds. The call is then still pending and holds its locks, and the
-    /// seat can make no other call.
+    /// Returns `None` if a loop has made all its rounds. The call is then still pending and holds its locks, and no
+    /// other call can start from the seat.
     fn make_within<P: Pause, N: Rounds>(
         table: &Words<Self>,
         place: &mut TableSeat,

@@ -61,7 +61,8 @@ fn open_on<M: Machine>(
 }
 
 /// Opens an empty set with `seats` seats (1 to `MOST_THREADS`). Seat `t` calls as thread `t`, and can add `quota` keys
-/// (0 to `MOST_QUOTA`). Allocates all memory of the set. After that, only `Closed::keys` allocates.
+/// (0 to `MOST_QUOTA`). Allocates all memory of the set. After that, only the vector of the final keys can need an
+/// allocation.
 ///
 /// Returns `OpenFault::Seats` if `seats` is out of range, else `OpenFault::Quota` if `quota` is out of range. Returns
 /// `OpenFault::Memory` if an allocation fails.

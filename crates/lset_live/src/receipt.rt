@@ -9,7 +9,8 @@ use lset_rule::{GiveReceipt, Learn, TableSeat, TakeReceipt};
 use lset_steps::Machine;
 use std::marker::{Model, PhantomData};
 
-/// A receipt from a running set: the events that a seat had seen when it issued the receipt. A receipt makes no calls.
+/// A receipt from a running set: the events that a seat had seen when it issued the receipt. No call can be made from
+/// a receipt.
 ///
 /// A thread sends a receipt to another thread by any channel. Once the receiver has passed the receipt to
 /// `LiveSet::after`, the receiver's later calls start after all events in the receipt. A receipt is zero-sized, can be
@@ -67,9 +68,9 @@ impl<M: Machine> LiveSet<M> {
     }
 
     /// Adds the events in `receipt` to the events that `seat` has seen. Both must belong to this set. The seat's later
-    /// calls start after all events in the receipt. In each order that explains these calls, the calls that had ended
-    /// in the receipt's events precede them (`receipts_keep_order`). The seat's record and the seats that it holds do
-    /// not change. Does not block or allocate.
+    /// calls start after all events in the receipt. In each order that explains these calls, they come after all calls
+    /// that had ended in the receipt's events (`receipts_keep_order`). The seat's record and the seats that it holds
+    /// do not change. Does not block or allocate.
     pub fn after(&self, seat: &mut Seat<M>, receipt: Receipt<M>)
         requires seat { seat.old.set ≡ self.now }
         requires receipt { receipt.set ≡ self.now }

@@ -13,13 +13,13 @@ use lset_steps::OpenReads;
 use lset_words::{Call, Key, Reply};
 use std::sync::Wait;
 
-/// A list with calls on shared words that can block.
+/// A list whose calls on shared words can block.
 ///
 /// A list that is `Bounded` implements this trait without a body: `impl Running for MyList {}`.
 pub trait Running: Bounded {
-    /// Makes a call of any kind, with as many rounds as it needs. Blocks with the runtime `rt` while another thread
-    /// holds a lock that the call needs. The other arguments, the precondition and the postcondition are the same as in
-    /// `Bounded::make_within`.
+    /// Executes a call of any kind, with as many rounds as it needs. Blocks with the runtime `rt` while another thread
+    /// holds a lock that the call needs. The other arguments, the precondition and the postcondition are the same as
+    /// in `Bounded::make_within`.
     fn make_on<R: Wait, P: Pause>(
         rt: &R,
         table: &Words<Self>,
@@ -46,12 +46,13 @@ impl Running for LazyList {}
 
 impl Running for LockFreeList {}
 
-/// A list with a `contains` on shared words that does not block.
+/// A list whose `contains` on shared words does not block.
 ///
 /// A list with bounded reads (`OpenReads`) implements this trait without a body. It then uses the interpreter
 /// (`lset_rule::interpret_read`).
 pub trait OpenContains: Bounded + OpenReads {
-    /// Makes a `contains` of `key` in at most `OpenReads::bound` steps. Cannot block: it has no runtime to wait with.
+    /// Executes a `contains` of `key` in at most `OpenReads::bound` steps. Cannot block: it has no runtime to wait
+    /// with.
     fn contains_now_on(
         table: &Words<Self>,
         place: &mut TableSeat,
@@ -87,7 +88,7 @@ impl OpenContains for LockFreeList {
     }
 }
 
-/// A list with calls on shared words that can block, except its `contains`, which never blocks.
+/// A list whose calls on shared words can block, except `contains`, which never blocks.
 pub trait RunningReads: Running + OpenReads + OpenContains {}
 
 impl RunningReads for LazyList {}

@@ -100,13 +100,13 @@ impl<M: Machine> LiveSet<M> {
 }
 
 impl<M: Running> LiveSet<M> {
-    /// Makes the call from `seat`, which must belong to this set. Calls `pause` after each step of the call except the
-    /// last. Returns the reply.
+    /// Executes the call from `seat`, which must belong to this set. Calls `pause` after each step of the call except
+    /// the last. Returns the reply.
     ///
     /// Appends the call with its reply to the seat's record. The call starts after all events that the seat had seen.
-    /// Afterwards, the last event that the seat has seen is the last step of the call. The calls in the events that the
-    /// seat has seen have a linearization (Herlihy and Wing) that agrees with the record. Can block while another
-    /// thread holds a lock that the call needs. Does not allocate.
+    /// Afterwards, the last step of the call is the last event that the seat has seen. All calls in these events have
+    /// a linearization (Herlihy and Wing) that agrees with the record. Can block while another thread holds a lock
+    /// that the call needs. Does not allocate.
     pub fn call<R: Wait, P: Pause>(
         &self,
         rt: &R,
@@ -169,7 +169,7 @@ impl<M: Running> LiveSet<M> {
 }
 
 impl<M: Bounded> LiveSet<M> {
-    /// Makes the call from `seat`, which must belong to this set, with at most `N::MOST` rounds in each loop of the
+    /// Executes the call from `seat`, which must belong to this set, with at most `N::MOST` rounds in each loop of the
     /// call. Needs no runtime. In LazyList and LockFreeList, a `contains` walks without blocking and makes as many
     /// rounds as it needs. Returns the seat and the reply, which satisfy the postcondition of `call`.
     ///
@@ -210,8 +210,8 @@ impl<M: Bounded> LiveSet<M> {
 }
 
 impl<M: Machine> LiveSet<M> {
-    /// Merges the seat `from` into the seat `into`, with its record, the seats that it holds, and the events that it
-    /// has seen. Both seats must belong to this set. In each order that agrees with the record of `into`, the calls of
+    /// Merges the seat `from` into the seat `into`: its record, the seats that it holds, and the events that it has
+    /// seen. Both seats must belong to this set. In each order that agrees with the record of `into`, the calls of
     /// `from` precede the later calls of `into`.
     pub fn gather(&self, into: &mut Seat<M>, from: Seat<M>)
         requires into { into.old.set ≡ self.now }
@@ -322,7 +322,7 @@ impl<M: OpenContains> LiveSet<M> {
     /// Returns whether `key` is in the set, without blocking or allocating. `seat` must belong to this set.
     ///
     /// The call is wait-free: whatever other threads do, it makes at most `bound` steps, each of them a load
-    /// (`lset_steps::OpenReads`). Unlike `contains_now`, it also exists for a list that is not `Running`.
+    /// (`lset_steps::OpenReads`). Unlike `contains_now`, this function also exists for lists that are not `Running`.
     pub fn contains_within_bound(&self, seat: &mut Seat<M>, key: Key) -> bool
         requires { seat.old.set ≡ self.now }
         ensures answered { HasAnswered M.table self.now seat.old (Contains key) (reply_of result) seat.new }

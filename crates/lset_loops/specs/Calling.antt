@@ -62,8 +62,8 @@ abbrev pub feeds : Table → Local → List (ℕ × ℕ) → Local
 feeds m l [] = l
 feeds m l ((word, value) ∷ more) = feeds m (m.feed l value).local more
 
--- States that these stores, given as (word, value) pairs, are the next steps according to the step table if the thread
--- has the private state `l`, and that no store ends the call.
+-- States that a thread in the private state `l` makes these stores, given as (word, value) pairs, as its next steps
+-- according to the step table, and that no store ends the call.
 abbrev pub Stores : Table → Local → List (ℕ × ℕ) → Type 0
 Stores m l [] = Unit {0}
 Stores m l ((word, value) ∷ more) = (Store word value ≡ m.next l) × ((n : ℕ) → (m.feed l n).answer ≡ None)
@@ -117,8 +117,8 @@ StandsAfter m b f s = MatchOption f.answer (Holds m b f.local s) (λ r. Answered
 abbrev pub HasTold : Table → Begun → TableSeat → ℕ → TableSeat → Type 0
 HasTold m b s n s' = (l : Local) → Holds m b l s → (f : Fed) → m.feed l n ≡ f → StandsAfter m b f s'
 
--- States that the compare-and-exchange from seat s to s' saw `old` if it succeeded, or another value if it failed. Call
--- b has then ended or continues, as the step table demands for the value seen.
+-- States that the compare-and-exchange from seat s to s' saw `old` if it succeeded, and another value if it failed.
+-- Call b has then ended or continues, as the step table demands for the value seen.
 abbrev pub HasExchanged : Table → Begun → ℕ → TableSeat → Bool → TableSeat → Type 0
 HasExchanged m b old s true s' = HasTold m b s old s'
 HasExchanged m b old s false s' = (n : ℕ) × (n ≢ old) × HasTold m b s n s'
@@ -131,7 +131,7 @@ pub record Rest : Type 0 where
   pub ckey : ℕ
 
 -- Returns the private state of a thread at row pc of the step table: p is the previous node, x the current node, and j
--- has the registers that the loops do not depend on.
+-- has the other registers, which the loops do not depend on.
 abbrev pub row : OwnSlots → Call → ℕ → Option Reply → ℕ → ℕ → Rest → Local
 row own c pc r p x j = record {
   thread = own.thread;

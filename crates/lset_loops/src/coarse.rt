@@ -55,8 +55,8 @@ fn act<P: Pause>(
     }
 }
 
-/// Makes a whole call on a CoarseList: takes the list's lock, walks to the key, adds or removes the key if needed, and
-/// releases the lock. This is Herlihy and Shavit's coarse-grained list.
+/// Executes a whole call on a CoarseList: takes the list's lock, walks to the key, adds or removes the key if needed,
+/// and releases the lock. This is Herlihy and Shavit's coarse-grained list.
 ///
 /// Returns `None` if a loop of the call has made `N::MOST` rounds. The call is then still pending.
 pub fn coarse_within<P: Pause, N: Rounds>(

@@ -45,7 +45,7 @@ pub fn decide(call: Call, word: u64, slots: OwnSlots) -> Decision
     }
 }
 
-/// Returns the slots of a thread (nodes for the keys that it adds) after the thread has used one of them.
+/// Returns the slots of a thread (nodes for the keys that it adds) after the thread has used another one of them.
 pub(crate) fn one_more(slots: OwnSlots) -> OwnSlots
     requires { slots.used < slots.quota }
     ensures { result ≡ one_more slots }

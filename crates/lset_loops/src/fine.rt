@@ -59,8 +59,8 @@ fn act<P: Pause>(
     }
 }
 
-/// Makes a whole call on a FineList: walks to the key, locking each node before it releases the previous node, adds or
-/// removes the key if needed, and releases both locks. This is Herlihy and Shavit's fine-grained list.
+/// Executes a whole call on a FineList: walks to the key, locking each node before it releases the previous node, adds
+/// or removes the key if needed, and releases both locks. This is Herlihy and Shavit's fine-grained list.
 ///
 /// Returns `None` if a loop of the call has made `N::MOST` rounds. The call is then still pending.
 pub fn fine_within<P: Pause, N: Rounds>(

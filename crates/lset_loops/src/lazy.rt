@@ -14,8 +14,8 @@ use lset_lazy::LazyList;
 use lset_rule::{OwnSlots, Pause, Rounds, TableSeat, Words};
 use lset_words::{Call, Reply};
 
-/// Walks from the head to the first key that is not smaller than the call's key. `first` is the node to which the
-/// head's link led.
+/// Walks from the head to the first key that is not smaller than the call's key. `first` is the node after the head,
+/// as the call loaded it.
 #[inline(always)]
 fn walk<P: Pause, N: Rounds>(
     caller: &Caller<LazyList, P>,
@@ -85,10 +85,10 @@ fn act<P: Pause>(
     }
 }
 
-/// Makes a whole `add` or `remove` on a LazyList. Walks to the key without locks, locks the two nodes around the key,
-/// and checks that they are still neighbours in the list. If they are, adds or removes the key if needed and releases
-/// both locks; otherwise releases both locks and starts over. This is Herlihy and Shavit's lazy list, after Heller and
-/// others.
+/// Executes a whole `add` or `remove` on a LazyList. Walks to the key without locks, locks the two nodes around the
+/// key, and checks that they are still neighbours in the list. If they are, adds or removes the key if needed and
+/// releases both locks; otherwise releases both locks and starts over. This is Herlihy and Shavit's lazy list, after
+/// Heller and others.
 ///
 /// Returns `None` if a loop of the call has made `N::MOST` rounds. The call is then still pending.
 pub fn lazy_change_within<P: Pause, N: Rounds>(

@@ -15,7 +15,7 @@ use lset_rule::{OwnSlots, Pause, Rounds, TableSeat, Words};
 use lset_words::{Call, Reply};
 
 /// Walks from the head to the first key that is not smaller than the call's key, and unlinks marked nodes on the way:
-/// Herlihy and Shavit's `find`. `first` is the node to which the head's link led.
+/// Herlihy and Shavit's `find`. `first` is the node after the head, as the call loaded it.
 fn find<P: Pause, N: Rounds>(
     caller: &Caller<LockFreeList, P>,
     place: &mut TableSeat,
@@ -84,9 +84,9 @@ fn attempt<P: Pause>(
     }
 }
 
-/// Makes a whole `add` or `remove` on a LockFreeList. Walks to the key. Then an `add` links in the thread's next slot
-/// (an unused node), and a `remove` marks the node and attempts once to unlink it. Starts over if a link has changed
-/// since the walk. This is Herlihy and Shavit's lock-free list.
+/// Executes a whole `add` or `remove` on a LockFreeList. Walks to the key. Then an `add` links in the thread's next
+/// slot (an unused node), and a `remove` marks the node and attempts once to unlink it. Starts over if a link has
+/// changed since the walk. This is Herlihy and Shavit's lock-free list.
 ///
 /// Returns `None` if a loop of the call has made `N::MOST` rounds. The call is then still pending.
 pub fn lock_free_change_within<P: Pause, N: Rounds>(

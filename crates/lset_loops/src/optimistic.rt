@@ -19,8 +19,8 @@ pub(crate) struct Stopped {
     pub(crate) before: u64,
 }
 
-/// Walks from the head to the first key that is not smaller than the call's key. `first` is the node to which the
-/// head's link led.
+/// Walks from the head to the first key that is not smaller than the call's key. `first` is the node after the head,
+/// as the call loaded it.
 #[inline(always)]
 fn walk<P: Pause, N: Rounds>(
     caller: &Caller<OptimisticList, P>,
@@ -122,10 +122,10 @@ fn act<P: Pause>(
     }
 }
 
-/// Makes a whole call on an OptimisticList. Walks to the key without locks, locks the two nodes around the key, and
-/// checks with a second walk that they are still neighbours in the list. If they are, adds or removes the key if needed
-/// and releases both locks; otherwise releases both locks and starts over. This is Herlihy and Shavit's optimistic
-/// list.
+/// Executes a whole call on an OptimisticList. Walks to the key without locks, locks the two nodes around the key, and
+/// checks with a second walk that they are still neighbours in the list. If they are, adds or removes the key if
+/// needed and releases both locks; otherwise releases both locks and starts over. This is Herlihy and Shavit's
+/// optimistic list.
 ///
 /// Returns `None` if a loop of the call has made `N::MOST` rounds. The call is then still pending.
 pub fn optimistic_within<P: Pause, N: Rounds>(

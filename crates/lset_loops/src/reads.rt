@@ -40,8 +40,8 @@ fn reply_by_mark(link: u64) -> Reply
     }
 }
 
-/// Makes a whole `contains` of `key`: walks to the first key that is not smaller than `key`, and replies according to
-/// the mark of its node. This is Herlihy and Shavit's wait-free `contains`.
+/// Executes a whole `contains` of `key`: walks to the first key that is not smaller than `key`, and replies according
+/// to the mark of its node. This is Herlihy and Shavit's wait-free `contains`.
 ///
 /// `place` is an idle seat (the right to call as one thread) on the words `table`, and `slots` are the slots of its
 /// thread (nodes for keys that it adds). Returns the slots and the reply. `pause` is called after each step that does
@@ -85,7 +85,7 @@ impl Pause for Unasked {
     fn failed(&self, _thread: u32) {}
 }
 
-/// Makes a whole `contains` of `key`, like [`contains_on`], without pausing.
+/// Executes a whole `contains` of `key`, like [`contains_on`], without pausing.
 pub fn contains_now_on<M: ReadsByRows>(
     table: &Words<M>,
     place: &mut TableSeat,

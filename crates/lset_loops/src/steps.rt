@@ -115,8 +115,8 @@ impl<'a, M: Machine, P: Pause> Caller<'a, M, P> {
         self.store(place, Part::Lock(node), 0);
     }
 
-    /// Changes the link of a node from `old` to `new` by a compare-and-exchange, as the last step of a call. Returns
-    /// the value that the link had before.
+    /// Attempts to change the link of a node from `old` to `new` by a compare-and-exchange. This is the last step of
+    /// the call. Returns the value that the link had before.
     #[inline(always)]
     pub fn exchange_last(&self, place: &mut TableSeat, node: Node, old: Link, new: Link) -> u64
         requires { MayAnswer M.table self.now.origin (Exchange (link_index node.number) (word_of old) (word_of new)) place.old }
@@ -127,8 +127,9 @@ impl<'a, M: Machine, P: Pause> Caller<'a, M, P> {
         step_on::<M>(self.table, place, action)
     }
 
-    /// Changes the link of a node from `old` to `new` by a compare-and-exchange, and returns whether it succeeded. The
-    /// call can end with this step. If the exchange succeeded and the call continues, the loop must call `goes_on`.
+    /// Attempts to change the link of a node from `old` to `new` by a compare-and-exchange, and returns whether the
+    /// link was changed. The call can end with this step. If the link was changed and the call continues, the loop
+    /// must call `goes_on`.
     #[inline(always)]
     pub fn exchange(&self, place: &mut TableSeat, node: Node, old: Link, new: Link) -> bool
         requires { MayAnswer M.table self.now.origin (Exchange (link_index node.number) (word_of old) (word_of new)) place.old }

@@ -67,8 +67,8 @@ pub record WalksAreValid (op : Opening) (last t : ℕ) (es : ℕ → Event) : Ty
   pub arrives : (j k : ℕ) → j ≤ k → k ≤ last → HasArrived (held_at op es j t)
       → ((i : ℕ) → j ≤ i → i < k → GivesBack op es i t (held_at op es j t).pred → ⊥)
       → IsLockedInChain (world_at op es k) t (held_at op es j t).pred
-  -- Only after its second walk has arrived at pred is a thread at one of the rows 8 to 13 of the step table. In these
-  -- rows, a call decides, adds or removes.
+  -- At rows 8 to 13 of the step table, a call decides, adds or removes. A thread is at one of these rows only after
+  -- its second walk has arrived at pred.
   pub decides : (k : ℕ) → k ≤ last → 8 ≤ (held_at op es k t).pc → (held_at op es k t).pc ≤ 13 → HasArrived (held_at op es k t)
 
 -- [Validated walk]: states that if the second walk arrives at pred, then pred is in the chain until the thread releases

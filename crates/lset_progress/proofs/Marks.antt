@@ -48,8 +48,8 @@ pub record Stands (v : View) (t : ℕ) (l : Local) : Type 0 where
   pub takes_out : l.pc ≡ 12 → Between v t (target l.call) l.pred l.curr × (v.link l.curr ≡ 2 * l.succ + 1)
   pub ceiling : 23 ≤ l.pc → l.call ≡ Ceiling (key_of l.call)
 
--- The facts about its step table that the proof of a list must show: row 11 marks curr while the thread holds both
--- locks, row 12 unlinks curr, and only a `ceiling` is at row 23 or later.
+-- The proof obligations of a list, about its step table: row 11 marks curr while the thread holds both locks, row 12
+-- unlinks curr, and only a `ceiling` is at row 23 or later.
 pub record Marking (T : Table) (At : Outline) : Type 1 where
   pub lists : T.marks ≡ true
   pub stands : (q t : ℕ) (vs : ℕ → View) (first now : ℕ) (v : View) (done : Bool) (l : Local) → At q t vs first now v done l
@@ -115,7 +115,7 @@ module _ (T : Table) (At : Outline) (follows : Discipline T T.marks At) (rows : 
     abbrev After : ℕ → Type 0
     After b = TakesOut op.threads (local_of (after T S (Go t))) b
 
-    -- If thread t is at row 12 of the step table, its step removes its node from the chain.
+    -- If thread t is at row 12 of the step table, its step removes curr from the chain.
     is_out : L.pc ≡ 12 → Path W.link 0 L.curr → ⊥
     is_out e p =
         let x = (rows.stands _ _ _ _ _ _ _ _ (i.threads t tn).at).takes_out e in
@@ -151,8 +151,7 @@ module _ (T : Table) (At : Outline) (follows : Discipline T T.marks At) (rows : 
         subst (λ z. node_key step.words' L.curr < node_key step.words' z) (sym next) (omega arith) in
         gap W memory.ordered L.pred L.curr at (in_chain_of W L.curr p) b.walk.inner (omega arith) hi
 
-    -- The case of a node that was marked before the step: the thread that was about to unlink the node still is about
-    -- to do so.
+    -- The case of a node that was marked before the step: some thread was about to unlink the node, and still is.
     as_before : (b : ℕ) → Path W.link 0 b → W.link b % 2 ≡ 1 → V.published b → W.link b ≡ V.link b → After b
     as_before b p odd published same =
         let x = before b (path_of V b (keeping.back b published (in_chain_of W b p))) (omega arith) in

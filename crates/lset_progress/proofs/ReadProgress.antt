@@ -37,8 +37,7 @@ reads_left size key l =
     else if l.pc == 24 then 2 * ahead key size (key l.curr) + 1
     else 0
 
--- States that the node curr of a `ceiling` is in the chain, since the walk of the `ceiling` has followed the links from
--- the head.
+-- For a `ceiling`: states that the links lead from the head to curr. Therefore curr is in the chain.
 abbrev pub Along : (ℕ → ℕ) → Local → Type 0
 Along link l = When (nat_lt 22 l.pc) (Path link 0 l.curr)
 

@@ -1,5 +1,5 @@
--- The facts about each row of the step table that the proof of a list with locks must show: the locks that the thread
--- holds after the row, and how many steps of its call remain. The laws of progress follow from these facts (see
+-- The proof obligations of a list with locks, for each row of its step table: which locks the thread can hold after
+-- the row, and how many steps of its call remain. The laws of progress follow from these facts (see
 -- ProgressWithLocks).
 use Rattle.std.specs.Prelude.{◌≡◌, ◌≢◌, ℕ, ◌+◌, ◌-◌, ◌/◌, ◌<◌, ◌≤◌, ◌⊎◌, ◌&&◌, nat_le, nat_lt, Bool, true, false, MatchBool}
 use Rattle.std.specs.Prelude.{Some, None, List, slice_index, slice_set}
@@ -29,13 +29,13 @@ When b A = MatchBool b A (Unit {0})
 abbrev pub Only : Bool → Type 0
 Only b = MatchBool b (Unit {0}) ⊥
 
--- States that x is a lock that the thread can hold in its private state l: the lock of pred at the rows P of the step
--- table, or the lock of curr at the rows C.
+-- States that x is a lock that the thread can hold in its private state l: the lock of pred at the rows of the step
+-- table that satisfy P, or the lock of curr at the rows that satisfy C.
 abbrev pub NodeLocks : (ℕ → Bool) → (ℕ → Bool) → Local → ℕ → Type 0
 NodeLocks P C l x = ((x ≡ lock_index l.pred) × Only (P l.pc)) ⊎ ((x ≡ lock_index l.curr) × Only (C l.pc))
 
--- A thread that can hold no lock satisfies every condition on the locks that it can hold. The next lemmas are about a
--- thread that can hold only the lock of pred, and about a thread that releases one of its two locks.
+-- A thread that can hold no lock satisfies every condition on the locks that it can hold. The next two lemmas are
+-- about a thread that can hold only the lock of pred, and about a thread that releases one of its two locks.
 pub no_lock : {A B C : Type 0} → (A × ⊥) ⊎ (B × ⊥) → C
 no_lock (inl p) = absurd p.1
 no_lock (inr c) = absurd c.1
@@ -211,8 +211,7 @@ module _ {S : Shape} {size : ℕ} {key : ℕ → ℕ} {ws : List ℕ} {l : Local
 pub unlocks : {A B C : Type 0} → B → C → A ⊎ (B × C)
 unlocks is_lock stores = inr (is_lock, stores)
 
--- The facts about one row of the step table that the proof of a list must show: the number of remaining steps, and that
--- the row makes an allowed step.
+-- The proof obligation for one row of the step table: how many steps remain, and that the row makes an allowed step.
 pub record RowOf (S : Shape) (size : ℕ) (T : Table) (sz : Sizes) (ws : List ℕ) (t most : ℕ) (l : Local) : Type 0 where
   pub time : Timed S size ws most l
   pub by : RowBy S size T sz ws t l (T.next l)

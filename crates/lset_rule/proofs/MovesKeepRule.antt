@@ -280,7 +280,7 @@ goes_first m law slots id me k c low a acts shape is_idle = let v : View = me.0 
       ),
     ))
 
--- ---- Lemmas about the state of the thread that makes a seat's calls
+-- ---- Lemmas about the state of a seat's own thread
 module _ (m : Table) (law : Lawful m) (v : View) (st : Stands m v) where
   own_small : v.thread < v.shape.threads
   own_small = st.in_range v.thread (inl refl)

@@ -35,13 +35,13 @@ pick_yes b x y e = rw e refl
 pick_not : {A : Type 0} (b : Bool) (x y : A) → b ≡ false → (if b then x else y) ≡ y
 pick_not b x y e = rw e refl
 
--- Returns the value of a word after an action, if the value was n before.
+-- Returns the value that a word has after an action. `n` is its value before the action.
 abbrev pub left : Action → ℕ → ℕ
 left (Load w) n = n
 left (Store w v) n = v
 left (Exchange w old new) n = either (n == old) new n
 
--- Returns the value that an action sees in a word, if the value was n before.
+-- Returns the value that an action sees in a word. `n` is the word's value before the action.
 abbrev pub found : Action → ℕ → ℕ
 found (Load w) n = n
 found (Store w v) n = v

@@ -21,7 +21,7 @@ use Rattle.lset_rule.specs.Runs.{here, at_end, IsRunOf, StartsWith}
 use Rattle.lset_rule.specs.Rule.{Holds, MatchesLog, opener, asides_from, left_view, right_view}
 use Rattle.lset_rule.specs.Views.{Stands, HasThread, HasAside, AreIdle, IsIdle}
 
--- Returns the view of a seat (its knowledge of the run) of thread t that was just split off and has made no calls.
+-- Returns the view of a new seat (its knowledge of the run), just split off for thread t, which has not called yet.
 abbrev pub fresh : Opening → ℕ → View
 fresh k t = record (opener k) { thread = t; local = idle k.quota t; others = []; past = Fresh t }
 
@@ -29,7 +29,7 @@ fresh k t = record (opener k) { thread = t; local = idle k.quota t; others = [];
 abbrev pub spare : Opening → ℕ → View
 spare k t = record (opener k) { others = asides_from k t (k.threads - 1 - t) }
 
--- States that s is a seat of thread t that was just split off and has made no calls.
+-- States that s is a new seat, just split off for thread t, which has not called yet.
 abbrev pub IsNew : TableId → Opening → ℕ → Seat (Unit {0}) View → Type 0
 IsNew z k t s = (s.table_id ≡ z) × (s.me ≡ (fresh k t, []))
 

@@ -1,5 +1,5 @@
--- Lemmas about changing a view (a seat's knowledge of the run) in a list of views, or adding one: the facts about each
--- view after it, and which view has each thread.
+-- Lemmas about a list of views (the seats' knowledge of the run) in which one view changes, or to which a view is
+-- added: which facts about each view remain true, and which view has each thread.
 use Rattle.std.proofs.Common.{◌≡◌, ◌≢◌, ⊎_elim, ℕ, zero, suc, ◌<◌, true, false, List, [], ◌∷◌, ◌++◌, length, set, refl, sym, ap, ◌∙◌, subst}
 use Rattle.std.proofs.lemmas.Bool.{false≢true}
 use mathlib.Core.Option.{some, some-injective, some-ne-none}

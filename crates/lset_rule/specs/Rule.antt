@@ -24,8 +24,8 @@ IsQuiet v [] = Unit {0}
 IsQuiet v (e ∷ es) = ¬ (HasThread v (thread_of e)) × IsQuiet v es
 
 -- States that v, the view of seat j (its knowledge of the run), matches the events of all threads. The view has seen a
--- prefix of these events, and only threads of other seats made the later events. No other seat has any of its threads.
--- The lists `ours` and `theirs`, which the view keeps after a join, are also prefixes of all events.
+-- prefix of these events, and only threads of other seats made the later events. Seat j shares no thread with another
+-- seat. The lists `ours` and `theirs`, which the view keeps after a join, are also prefixes of all events.
 pub record MatchesLog (m : Table) (k : Opening) (log : List Event) (seat_of : ℕ → ℕ) (j : ℕ) (v : View) : Type 0 where
   pub shape : v.shape ≡ k
   pub rest : List Event

@@ -45,7 +45,8 @@ abbrev pub done_next : ℕ → Entry → ℕ → Option PendingCall → List Own
 done_next n (began u c) t open_now before = before
 done_next n (stepped u change answer) t open_now before = if u == t then before ++ ending answer open_now n else before
 
--- Returns the last call of a thread, or None if it is completed or the thread has made no call.
+-- Returns the pending call of a thread, given its last call. Returns None if the last call is completed, or if the
+-- thread has not called yet.
 abbrev pub pending_of : LastCall → Option PendingCall
 pending_of x = if x.pending then Some (record { call = x.call; begun = x.begun; steps = x.steps }) else None
 

@@ -1,4 +1,4 @@
-//! The interpreter: makes a whole call on the shared words, one row of the list's step table at a time.
+//! The interpreter: executes a whole call on the shared words, one row of the list's step table at a time.
 ghost use Rattle.std.specs.Prelude.{IfSome};
 ghost use Rattle.lset_words.specs.declared.Call.TheVariants.{Contains};
 ghost use Rattle.lset_rule.specs.Seats.{HasCalled, MayCall};
@@ -29,16 +29,16 @@ macro_rules! ends_or_pauses {
     };
 }
 
-/// Makes a whole call step by step, in at most `N::MOST` rounds of four steps each.
+/// Executes a whole call step by step, in at most `N::MOST` rounds of four steps each.
 ///
 /// `place` is an idle seat (the right to call as one thread) on the words `table`. `slots` are the thread's slots, as
 /// the thread's last call returned them. After each step that does not end the call, the interpreter calls
-/// `pause.failed` if the step has failed, and `pause.moved` otherwise. It also calls `pause.moved` when the call gets a
-/// lock that it has waited for. It never calls `pause.taken`.
+/// `pause.failed` if the step has failed, and `pause.moved` otherwise. It also calls `pause.moved` when the call gets
+/// a lock that it has waited for. It never calls `pause.taken`.
 ///
 /// Returns the thread's slots after the call, and the reply. The call started after all events that the seat had seen,
 /// and has been added to the seat's record. Returns `None` if the call has not ended after these rounds. The call is
-/// then still pending and keeps its locks, and the seat cannot make another call.
+/// then still pending and keeps its locks, and no other call can start from the seat.
 pub fn interpret_within<M: Machine, P: Pause, N: Rounds>(
     table: &Words<M>,
     place: &mut TableSeat,
@@ -72,8 +72,8 @@ pub fn interpret_within<M: Machine, P: Pause, N: Rounds>(
     Some((OwnSlots::of(&last.fed.local), reply))
 }
 
-/// Makes a whole `contains` of `key` step by step, without blocking. `M` is a list that marks nodes before it unlinks
-/// them. Therefore its walk reaches each node at most once (`OpenReads`).
+/// Executes a whole `contains` of `key` step by step, without blocking. `M` is a list that marks nodes before it
+/// unlinks them. Therefore its walk reaches each node at most once (`OpenReads`).
 ///
 /// `place` is an idle seat (the right to call as one thread) on the words `table`, and `slots` are the thread's slots,
 /// as the thread's last call returned them. Returns the thread's slots after the call, and the reply.

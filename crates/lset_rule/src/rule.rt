@@ -94,7 +94,8 @@ impl Join<View> for TakeReceipt {
 }
 
 /// How the first load of a seat after a merge (or after it uses a receipt) changes the seat's view (its knowledge of
-/// the run). The load shows that the events that the seat has seen include the events that each of the two had seen.
+/// the run). The load shows that the seat has now seen all events that it and the other seat, or the receipt, had
+/// seen.
 pub struct Learn<M> {
     machine: PhantomData<M>,
 }

@@ -85,8 +85,8 @@ pub struct View {
     pub local: Local,
     /// The pending call of the seat's own thread.
     pub under: Option<PendingCall>,
-    /// The idle threads that the seat has in addition to its own. They are from seats that were merged into this seat,
-    /// or have not been split off yet.
+    /// The idle threads that the seat has in addition to its own. They came from seats that were merged into this
+    /// seat, or have not been split off yet.
     pub others: LinkedList<SpareThread>,
     /// The seat's completed calls, and the records of the seats merged into it.
     pub past: Past,

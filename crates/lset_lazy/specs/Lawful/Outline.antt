@@ -1,5 +1,5 @@
--- The proof outline of LazyList: what a thread knows at each row of the step table, and the proof that each step
--- preserves this.
+-- The proof outline of LazyList: an assertion for each row of the step table, and the proof that each step preserves
+-- the assertions.
 use Rattle.std.specs.Prelude.{◌≡◌, ◌≢◌, ℕ, suc, ◌+◌, ◌*◌, ◌/◌, ◌%◌, ◌<◌, ◌≤◌, Bool, true, false, Option, Some, None, List, slice_set, refl}
 use Rattle.std.proofs.Common.{arith, inl, inr, sym, ◌∙◌, ap}
 use Rattle.lset_words.proofs.Numbers.{same_or_not, below_or_not, if_below, if_not_below, if_same, if_other}
@@ -31,12 +31,12 @@ use Rattle.lset_steps.proofs.Turns.{Turn, Follows, Outcome, node_locks, locks_no
 use Rattle.lset_steps.proofs.Turns.Turn.{passes, changes, answers}
 use Rattle.lset_lazy.specs.Lazy.{lazy, targets, next_action, at_key, gives_up, at_pred, at_curr, released, fed_by, effect_of}
 
--- What a thread knows after it has locked pred and curr and has seen that pred leads to curr.
+-- The assertion of a thread that has locked pred and curr and has seen that pred leads to curr.
 abbrev Window : View → ℕ → Local → Type 0
 Window v t l = Between v t (target l.call) l.pred l.curr
 
--- The proof outline: for each row of the step table, what thread t knows before the step of this row. The rows of
--- `contains` and `ceiling` share the last line.
+-- The proof outline: the assertion of thread `t` before each row of the step table. The rows of `contains` and
+-- `ceiling` share the last case.
 pub data At (q t : ℕ) (vs : ℕ → View) (first now : ℕ) (v : View) (done : Bool) (l : Local) : Type 0 where
   at0 : l.pc ≡ 0 → At q t vs first now v done l
   at1 : l.pc ≡ 1 → done ≡ false → At q t vs first now v done l
@@ -62,7 +62,7 @@ pub data At (q t : ℕ) (vs : ℕ → View) (first now : ℕ) (v : View) (done :
   at14 : l.pc ≡ 14 → v.lock l.pred ≡ t + 1 → Outcome done q vs first now t l.call l.reply → At q t vs first now v done l
   at_read : Reading vs first now done l → At q t vs first now v done l
 
--- What the thread knows is still true after a step of another thread.
+-- Steps of other threads preserve the assertions of thread `t`.
 module _ (q t : ℕ) (vs : ℕ → View) (first now : ℕ) (v w : View) (done : Bool) (l : Local) (r : Rely v w q t) where
   s : Leaves v w t
   s = leaves_of r

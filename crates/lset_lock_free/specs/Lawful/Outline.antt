@@ -217,8 +217,8 @@ module _ (sz : Sizes) (t : ℕ) (vs : ℕ → View) (first now : ℕ) (ws : List
   abbrev Fitting : Reply → Type 0
   Fitting r = FitsSometime sz.quota (contents_of vs) (counts_of vs) first now t l.call r
 
-  -- Suppose that at moment `at` of the call, the set has the call's key exactly if the call found the key. Then the
-  -- call has a reply that is correct at this moment, or it continues at the row for adding or removing its key.
+  -- Suppose that at moment `at` of the call, the set has the call's key if and only if the call found the key. Then
+  -- the call has a reply that is correct at this moment, or it continues at the row for adding or removing its key.
   decided_at : (s at : ℕ) → first ≤ at → at ≤ now → (vs at).used t ≡ used t
       → ((s == target l.call) ≡ true → InContent (vs at) (key_of l.call).0)
       → ((s == target l.call) ≡ false → InContent (vs at) (key_of l.call).0 → ⊥)
