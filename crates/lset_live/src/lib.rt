@@ -2,17 +2,17 @@
 //! thread).
 #![tactic(auto)]
 
-mod bounded;
-mod closed;
-mod gathering;
-mod live_set_calls;
-mod open_fault;
-mod opening;
-mod receipt;
-mod running_machine;
-mod seat;
-mod set;
-mod typed_calls;
+mod bounded; // calls with a bounded number of rounds
+mod closed; // a closed set and its final keys
+mod gathering; // merges several seats into one
+mod live_set_calls; // implements `SetCalls` for running sets
+mod open_fault; // the errors of `open` and `open_with`
+mod opening; // opens sets
+mod receipt; // receipts: seen events, sent between threads
+mod running_machine; // lists whose calls can block
+mod seat; // seats of running sets
+mod set; // a running set and its calls
+mod typed_calls; // calls with their own result types
 
 pub use bounded::Bounded;
 pub use closed::Closed;

@@ -8,17 +8,17 @@
 //! The loops have the same contracts as the interpreter.
 #![tactic(auto)]
 
-mod caller;
-mod coarse;
-mod decision;
-mod fine;
-mod lazy;
-mod lock_free;
-mod node;
-mod optimistic;
-mod parts;
-mod reads;
-mod steps;
+mod caller; // the pending call of a thread
+mod coarse; // the calls of CoarseList
+mod decision; // what a call does after its walk
+mod fine; // the calls of FineList
+mod lazy; // `add` and `remove` of LazyList
+mod lock_free; // `add` and `remove` of LockFreeList
+mod node; // a node, identified by its number
+mod optimistic; // the calls of OptimisticList
+mod parts; // the words of a node
+mod reads; // a `contains` that only reads
+mod steps; // the single steps of a call
 
 pub use coarse::coarse_within;
 pub use fine::fine_within;

@@ -2,19 +2,17 @@
 //! (`lset_steps::Machine`): some list of events is a run that ends with the words in memory, and each seat has seen a
 //! prefix of these events. A seat is the right to call as one thread.
 //!
-//! Module `rule` contains the invariant, `view` the knowledge of a seat, `word_steps` the single steps of a call,
-//! `pause` the code between two steps, and `interpreter` whole calls. Read the definitions in specs/ in this order:
-//! `Pasts`, `Runs`, `Views`, `Rule`, `Calls`, `Seats`.
+//! Read the definitions in specs/ in this order: `Pasts`, `Runs`, `Views`, `Rule`, `Calls`, `Seats`.
 #![tactic(auto)]
 
-mod interpreter;
-mod pause;
-mod rounds;
-mod row_steps;
-mod rule;
-mod slots;
-mod view;
-mod word_steps;
+mod interpreter; // executes whole calls, row by row
+mod pause; // the code between two steps
+mod rounds; // bounds on the rounds of loops
+mod row_steps; // the steps of an interpreted call
+mod rule; // the invariant
+mod slots; // what a thread keeps between calls
+mod view; // the knowledge of a seat
+mod word_steps; // single steps on shared words
 
 pub use interpreter::{interpret_read, interpret_within};
 pub use pause::{Pause, Spin};
