@@ -30,13 +30,14 @@ abbrev pub run_of : ℕ → ℕ → Log → Contents → Counts → Run
 run_of threads quota log contents counts =
     record { threads = threads; quota = quota; log = log; contents = contents; counts = counts }
 
--- States that this call begins in the log's entry just before the moment `begun`.
+-- States that the log entry just before the moment `begun` is the start of this call.
 pub record Beginning (r : Run) (thread : ℕ) (call : Call) (begun : ℕ) : Type 0 where
   pub before : ℕ
   pub is : begun ≡ suc before
   pub entry : r.log before ≡ began thread call
 
--- States that this call changes the set in the log's entry just before the moment `changed`, and is allowed to do so.
+-- States that in the log entry just before the moment `changed`, this call changes the set, and that the call is
+-- allowed to make this change.
 pub record ChangeAt (r : Run) (thread : ℕ) (call : Call) (begun changed : ℕ) : Type 0 where
   pub before : ℕ
   pub is : changed ≡ suc before
@@ -46,8 +47,8 @@ pub record ChangeAt (r : Run) (thread : ℕ) (call : Call) (begun changed : ℕ)
   pub entry : r.log before ≡ stepped thread (Some change) reply
   pub may : MayChange r.quota (r.counts before thread) call false (Some change)
 
--- States that this call ends with a correct reply in the log's entry just before the moment `end`. If the call makes a
--- change, it makes the change in this step or earlier.
+-- States that in the log entry just before the moment `end`, this call ends with a correct reply. If the call makes a
+-- change, it makes the change in this entry or earlier.
 pub record EndAt (r : Run) (thread : ℕ) (call : Call) (begun : ℕ) (changed : Option ℕ) (end : ℕ) (reply : Reply) : Type 0 where
   pub before : ℕ
   pub is : end ≡ suc before
@@ -65,8 +66,8 @@ pub record OpenAt (last : LastCall) (call : Call) (begun : ℕ) (changed : Optio
   pub begun_is : last.begun ≡ begun
   pub changed_is : last.changed ≡ is_some changed
 
--- States that the call `x`, in its state at moment `k`, agrees with the log: its begin, its change and its end are
--- entries of the log.
+-- States that the call `x`, in its state at moment `k`, agrees with the log: its start, its change (if any) and its
+-- end (if it has ended) are entries of the log.
 pub record Traced (r : Run) (k : ℕ) (x : TracedCall) : Type 0 where
   pub of_a_thread : x.thread < r.threads
   pub begins : Beginning r x.thread x.call x.begun

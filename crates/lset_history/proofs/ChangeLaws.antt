@@ -13,7 +13,7 @@ abbrev pub turned : ℕ → Bool → Bool
 turned zero b = b
 turned (suc i) b = turned i (not b)
 
--- A key is present at moment `m` if it was present before its first change, negated once for each change at or before
+-- Each change negates whether the key is present. Up to moment `m`, this happens once for each change at or before
 -- `m`.
 pub state_between : (b : Bool) (ms : List ℕ) (i m : ℕ) → i ≤ length ms → ((j : ℕ) → j < i → get_or ms j 0 ≤ m)
     → (i < length ms → m < get_or ms i 0) → state_at b ms m ≡ turned i b

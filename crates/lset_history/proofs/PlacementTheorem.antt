@@ -93,7 +93,7 @@ reading_stays r s state h same increasing n =
         → reply_by changed ended ≡ h.end.1
     replied changed ended e f = rw (e, f) refl
 
--- States that the call at the later place of the order does not end before the call at the earlier place begins.
+-- States that the call of `q` did not end before the call of `p` began. In the order, `p` comes before `q`.
 abbrev InTime : List CallRecord → Placed → Placed → Type 0
 InTime history p q = Precedes (call_numbered history q.call) (call_numbered history p.call) → ⊥
 

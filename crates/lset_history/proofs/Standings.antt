@@ -85,8 +85,8 @@ pub record Changing (r : Run) (s : Standing) : Type 0 where
   pub is : s.traced.changed ≡ Some s.moment
   pub change : ChangeAt r s.traced.thread s.traced.call s.traced.begun s.moment
 
--- States that the call is completed and changed nothing. It takes effect at the first moment when its reply fits the
--- set.
+-- States that the call is completed and changed nothing. It takes effect at the first moment when its reply is
+-- correct.
 pub record Reading (r : Run) (s : Standing) : Type 0 where
   pub no_change : s.traced.changed ≡ None
   pub end : ℕ × Reply

@@ -9,7 +9,7 @@ use Rattle.lset_words.specs.declared.history.Placed.{Placed}
 use Rattle.lset_words.specs.Log.{TracedCall}
 use Rattle.lset_words.specs.Account.{Contents, Counts, Fits}
 
--- States that `moment` is the first moment of the call `x`, from its start to its end, when its reply fits.
+-- States that `moment` is the first moment of the call `x`, from its start to its end, when its reply is correct.
 pub record IsSmallestFit (quota : ℕ) (contents : Contents) (counts : Counts) (x : TracedCall) (end : ℕ) (reply : Reply)
     (moment : ℕ) : Type 0 where
   pub from : x.begun ≤ moment
@@ -18,8 +18,8 @@ pub record IsSmallestFit (quota : ℕ) (contents : Contents) (counts : Counts) (
   pub smallest : (m : ℕ) → x.begun ≤ m → m < moment → Fits quota (contents m) (counts m x.thread) x.call reply → ⊥
 
 -- States that `place` is the moment of a call's linearization point. If the call has changed the set, this is the
--- moment of the change. If the call is completed and changed nothing, this is the first moment when its reply fits. A
--- pending call without a change has no linearization point (`None`).
+-- moment of the change. If the call is completed and changed nothing, this is the first moment when its reply is
+-- correct. A pending call without a change has no linearization point (`None`).
 abbrev pub StandsBy : ℕ → Contents → Counts → TracedCall → Option ℕ → Option (ℕ × Reply) → Option ℕ → Type 0
 StandsBy quota contents counts x (Some changed) ended place = place ≡ Some changed
 StandsBy quota contents counts x None None place = place ≡ None

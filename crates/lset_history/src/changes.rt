@@ -272,8 +272,8 @@ impl Changes {
     }
 
     /// Compares the keys from `key` to just below `end` at two times: at `moment`, and after the last change. If the
-    /// result is `true`, each key that is present after the last change was absent at `moment`. If it is `false`, some
-    /// key was present at `moment`.
+    /// result is `true`, each key of this range that is present after the last change was absent at `moment`. If the
+    /// result is `false`, some key of this range was present at `moment`.
     fn came_after(&self, key: u32, end: Option<u32>, moment: u32) -> bool
         ensures came { IsTrue result → CameAfter (moments_of self.now) key end moment }
         ensures there { result ≡ false → IsSomeThere (moments_of self.now) key end moment }

@@ -25,8 +25,8 @@ fn first_unknown(calls: &[CallRecord], order: &[Placed]) -> Option<u32>
 }
 
 /// Returns the number of the first call that occurs a second time in the order. `placed` must have one mark for each
-/// call of the history, all false. If no call is in the order twice, the marks of exactly the calls in the order are
-/// true afterwards.
+/// call of the history, all false. If no call occurs twice, `placed` is afterwards true for each call in the order,
+/// and false for all others.
 fn first_twice(order: &[Placed], placed: &mut [bool]) -> Option<u32>
     requires known { All (λ (p : Placed). p.call < length placed.old) order.now }
     requires none_set { All (λ (mark : Bool). mark ≡ false) placed.old }

@@ -59,8 +59,8 @@ fn last_moment(call_record: &CallRecord) -> u32
 }
 
 impl History {
-    /// Returns a history without calls, for a set that opens empty, with `threads` threads (1 to 64) and a quota of
-    /// `quota` successful adds each (0 to 16,384). Does not allocate; later calls use `alloc`.
+    /// Returns a history without calls, for a set that is empty at the start, with `threads` threads (1 to 64) and a
+    /// quota of `quota` successful adds each (0 to 16,384). Does not allocate; later calls use `alloc`.
     pub fn new(alloc: Global, threads: u32, quota: u32) -> History
         requires { IsWithin (record { threads = threads; quota = quota; opening = 0 }) }
         ensures { result ≡ record { opening = empty threads quota; calls = [] } }
@@ -68,7 +68,7 @@ impl History {
         History::opened(alloc, threads, quota, Vec::new(alloc))
     }
 
-    /// Returns a history without calls, for a set that opens with the keys `opening`: at most 1,048,576 keys in
+    /// Returns a history without calls, for a set that starts with the keys `opening`: at most 1,048,576 keys in
     /// strictly increasing order. `threads` must be 1 to 64, `quota` 0 to 16,384. Takes ownership of the vector and
     /// does not allocate.
     pub fn opened(alloc: Global, threads: u32, quota: u32, opening: Vec<u32>) -> History

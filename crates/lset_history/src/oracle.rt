@@ -57,9 +57,8 @@ impl Oracle {
         Oracle::opened(alloc, threads, quota, &[])
     }
 
-    /// Returns the set that opens with `keys`, which must be in strictly increasing order. The opening keys do not
-    /// count towards a thread's quota. Accepts any `threads` and `quota`. Allocates. If that fails, returns
-    /// `AllocError`.
+    /// Returns a set that contains `keys`, which must be in strictly increasing order. These opening keys do not count
+    /// towards a thread's quota. Accepts any `threads` and `quota`. Allocates. If that fails, returns `AllocError`.
     pub fn opened(
         alloc: Global,
         threads: u32,

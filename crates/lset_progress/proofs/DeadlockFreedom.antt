@@ -88,7 +88,8 @@ module _ (T : Table) (law : Lawful T) (S : Shape) (most : Sizes → ℕ) (shows 
     pending : IsPending (state_at T op es k) t
     meant : calls (local_of (state_at T op es k) t).call ≡ 1
 
-  -- A counted step of thread v ends its call, or v still has a pending call with counted steps.
+  -- The case of a counted step of thread v: the step ends its call, or the call is still pending and its steps are
+  -- counted.
   module _ (m : ℕ) (again : (k t : ℕ) → Busy k t → Gather m k) (k v : ℕ) (ee : es k ≡ Go v) (b : Busy k v)
       (weighs : moves calls T (state_at T op es k) (Go v) ≡ 1) where
     abbrev L : Local
@@ -145,8 +146,8 @@ module _ (T : Table) (law : Lawful T) (S : Shape) (most : Sizes → ℕ) (shows 
       → moves calls T s (Go v) ≡ unless_failed s.words (T.next (local_of s v)) n
   weight_of s v n e = ap (unless_failed s.words (T.next (local_of s v))) e
 
-  -- Thread u is ready: its next step, which it has not made yet, is not a failed attempt to take a lock. Every other
-  -- event before this step is a counted step, or u is still ready after it.
+  -- Thread u is ready: its next step, which it has not made yet, is not a failed attempt to take a lock. Until u makes
+  -- this step, each event is a counted step or leaves u ready.
   module _ (m : ℕ) (again : (k t : ℕ) → Busy k t → Gather m k) (u : ℕ) where
     record Ready (k : ℕ) : Type 0 where
       busy : Busy k u

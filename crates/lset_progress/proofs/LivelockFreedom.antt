@@ -30,9 +30,9 @@ is_lock_test x (inr (i, e)) =
     if_other x 0 (omega arith) true (if nat_lt x 5 then false else if x % 3 == 2 then true else false)
     ∙ if_not_below x 5 (omega arith) false (if x % 3 == 2 then true else false) ∙ if_same (x % 3) 2 (omega arith) true false
 
--- The facts about counted calls that the proof of a list must show. Every call that holds a lock or changes the list is
--- counted, and all other calls only read. If a step of a counted call is not a failed attempt to take a lock, the words
--- satisfy `calm`, the requirement of this step.
+-- The proof obligations of a list about its counted calls. Every call that holds a lock or changes the list is
+-- counted, and all other calls only read. If a step of a counted call is not a failed attempt to take a lock, the
+-- words satisfy `calm`, the requirement of this step.
 pub record Counts (T : Table) (S : Shape) (calls : Call → ℕ) : Type 0 where
   pub one_or_none : (c : Call) → (calls c ≡ 0) ⊎ (calls c ≡ 1)
   pub late : (op : Opening) (last k t : ℕ) (es : ℕ → Event) → Run T op es last → k ≤ last → t < op.threads
@@ -54,8 +54,8 @@ module _ (T : Table) (law : Lawful T) (S : Shape) (most : Sizes → ℕ) (shows 
   abbrev Fits : Sizes → List ℕ → ℕ → Local → Type 0
   Fits sz ws m l = (most sz ≤ m) ⊎ ((l.pc ≢ 0) × (calls l.call ≡ 1) × Timed S (node_count sz) ws m l)
 
-  -- States that m steps are enough for the steps that a thread makes after its decision what to change: m is at least
-  -- 5, or the thread has decided and has at most m steps left.
+  -- States that m steps are enough for a thread once it has decided what to change: m is at least 5, or the thread has
+  -- already decided and has at most m steps left.
   abbrev Owes : ℕ → Local → Type 0
   Owes m l = (5 ≤ m) ⊎ LateBy S m l
 

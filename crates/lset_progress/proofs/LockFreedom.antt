@@ -34,8 +34,8 @@ use Rattle.lset_progress.proofs.StepTotals.{total, total_less, total_all, total_
 use Rattle.lset_progress.proofs.Windows.{Then, some_ends, counted_or_not}
 
 -- States that m steps are enough for a thread: for the rest of its counted call and, if other threads have changed the
--- nodes of its walk, for one additional walk. If the thread has no counted call, m must be at least the maximum for a
--- whole call.
+-- nodes of its walk, for one additional walk. If the thread has no counted call, m is at least the maximum for a whole
+-- call.
 abbrev Fits : Bool → Sizes → (ℕ → ℕ) → List ℕ → ℕ → Local → Type 0
 Fits reads sz key ws m l = (lock_free_steps sz ≤ m)
     ⊎ ((l.pc ≢ 0) × (counted reads l.call ≡ 1) × Timed (node_count sz) key ws m l)

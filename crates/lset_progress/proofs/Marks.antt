@@ -1,6 +1,5 @@
 -- Proof, for a list that marks nodes while it holds two locks: a thread that has marked a node holds the node's lock
--- until it has unlinked the node. Therefore a node of the chain is marked only while some thread is between these two
--- steps.
+-- until it has unlinked the node. Therefore, if a node of the chain is marked, some thread is about to unlink it.
 use Rattle.std.specs.Prelude.{◌≡◌, ◌≢◌, ℕ, ◌+◌, ◌*◌, ◌/◌, ◌%◌, ◌<◌, ◌≤◌, Bool, true, false, Option, Some, List, refl}
 use Rattle.std.specs.Prelude.{◌⊎◌, slice_index, slice_set}
 use Rattle.std.proofs.Common.{arith, inl, inr, sym, ◌∙◌, ap, subst, zero, suc}

@@ -146,7 +146,7 @@ module _ (S : Shape) (size : ℕ) where
       pub missed : (seen : ℕ) → seen ≢ 0 → (T.feed l seen).local ≡ l
 
     -- States that a row of the step table makes an allowed step. In particular, the thread writes a word other than a
-    -- lock only after its decision what to change.
+    -- lock only after it has decided what to change.
     abbrev pub RowBy : Action → Type 0
     RowBy (Load w) = Loads ws l (T.feed l (slice_index ws w))
     RowBy (Store w v) = (Stores ws l w (slice_set ws w v) (T.feed l v) × LateBy S 5 l)

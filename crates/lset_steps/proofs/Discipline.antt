@@ -34,15 +34,15 @@ use Rattle.lset_steps.proofs.Openings.{opening_local, none_used, opening_ordered
 abbrev pub Outline : Type 1
 Outline = ℕ → ℕ → (ℕ → View) → ℕ → ℕ → View → Bool → Local → Type 0
 
--- The properties of the list's words at moment `now`, for a step of any thread.
+-- The facts about the list's words at moment `now` that the proof of any thread's step can use.
 pub record Here (marks : Bool) (sz : Sizes) (vs : ℕ → View) (now : ℕ) (ws : List ℕ) (used : ℕ → ℕ) : Type 1 where
   pub limits : IsWithin sz
   pub memory : Memory marks sz ws used
   pub course : Course vs now
   pub present : vs now ≡ view sz ws used
 
--- The properties of thread `t` and its private state `l` at moment `now`, with the assertion of the proof outline at
--- the thread's row.
+-- The facts about thread `t` and its private state `l` at moment `now` that the proof of the thread's step can use.
+-- They include the assertion of the proof outline at the thread's row.
 pub record Thread (At : Outline) (sz : Sizes) (t : ℕ) (vs : ℕ → View) (first now : ℕ) (ws : List ℕ) (used : ℕ → ℕ)
     (done : Bool) (l : Local) : Type 0 where
   pub registers : Registers sz t l

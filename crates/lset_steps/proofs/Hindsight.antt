@@ -91,8 +91,8 @@ abbrev pub seen_on : (vs : ℕ → View) (first now later b l : ℕ) → now ≤
 seen_on vs first now later b k l s =
     record { at = s.at; from = s.from; upto = (let u : s.at ≤ now = s.upto in omega arith); in_chain = s.in_chain; link = s.link }
 
--- If the key `k` is between the keys of a node and of the next node, and the walk saw this link, the set lacked `k` at
--- some moment of the call.
+-- If the key `k` is between the keys of two nodes, and the walk saw a link from one of them to the other, the set
+-- lacked `k` at some moment of the call.
 pub lacked_between : (vs : ℕ → View) (n first now a l k : ℕ) → Course vs n → now ≤ n → a ≢ 1 → Seen vs first now a l
     → (vs now).key a < k + 1 → k + 1 < (vs now).key (l / 2) → Lacked vs first now k
 lacked_between vs n first now a l k r le na s lo hi =

@@ -17,8 +17,8 @@ abbrev pub node_lock : List ℕ → ℕ → ℕ
 node_lock ws a = slice_index ws (lock_index a)
 
 -- The parts of a list that the laws mention, at one moment: the key, link and lock word of each node, the lock of the
--- whole list, each thread's number of successful adds, and whether a node is published, which means that it has been
--- in the chain at some time.
+-- whole list, each thread's number of successful adds, and which nodes are published. A published node has been in the
+-- chain at some time.
 pub record View : Type 1 where
   pub key : ℕ → ℕ
   pub link : ℕ → ℕ

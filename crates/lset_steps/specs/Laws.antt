@@ -67,8 +67,8 @@ LockUse ws t (Load w) = Unit {0}
 LockUse ws t (Store w v) = IsLockWord w → (v ≡ 0) × (slice_index ws w ≡ t + 1)
 LockUse ws t (Exchange w old new) = IsLockWord w → (old ≡ 0) × (new ≡ t + 1)
 
--- States that the reply r to the call is correct: `True` if the call has changed the set (`done`), else a reply that a
--- sequential set returns at some moment from `first` to `now`.
+-- States that the reply r to the call is correct: `True` if the call has changed the set (`done`), else a reply that
+-- is correct for the keys of the set at some moment from `first` to `now`.
 abbrev pub Due : Bool → ℕ → (ℕ → View) → ℕ → ℕ → ℕ → Call → Reply → Type 0
 Due done q vs first now t call r = RightReply done q (contents_of vs) (counts_of vs) first now t call (Some r)
 

@@ -128,7 +128,7 @@ NamedChange T = (op : Opening) (last k : ℕ) (es : ℕ → Event) → Run T op 
     (log_of T op es k)
 
 -- [Replies fit]: states that a call that ends in the step between moments k and k + 1 has a correct reply: `True` if
--- the call has changed the set, else a reply that a sequential set returns at some moment of the call.
+-- the call has changed the set, else a reply that is correct for the keys of the set at some moment of the call.
 abbrev pub RepliesFit : Table → Type 0
 RepliesFit T = (op : Opening) (last k t : ℕ) (es : ℕ → Event) (change : Option Change) (reply : Reply) → Run T op es last →
     k < last
