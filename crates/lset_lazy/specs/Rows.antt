@@ -59,8 +59,8 @@ pub record LazyRows (T : Table) : Type 0 where
   pub row_5 : Does T 5 (λ l. Exchange (lock_index l.curr) 0 (l.thread + 1))
       (λ l seen. if seen == 0 then on_to 6 l else on_to 5 l)
       nothing
-  -- The call checks that the link of `pred` leads to `curr` and that `pred` is not marked. If this is not true, the
-  -- call releases the locks and starts again.
+  -- The call checks that the link of `pred` leads to `curr` and that `pred` is not marked. If a check fails, the call
+  -- releases the locks and starts again.
   pub row_6 : Does T 6 (λ l. Load (link_index l.pred)) (λ l seen. if seen == 2 * l.curr then on_to 7 l else leaves None l) nothing
   -- The call checks that `curr` is not marked. If `curr` is unmarked, the call has a reply or will change the set.
   -- Otherwise the call releases the locks and starts again.

@@ -16,7 +16,7 @@ use lset_steps::rows::{Targets, decide, key_index, link_index, lock_index, own_s
 use lset_steps::{Action, Fed, Local, Machine, OpenReads};
 use lset_words::{Call, HEAD, Key, Kind, Reply};
 
-/// The list set whose calls walk without locks. A call that changes the list locks the two nodes at which its walk
+/// The list set whose calls walk without locks. An `add` or a `remove` then locks the two nodes at which its walk
 /// ended, and walks again if they have changed since (Herlihy and Shavit's lazy list).
 #[derive(Clone, Copy)]
 pub struct LazyList;

@@ -34,7 +34,7 @@ HasKeys c keys = IsContent (view c.sizes c.words (λ t. 0)) keys
 abbrev pub most_keys : Sizes → ℕ
 most_keys s = s.threads * s.quota + s.opening
 
--- Facts about the words of a closed set that a walk along its nodes uses.
+-- The facts about the words of a closed set that the proof of a walk along its nodes uses.
 pub record HasLaws (c : LastWords) : Type 0 where
   pub few : length c.words ≤ MOST_WORDS
   pub count : length c.words ≡ word_count c.sizes

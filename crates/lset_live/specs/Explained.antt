@@ -60,9 +60,9 @@ abbrev pub NamedIn : ℕ → List Record → Type 0
 NamedIn u [] = ⊥
 NamedIn u (r ∷ rs) = Names u r ⊎ NamedIn u rs
 
--- A legal order of exactly the calls in the records, which leaves these keys. The order agrees with each record: with
--- the sequence of the seat's calls, and with the moments when other seats were merged into the seat. The order need not
--- keep real-time order between seats. In short: the calls are sequentially consistent.
+-- A legal order that has exactly the calls in the records, and leaves these keys in the set. The order agrees with
+-- each record: with the sequence of the seat's calls, and with the moments when other seats were merged into the seat.
+-- The order need not keep real-time order between seats. In short: the calls are sequentially consistent.
 pub record IsOneLegalOrder (k : Opening) (records : List Record) (keys : List ℕ) : Type 0 where
   pub order : List Answered
   pub legal : IsLegal k.quota (opening_set k) order
@@ -71,10 +71,10 @@ pub record IsOneLegalOrder (k : Opening) (records : List Record) (keys : List �
   pub no_other : (u : ℕ) → u < k.threads → ¬ (NamedIn u records) → calls_by u order ≡ []
   pub leaves : (set_left (opening_set k) order).keys ≡ keys
 
--- A legal order of exactly the calls in the records that also linearizes the history of these events: a call that ended
--- before another call started precedes it. In the contracts, the events begin with all events that the seats had seen.
--- A seat that has received a receipt has seen all events of the seat that issued the receipt. Therefore the order
--- respects receipts just as it respects the merging of seats.
+-- A legal order that has exactly the calls in the records, and also linearizes the history of these events: a call
+-- that ended before another call started precedes it. In the contracts, the events begin with all events that the
+-- seats had seen. A seat that has received a receipt has seen all events of the seat that issued the receipt.
+-- Therefore the order respects receipts just as it respects the merging of seats.
 pub record IsOneOrderInTime (T : Table) (k : Opening) (events : List Event) (records : List Record) (keys : List ℕ) : Type 0 where
   pub run : IsRunOf T k events
   pub placed : List Placed

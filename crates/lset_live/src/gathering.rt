@@ -10,7 +10,7 @@ use crate::set::LiveSet;
 use lset_steps::Machine;
 
 impl<M: Machine> LiveSet<M> {
-    /// Returns whether `seats`, with the seats merged into them, are all seats of the set.
+    /// Returns whether `seats`, counting the seats merged into them, are all seats of the set.
     pub fn is_held_by(&self, seats: &[Seat<M>]) -> bool
         ensures all { IsTrue result ↔ (sum_by (λ s. s.held) seats.now ≡ self.now.shape.threads) }
         ensures few { IsTrue result → (0 < length seats.now) × (length seats.now ≤ MOST_THREADS) }

@@ -87,9 +87,9 @@ pub fn open<M: Machine>(
 }
 
 /// Opens a set that contains `keys`, with `seats` seats (1 to `MOST_THREADS`) that can add `quota` keys each (0 to
-/// `MOST_QUOTA`). There can be at most `MOST_OPENING` `keys`, in strictly increasing order. They count against no
-/// quota, no thread has added them, and each seat can remove them. The final keys of a closed set can open another set,
-/// of any list. (The lists in the literature open empty.)
+/// `MOST_QUOTA`). There can be at most `MOST_OPENING` `keys`, in strictly increasing order. They do not count against
+/// any quota, and each seat can remove them. The final keys of a closed set can open another set, of any list. (In the
+/// literature, a list starts empty.)
 ///
 /// Returns `OpenFault::Seats` if `seats` is out of range, else `OpenFault::Quota` if `quota` is, else
 /// `OpenFault::Opening` if `keys` has too many keys or a key is not above the key before it. Returns

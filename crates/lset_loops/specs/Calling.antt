@@ -43,8 +43,8 @@ pub record MayStep (m : Table) (b : Begun) (a : Action) (s : TableSeat) : Type 0
 pub record HasStepped (m : Table) (b : Begun) (s : TableSeat) (n : ℕ) (s' : TableSeat) : Type 0 where
   pub leads : (l : Local) → Holds m b l s → Holds m b (m.feed l n).local s'
 
--- According to the step table, call b now attempts to acquire the lock at index `word`, and repeats the attempt until
--- it succeeds.
+-- According to the step table, call b now attempts to take the lock at index `word`, and repeats the attempt until it
+-- succeeds.
 pub record MayLock (m : Table) (b : Begun) (word thread : ℕ) (s : TableSeat) : Type 0 where
   pub held : Local
   pub holds : Holds m b held s

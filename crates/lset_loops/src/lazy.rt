@@ -14,8 +14,8 @@ use lset_lazy::LazyList;
 use lset_rule::{OwnSlots, Pause, Rounds, TableSeat, Words};
 use lset_words::{Call, Reply};
 
-/// Walks from the head to the first key that is not smaller than the call's key. `first` is the node after the head,
-/// as the call loaded it.
+/// Walks from the head to the first key that is not smaller than the call's key. The walk starts at `first`, the node
+/// that the head's link led to.
 #[inline(always)]
 fn walk<P: Pause, N: Rounds>(
     caller: &Caller<LazyList, P>,

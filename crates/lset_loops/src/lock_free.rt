@@ -15,7 +15,7 @@ use lset_rule::{OwnSlots, Pause, Rounds, TableSeat, Words};
 use lset_words::{Call, Reply};
 
 /// Walks from the head to the first key that is not smaller than the call's key, and unlinks marked nodes on the way:
-/// Herlihy and Shavit's `find`. `first` is the node after the head, as the call loaded it.
+/// Herlihy and Shavit's `find`. The walk starts at `first`, the node that the head's link led to.
 fn find<P: Pause, N: Rounds>(
     caller: &Caller<LockFreeList, P>,
     place: &mut TableSeat,

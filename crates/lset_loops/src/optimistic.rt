@@ -19,8 +19,8 @@ pub(crate) struct Stopped {
     pub(crate) before: u64,
 }
 
-/// Walks from the head to the first key that is not smaller than the call's key. `first` is the node after the head,
-/// as the call loaded it.
+/// Walks from the head to the first key that is not smaller than the call's key. The walk starts at `first`, the node
+/// that the head's link led to.
 #[inline(always)]
 fn walk<P: Pause, N: Rounds>(
     caller: &Caller<OptimisticList, P>,

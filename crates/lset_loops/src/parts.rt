@@ -6,7 +6,7 @@ ghost use Rattle.lset_loops.specs.Nodes.{index_of, word_of};
 use crate::node::Node;
 use lset_steps::rows::{key_index, link_index, lock_index};
 
-/// A word of a node.
+/// A word of a node: its key, its link or its lock.
 #[derive(Clone, Copy)]
 pub(crate) enum Part {
     Key(Node),

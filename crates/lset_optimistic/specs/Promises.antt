@@ -29,8 +29,8 @@ abbrev pub IsWalking : Local → Type 0
 IsWalking l = (l.pc ≡ 6) ⊎ (l.pc ≡ 7)
 
 -- States that the second walk of a call has arrived at pred, and that the thread has not yet released pred's lock. The
--- thread is at a row from 7 (the load of pred's key) to 14 (the release of pred's lock). A thread with a failed walk
--- is at row 14 as well, but with another node than pred.
+-- thread is at a row from 7 (the load of pred's key) to 14 (the release of pred's lock). A thread whose second walk
+-- has failed is also at row 14, but its walk is at another node.
 pub record HasArrived (l : Local) : Type 0 where
   pub from : 7 ≤ l.pc
   pub upto : l.pc ≤ 14

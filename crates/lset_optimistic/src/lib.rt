@@ -68,7 +68,7 @@ pub fn next_action(local: &Local) -> Action
 }
 
 /// Returns the thread's private state after its walk continues from `pred`, the node with key word `pkey`, to the next
-/// node, which the word `link` names.
+/// node, which the link word `link` leads to.
 #[inline(always)]
 fn walks_on(local: &Local, pred: u64, pkey: u64, link: u64) -> Local
     ensures { result ≡ record local.now { pc = 2; pred = pred; pkey = pkey; curr = link / 2 } }
@@ -123,7 +123,7 @@ fn gives_up(local: &Local) -> Local
 }
 
 /// Returns the thread's private state after the second walk has read the key word `seen`. Validation fails if the walk
-/// is past pred, the node that the first walk found. The second walk has arrived if it is at pred.
+/// has passed pred, the node that the first walk found. If the walk is at pred, it has arrived.
 #[inline(always)]
 fn at_node(local: &Local, seen: u64) -> Local
     ensures { result ≡ at_node seen local.now }

@@ -119,8 +119,8 @@ module _ (S : Shape) (size : ℕ) where
     pub late : S.late l → LateBy S (S.left 0 (λ a. 0) l) l'
     pub near : S.calm ws l → (n : ℕ) → TimedBy key (node_link ws) (suc n) l → TimedBy key' (node_link ws') n l'
 
-  -- States that a step with the outcome f ends its call or brings the end of the call closer (`Goes`). Of the locks in
-  -- O, the thread can hold those that it could hold before.
+  -- States that a step with the outcome f ends its call or brings the end of the call closer (`Goes`). In the new
+  -- private state, `may` still allows the thread each lock in O that it allowed before.
   pub record Then (key : ℕ → ℕ) (ws : List ℕ) (l : Local) (O : ℕ → Type 0) (key' : ℕ → ℕ) (ws' : List ℕ) (f : Fed) : Type 0 where
     pub keeps : (x : ℕ) → O x → S.may l x → S.may f.local x
     pub then : ((r : Reply) × (f.answer ≡ Some r)) ⊎ Goes key ws l key' ws' f.local

@@ -10,7 +10,8 @@ nowhere = record { now = tt; ref_ptr = (0, 0) }
 abbrev pub called : Past → OwnCall → Past
 called r c = Called' nowhere r c
 
--- Appends to the record r of a seat the record g of another seat that is merged into this seat.
+-- Returns the record of a seat after another seat is merged into it. Before that, r was the record of the seat, and g
+-- the record of the other seat.
 abbrev pub gathered : Past → Past → Past
 gathered r g = Gathered' nowhere r nowhere g
 
@@ -39,8 +40,8 @@ GatheredBefore n (Fresh t) = Unit {0}
 GatheredBefore n (Called' p r c) = GatheredBefore n r
 GatheredBefore n (Gathered' p r q g) = GatheredBefore n r × Before n g
 
--- States that each call of a seat's own thread started after all calls in the records that were merged into the seat's
--- record before this call.
+-- States that records were merged in at the right time: if a record was merged into the seat's record before a call of
+-- the seat's own thread, all calls in the merged record ended before this call started.
 abbrev pub InOrder : Past → Type 0
 InOrder (Fresh t) = Unit {0}
 InOrder (Called' p r c) = InOrder r × GatheredBefore c.begun r

@@ -44,8 +44,8 @@ pub record Stands (m : Table) (v : View) : Type 0 where
   pub of_thread : root v.past ≡ v.thread
   pub apart : Apart v.past
   pub named : (u : ℕ) → IsIn u v.past → HasThread v u
-  -- Each call of a record's own thread started after all calls in the records that were merged into this record before
-  -- the call.
+  -- If a record was merged in before a call of the seat's own thread, all calls in the merged record ended before this
+  -- call started. The same is true inside each merged record.
   pub ordered : InOrder v.past
   -- All calls in the record have ended. They ended before the seat's pending call started.
   pub ended : Before (length v.seen + 1) v.past

@@ -22,8 +22,8 @@ impl<M: Machine> TableRule<(), View, Opened> for Follows<M> {
     ghost first = { opener };
 }
 
-/// A type that represents the call that a first step starts. A caller passes `Brand`, and proves which call `Brand`
-/// represents.
+/// A type that represents a call in the contract of the call's first step. A caller passes `Brand`, and proves which
+/// call `Brand` represents.
 pub trait Asking {
     ghost call: { Call };
 }

@@ -1,4 +1,4 @@
-//! The slots of a thread: nodes for the keys that it can still add. Also the other state that a thread keeps between
+//! The slots of a thread (nodes for the keys that it can still add), and the other state that a thread keeps between
 //! two calls.
 ghost use Rattle.std.specs.Prelude.{◌≡◌};
 ghost use Rattle.lset_steps.specs.Steps.{idle};
