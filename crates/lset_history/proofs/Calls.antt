@@ -1,4 +1,5 @@
--- Properties of the calls in the log of a run at each moment, if each event is a valid start of a call or a valid step.
+-- Properties of the calls in the log of a run at each moment, if each event is a valid start of a call or a valid
+-- step. Moment k is after the first k entries of the log.
 use Rattle.std.proofs.Common.{rules, ◌≡◌, ◌≢◌, ℕ, zero, suc, ◌<◌, ◌≤◌, ◌⊎◌, Bool, true, false, ◌||◌, ◌&&◌, inl, inr, List, [], ◌∷◌, ◌++◌, map, length}
 use Rattle.std.proofs.Common.{sym, refl, ap, subst, ◌∙◌, arith}
 use Rattle.std.specs.Prelude.{slice_index_or, Option, Some, None, is_some, is_none, IfSome, IsSomeAnd, All, AllPairs, if◌then◌else◌}

@@ -1,4 +1,5 @@
--- Every run with an account has exactly one placement, the order of its calls by their linearization points.
+-- Every run with an account (a record of the effect of each event on the set) has exactly one placement, the order of
+-- its calls by their linearization points.
 use Rattle.std.proofs.Common.{◌≡◌, ℕ, zero, suc, ◌+◌, ◌<◌, ◌≤◌, ◌⊎◌, inl, inr, List, [], ◌∷◌, length, map, sym, refl, subst, ap}
 use Rattle.std.proofs.Common.{◌∙◌, arith}
 use Rattle.std.specs.Prelude.{Option, Some, None}

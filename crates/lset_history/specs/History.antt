@@ -1,4 +1,5 @@
--- The value of the Rust type `History`, and the conditions for the start and the end of a call in a history.
+-- The value of the Rust type `History`, and the conditions for the start and the end of a call in a history. A moment
+-- is a number that dates the start or the end of a call.
 use Rattle.std.specs.Prelude.{◌≡◌, ℕ, ◌<◌, ◌≤◌, ◌^◌, ◌==◌, ◌&&◌, max, Bool, true, false, List, [], ◌∷◌, ◌++◌, length, Option}
 use Rattle.std.specs.Prelude.{Some, None, is_none, All, IfSome, slice_index_or, slice_set}
 use Rattle.std.specs.List.{list_any}

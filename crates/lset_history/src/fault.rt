@@ -17,7 +17,7 @@ pub enum HistoryFault {
     /// The history has no call with this number, or the call has already ended.
     #[error("no pending call has this number")]
     NotOpen,
-    /// The moment is 0, or not after the start and the end of every call in the history.
+    /// The moment (a number that dates the start or the end of a call) is 0, or not after every earlier start and end.
     #[error("the moment is 0, or not above every earlier one")]
     Time,
     /// An allocation failed.

@@ -1,5 +1,5 @@
--- Proof for a run that has an account and ends with a list of keys: its calls have exactly one order by linearization
--- points, and this order explains the run.
+-- Proof for a run that has an account (a record of the effect of each event on the set) and ends with a list of keys:
+-- its calls have exactly one order by linearization points, and this order explains the run.
 use Rattle.std.proofs.Common.{ℕ, List, sym, subst, arith}
 use Rattle.lset_words.specs.declared.history.Placed.{Placed}
 use Rattle.lset_words.specs.Words.{Opening}

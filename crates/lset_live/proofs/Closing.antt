@@ -1,5 +1,5 @@
--- Proof about `close`: the seat passed to `close` holds all seats of the set, and therefore has seen all events that
--- determine the final keys.
+-- Proof about `close`: the seat passed to `close` (the right to call as one thread) holds all seats of the set, and
+-- therefore has seen all events that determine the final keys.
 use Rattle.std.proofs.Common.{◌≡◌, inl, ℕ, zero, suc, ◌+◌, ◌/◌, ◌<◌, false, List, [], ◌∷◌, map, length, None, refl, sym, ap, ◌∙◌}
 use Rattle.std.proofs.Common.{subst, arith}
 use mathlib.Core.Option.{some, some-injective, some-ne-none}

@@ -1,4 +1,4 @@
--- Lemmas about the new seats of a set that was just opened.
+-- Lemmas about the new seats (rights to call as one thread) of a set that was just opened.
 use Rattle.std.proofs.Common.{◌≡◌, ℕ, ◌+◌, List, [], ◌∷◌, ◌++◌, map, length, refl, sym, ◌∙◌, subst, arith, All}
 use Rattle.std.specs.List.{range_with_len}
 use Rattle.std.proofs.lemmas.List.Elements.{All-cons, All-nil}

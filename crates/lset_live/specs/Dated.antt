@@ -1,4 +1,5 @@
--- Removes the event numbers from the calls in a seat's record. Contracts use records without these numbers.
+-- Removes the event numbers from the record of a seat (its completed calls). Contracts use records without these
+-- numbers.
 use Rattle.lset_rule.specs.declared.view.OwnCall.{OwnCall}
 use Rattle.lset_rule.specs.declared.view.Past.{Past, Fresh, Called', Gathered'}
 use Rattle.lset_words.specs.Records.{CallMade, Record, fresh, called, gathered}

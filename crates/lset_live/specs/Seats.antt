@@ -1,4 +1,4 @@
--- The values of running sets, seats and receipts in contracts.
+-- The values of running sets, seats (rights to call as one thread) and receipts in contracts.
 use Rattle.std.specs.Prelude.{◌≡◌, ◌<◌, ◌≤◌, ◌⊎◌, length, ℕ, Bool, true, false, List, [], ◌∷◌, Option, Some, None, map}
 use Rattle.std.specs.List.{range_with_len}
 use Rattle.std.specs.List.Sorted.{IsStrictlyIncreasing}

@@ -1,4 +1,4 @@
-//! Merges several seats of a set into one seat (gathering).
+//! Merges several seats of a set into one seat (gathering). A seat is the right to call as one thread.
 ghost use Rattle.std.specs.Prelude.{◌≡◌, ◌+◌, ◌<◌, ◌≤◌, ◌↔◌, IfSome, IsTrue, Some, [], ◌∷◌, length, sum_by};
 ghost use Rattle.std.specs.Option.{option_map};
 ghost use Rattle.lset_words.specs.declared.TheConstants.{MOST_THREADS};

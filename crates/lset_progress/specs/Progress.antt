@@ -1,5 +1,5 @@
--- Laws of progress, in Herlihy and Shavit's terms. They state when calls end, and hold at each moment of every run,
--- under every schedule.
+-- Laws of progress, in Herlihy and Shavit's terms. They state when calls end, and hold at each moment k (after k
+-- events) of every run, under every schedule.
 use Rattle.std.specs.Prelude.{◌≡◌, ◌≢◌, ℕ, zero, suc, ◌+◌, ◌*◌, ◌%◌, ◌<◌, ◌≤◌, ◌⊎◌, Bool, true, false, Some, slice_index}
 use Rattle.lset_words.specs.declared.Call.{Call}
 use Rattle.lset_words.specs.declared.Call.TheVariants as call

@@ -1,5 +1,5 @@
--- Proof: if a seat has as many threads as the set, it has each thread of the set. Therefore, when the set is closed,
--- this seat knows the words exactly.
+-- Proof: if a seat (the right to call as one thread) has as many threads as the set, it has each thread of the set.
+-- Therefore, when the set is closed, this seat knows the words exactly.
 use Rattle.std.proofs.Common.{◌≡◌, ◌≢◌, ◌⊎◌, inl, inr, ⊎_elim, ℕ, zero, suc, ◌+◌, ◌<◌, ◌≤◌, List, [], ◌∷◌, length, refl, sym, ap}
 use Rattle.std.proofs.Common.{◌∙◌, subst, arith, ◌++◌, false, append-nil, length-append}
 use mathlib.Core.Logic.{dite}

@@ -1,5 +1,6 @@
 -- Proof: splitting and joining seats, and issuing and using receipts, preserve the invariant of the shared words and
--- all seats.
+-- all seats. A seat is the right to call as one thread. A receipt carries the events that a seat has seen to another
+-- seat.
 use Rattle.std.proofs.Common.{◌≡◌, ◌≢◌, ◌⊎◌, inl, inr, ⊎_elim, ℕ, ◌+◌, ◌<◌, ◌≤◌, ◌==◌, Bool, true, false, cond, List}
 use Rattle.std.proofs.Common.{[], ◌∷◌, ◌++◌, length, set, nat_le, Option, None, refl, sym, ap, ◌∙◌, subst, arith, rules, tests}
 use Rattle.std.proofs.Common.{append-nil, eq-eqb, ne_eqb}
@@ -124,7 +125,7 @@ module _ (m : Table) where
   fits_seat k log so so' j v same f =
       fits_less k log so so' j j v v f refl refl f.ours f.theirs (λ t h. h) f.stands (λ t h. same t (f.seat t h) h)
 
-  -- ---- Lemmas about splitting a seat. A seat is the right to call as one thread
+  -- ---- Lemmas about splitting a seat
   module _ (v0 : View) (o : SpareThread) (os : List SpareThread) where
     abbrev V : View
     V = record v0 { spent = false; under = None; past = Fresh v0.thread; others = o ∷ os }

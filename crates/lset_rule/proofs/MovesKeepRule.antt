@@ -1,4 +1,5 @@
--- Proof: the start of a call and each step of a call preserve the invariant of the shared words and all seats.
+-- Proof: the start of a call and each step of a call preserve the invariant of the shared words and all seats. A seat
+-- is the right to call as one thread.
 use Rattle.std.proofs.Common.{◌≡◌, ◌≢◌, inl, inr, ℕ, ◌+◌, ◌<◌, ◌≤◌, false, List, [], ◌∷◌, ◌++◌, length, set, slice_index}
 use Rattle.std.proofs.Common.{slice_set, Option, Some, None, refl, sym, ap, ◌∙◌, subst, arith, append-nil, append_assoc, length-append}
 use mathlib.Core.Option.{some}

@@ -1,4 +1,5 @@
--- Proof: when a set has been opened, the invariant of the shared words and all seats holds.
+-- Proof: when a set has been opened, the invariant of the shared words and all seats (rights to call as one thread)
+-- holds.
 use Rattle.std.proofs.Common.{◌≡◌, ◌≢◌, inl, inr, ⊎_elim, ℕ, zero, suc, ◌+◌, ◌-◌, ◌<◌, ◌≤◌, List, [], ◌∷◌, length, None}
 use Rattle.std.proofs.Common.{refl, sym, ap, ◌∙◌, subst, arith}
 use mathlib.Core.Option.{some, some-injective, some-ne-none}

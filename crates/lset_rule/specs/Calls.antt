@@ -1,5 +1,5 @@
--- The steps of a call: how each step, and a whole call, changes the view of the caller's seat (its knowledge of the
--- run).
+-- The steps of a call: how each step, and a whole call, changes the view of the caller's seat. A seat is the right to
+-- call as one thread; its view is its knowledge of the run.
 use Rattle.std.specs.Prelude.{◌≡◌, ℕ, ◌+◌, List, [], ◌∷◌, ◌++◌, length, Option, Some, None}
 use Rattle.atomic_table.specs.Table.{Me, Step}
 use Rattle.lset_words.specs.declared.Call.{Call}

@@ -1,4 +1,5 @@
--- One step of an interpreted call: the requirements of the step on its seat and on the thread's state, and its result.
+-- One step of an interpreted call: what the step requires of its seat (the right to call as one thread) and of the
+-- thread's state, and its result.
 use Rattle.std.specs.Prelude.{◌≡◌, ℕ}
 use Rattle.atomic_table.specs.Seated.{TableId}
 use Rattle.lset_words.specs.Words.{Opening}

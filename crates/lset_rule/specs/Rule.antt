@@ -1,6 +1,7 @@
 -- The invariant of a list on shared words (the code calls it the rule). It holds between any two steps: some list of
 -- events is a run that ends with the words in memory, and the view of each seat (its knowledge of the run) matches
--- these events. The definitions after `Holds` are the views after actions that are not events: opening a set,
+-- these events. A seat is the right to call as one thread. A receipt carries the events that a seat has seen to
+-- another seat. The definitions after `Holds` are the views after actions that are not events: opening a set,
 -- splitting a seat, joining two seats, the load that completes a join, issuing a receipt, and using a receipt.
 use Rattle.std.specs.Prelude.{◌≡◌, ℕ, zero, suc, ◌+◌, ◌-◌, ◌<◌, ◌≤◌, true, false, List, [], ◌∷◌, ◌++◌, length, None, cond, nat_le}
 use mathlib.Core.Option.{some}

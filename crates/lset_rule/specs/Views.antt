@@ -1,5 +1,6 @@
--- The conditions on a single view, whatever the shared words and the other seats are. The view of a seat is its
--- knowledge of the run: the events that the seat has seen, and the state of each of its threads after these events.
+-- The conditions on a single view, whatever the shared words and the other seats are. The view of a seat (the right to
+-- call as one thread) is its knowledge of the run: the events that the seat has seen, and the state of each of its
+-- threads after these events.
 use Rattle.std.specs.Prelude.{◌≡◌, ◌≢◌, ◌⊎◌, ℕ, ◌+◌, ◌<◌, false, List, [], ◌∷◌, length, Option, Some, None}
 use Rattle.lset_rule.specs.declared.view.PendingCall.{PendingCall}
 use Rattle.lset_rule.specs.declared.view.SpareThread.{SpareThread}

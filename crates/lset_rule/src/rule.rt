@@ -1,4 +1,5 @@
-//! The invariant of the shared words and all seats, and how each action changes a view (a seat's knowledge of the run).
+//! The invariant of the shared words and all seats, and how each action changes a view (a seat's knowledge of the
+//! run). A seat is the right to call as one thread. A receipt carries the events that a seat has seen to another seat.
 ghost use Rattle.lset_words.specs.declared.Call.{Call};
 ghost use Rattle.lset_words.specs.declared.Call.TheVariants.{Contains};
 ghost use Rattle.lset_rule.specs.Rule.{Holds, opener, left_view, right_view, joined, nobody, learned, without_thread, informed};

@@ -11,7 +11,8 @@ use Rattle.lset_steps.specs.declared.Local.{Local}
 use Rattle.lset_steps.specs.Steps.{idle}
 use Rattle.lset_steps.specs.declared.rows.Targets.{Targets}
 
--- Returns the node that the thread's next successful add will use: the first slot of the thread that is not used yet.
+-- Returns the node that the thread's next successful add will use: the first slot that the thread has not used yet. A
+-- slot is a node reserved for one add of the thread.
 abbrev pub own_slot : Local → ℕ
 own_slot l = slot_node l.quota l.thread l.used
 

@@ -6,8 +6,8 @@ use crate::{Action, Local};
 use lset_words::{Call, Key, MOST_NODES, Reply, slot_node};
 pub use lset_words::{key_index, link_index, lock_index};
 
-/// Returns the node that the thread's next successful `add` will use: the first slot of the thread that is not used
-/// yet.
+/// Returns the node that the thread's next successful `add` will use: the first slot that the thread has not used yet.
+/// A slot is a node reserved for one `add` of the thread.
 #[inline(always)]
 pub fn own_slot(local: &Local) -> u64
     requires { IsSmall local.now }
