@@ -13,7 +13,7 @@ abbrev pub turned : ℕ → Bool → Bool
 turned zero b = b
 turned (suc i) b = turned i (not b)
 
--- Each change negates whether the key is present. Up to moment `m`, this happens once for each change at or before
+-- A key's presence at moment `m` is its presence before the first change, flipped once for each change at or before
 -- `m`.
 pub state_between : (b : Bool) (ms : List ℕ) (i m : ℕ) → i ≤ length ms → ((j : ℕ) → j < i → get_or ms j 0 ≤ m)
     → (i < length ms → m < get_or ms i 0) → state_at b ms m ≡ turned i b

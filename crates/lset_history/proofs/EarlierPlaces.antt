@@ -109,8 +109,7 @@ order_more o calls order i inside =
     ap (λ (s : SetState). let v : OracleValue = record { threads = o.threads; quota = o.quota; state = s } in v)
     (left_more calls order i o.state inside)
 
--- If `reply` is right for the call `x` on the set `now`, and these are the call and the set at index `i` of the order,
--- then the reply at index `i` is right.
+-- If the reply is right for the call `x` and the set `now`, the reply at index `i` of the order is right.
 pub reply_there : (o now : OracleValue) (calls : List CallRecord) (order : List Placed) (i : ℕ) (x : CallRecord)
     → now ≡ after_order o calls (take i order) → x ≡ placed_call calls order i → HasReply now x (place_at order i).reply
     → HasReply (after_order o calls (take i order)) (placed_call calls order i) (place_at order i).reply

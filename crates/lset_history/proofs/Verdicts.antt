@@ -142,8 +142,7 @@ pub missing_fault : (h : HistoryValue) (calls : List CallRecord) (order : List P
 missing_fault h calls order keys marks number s out =
     (passes_known h.calls order (rw s.calls_are at s.known), s.once, misses_first h.calls order marks number s.holds (rw s.calls_are at out))
 
--- Replaces the calls and the sequential set that the loop works on by those of the history: its own calls, and the set
--- in its opening state.
+-- Replaces the calls and the set of the loop by the history's own calls and the opening state of the set.
 settled : (h : HistoryValue) (calls : List CallRecord) (order : List Placed) (marks : List Bool) (oracle : OracleValue)
     → LeavesNoneOut h calls order marks oracle → LeavesNoneOut h h.calls order marks (set_opened h.opening)
 settled h calls order marks oracle l =

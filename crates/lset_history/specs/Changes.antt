@@ -34,14 +34,14 @@ noted_of c key = moments_in (lookup (is_at (nat_cmp key)) c.entries)
 abbrev pub moments_of : ChangesValue → ℕ → List ℕ
 moments_of c key = opened_moments c.opening key ++ noted_of c key
 
--- Returns whether a key is present at `moment`. Each moment of the list is a change, which adds the key if it was
--- absent and else removes it. `present` is true if the key is present before the first change.
+-- Returns whether a key is present at `moment`. Each moment of the list is a change, which flips the key's presence.
+-- `present` is true if the key is present before the first change.
 abbrev pub state_at : Bool → List ℕ → ℕ → Bool
 state_at present [] moment = present
 state_at present (m ∷ ms) moment = if nat_lt moment m then present else state_at (not present) ms moment
 
--- Returns whether a key is present after the last change. Each moment of the list is a change, which adds the key if
--- it was absent and else removes it. `present` is true if the key is present before the first change.
+-- Returns whether a key is present after the last change. Each moment of the list is a change, which flips the key's
+-- presence. `present` is true if the key is present before the first change.
 abbrev pub state_after : Bool → List ℕ → Bool
 state_after present [] = present
 state_after present (m ∷ ms) = state_after (not present) ms
@@ -67,7 +67,6 @@ abbrev pub IsFirst : (ℕ → Type 0) → ℕ → ℕ → Option ℕ → Type 0
 IsFirst P first last None = (m : ℕ) → first ≤ m → m ≤ last → P m → ⊥
 IsFirst P first last (Some k) = (first ≤ k) × (k ≤ last) × P k × ((m : ℕ) → first ≤ m → m < k → P m → ⊥)
 
--- Returns whether two truth values are equal.
 abbrev pub is_same : Bool → Bool → Bool
 is_same true b = b
 is_same false b = not b
@@ -77,7 +76,6 @@ abbrev pub first_passing : Bool → (ℕ → Bool) → ℕ → ℕ → Option �
 first_passing asked f first zero = if is_same asked (f first) then Some first else None
 first_passing asked f first (suc n) = if is_same asked (f first) then Some first else first_passing asked f (suc first) n
 
--- Returns whether two keys are equal, or both `None`.
 abbrev pub same_key : Option ℕ → Option ℕ → Bool
 same_key None None = true
 same_key None (Some b) = false

@@ -61,8 +61,7 @@ pub record IsMissing (calls : List CallRecord) (order : List Placed) (number : �
   pub ended : IsSome (call_numbered calls number).ended
   pub absent : All (λ (p : Placed). p.call ≢ number) order
 
--- States that a check finds no error at any index of the order. `Refuses i` states that it finds an error at index
--- `i`.
+-- States that a check finds no error at any index of the order.
 abbrev pub Passes : (ℕ → Type 0) → List Placed → Type 0
 Passes Refuses order = (place : ℕ) → place < length order → Refuses place → ⊥
 

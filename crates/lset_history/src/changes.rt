@@ -261,8 +261,8 @@ impl Changes {
         let mut moment = from;
         let mut last = from;
         while let Some((at, noted)) = self.note_after(last) {
-            // A key that is a counterexample at `moment` remains one until it changes. The next key to change is
-            // `noted`, at the moment `at`.
+            // A counterexample at `moment` remains one until its key changes. The key `noted` changes at the moment
+            // `at`.
             if self.is_against(key, found, noted, moment) {
                 moment = at;
             }
@@ -271,9 +271,9 @@ impl Changes {
         moment
     }
 
-    /// Compares the keys from `key` to just below `end` at two times: at `moment`, and after the last change. If the
-    /// result is `true`, each key of this range that is present after the last change was absent at `moment`. If the
-    /// result is `false`, some key of this range was present at `moment`.
+    /// Compares the keys from `key` to just below `end` after the last change and at `moment`. If the result is
+    /// `true`, each key present after the last change was absent at `moment`. If it is `false`, some key was present
+    /// at `moment`.
     fn came_after(&self, key: u32, end: Option<u32>, moment: u32) -> bool
         ensures came { IsTrue result → CameAfter (moments_of self.now) key end moment }
         ensures there { result ≡ false → IsSomeThere (moments_of self.now) key end moment }

@@ -119,8 +119,8 @@ fn lesser(smallest: Option<u32>, ended: Option<(u32, Reply)>) -> Option<u32>
     }
 }
 
-/// Returns the number of the first call that is too early in the order. A call is too early if it began after the end
-/// of a call that follows it in the order.
+/// Returns the number of the first call that is too early in the order: it began after the end of a call that follows
+/// it.
 fn first_too_early(calls: &[CallRecord], order: &[Placed]) -> Option<u32>
     requires { HasKnownCalls calls.now order.now }
     ensures { MatchOption result

@@ -20,9 +20,8 @@ pub fn logs_tell_histories()
     ensures { LogsTellHistories }
 {}
 
-/// Lemma: the two definitions of a correct reply agree. A reply `Fits` the keys of a set and a thread's number of
-/// successful adds if and only if the sequential set in this state returns the reply and does not change. The function
-/// does nothing.
+/// Lemma: `Fits` agrees with the sequential set. A reply fits a set's keys and a thread's number of successful adds if
+/// and only if the set in this state returns the reply and does not change. The function does nothing.
 pub fn fits_are_replies()
     ensures { FitsAreReplies }
 {}

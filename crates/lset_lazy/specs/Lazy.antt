@@ -14,8 +14,7 @@ use Rattle.lset_steps.specs.Steps.{Table}
 use Rattle.lset_steps.specs.Rows.{own_slot, decided_on}
 use Rattle.lset_steps.specs.ReadRows.{begun_reading, read_action, read_fed, continued, leaves_with}
 
--- The rows of the step table where a call continues after its walk: `adds` if the call will add its key, `removes` if
--- it will remove its key, `leaves` if it can reply.
+-- Rows of the step table after a walk: where a call adds its key, removes its key, or leaves with its reply.
 abbrev pub targets : Targets
 targets = record { adds = 8; removes = 11; leaves = 13 }
 
@@ -54,7 +53,7 @@ at_pred seen l = if seen == 2 * l.curr then record l { pc = 7 } else gives_up l
 abbrev pub at_curr : ℕ → Local → Local
 at_curr seen l = if seen % 2 == 0 then decided_on targets l.ckey (record l { succ = seen / 2 }) else gives_up l
 
--- Returns the outcome of the step that releases the last lock. The call ends with its reply. If it has no reply, it
+-- Returns the outcome of the step that releases the last lock: the call ends with its reply or, without a reply,
 -- starts again.
 abbrev pub released : Option Reply → Local → Fed
 released None l = continued (record l { pc = 1 })

@@ -34,7 +34,7 @@ decides (Remove k) l = if l.ckey == target (Remove k) then continued (goes_to 11
 decides (Contains k) l = if l.ckey == target (Contains k) then leaves (Some True) l else leaves (Some False) l
 decides (Ceiling k) l = leaves (Some (ceiling_at l.ckey)) l
 
--- Returns the outcome of the step that releases the last lock. The call ends with its reply. If it has no reply, it
+-- Returns the outcome of the step that releases the last lock: the call ends with its reply or, without a reply,
 -- starts again.
 abbrev pub answers_or_walks : Option Reply → Local → Fed
 answers_or_walks None l = on_to 1 l

@@ -17,20 +17,19 @@ use lset_steps::{Action, Fed, Local, Machine, OpenReads};
 use lset_words::{Call, HEAD, Key, Kind, Reply};
 
 /// The list set whose calls walk without locks. An `add` or a `remove` then locks the two nodes at which its walk
-/// ended, and walks again if they have changed since (Herlihy and Shavit's lazy list).
+/// ended, and walks again if they have changed since.
 #[derive(Clone, Copy)]
 pub struct LazyList;
 
-/// The rows of the step table where a call continues after its walk: `adds` if the call will add its key, `removes` if
-/// it will remove its key, `leaves` if it can reply.
+/// Rows of the step table after a walk: where a call adds its key, removes its key, or leaves with its reply.
 const TARGETS: Targets = Targets {
     adds: 8,
     removes: 11,
     leaves: 13,
 };
 
-/// Returns the next word access of a thread with a pending call. The thread's program counter is its row of the step
-/// table. The numbers in `local` must be small (`IsSmall`), as they are in every run.
+/// Returns the next word access of a pending call. The program counter `pc` is the row of the step table. The numbers
+/// in `local` must be small (`IsSmall`), as they are in every run.
 #[inline(always)]
 pub fn next_action(local: &Local) -> Action
     requires { IsSmall local.now }
@@ -138,7 +137,7 @@ fn succeeds(local: Local) -> Local
     }
 }
 
-/// Returns the outcome of the step that releases the last lock. The call ends with its reply. If it has no reply, it
+/// Returns the outcome of the step that releases the last lock: the call ends with its reply or, without a reply,
 /// starts again.
 #[inline(always)]
 fn released(local: &Local) -> Fed
@@ -150,8 +149,7 @@ fn released(local: &Local) -> Fed
     }
 }
 
-/// Returns the thread's private state after its next step, in which it saw `seen`, and the reply if the step ends the
-/// call.
+/// Returns the thread's private state after its next step, which saw `seen`, and the reply if the step ends the call.
 #[inline(always)]
 pub fn fed_by(local: &Local, seen: u64) -> Fed
     requires { IsSmall local.now }
@@ -182,8 +180,7 @@ pub fn fed_by(local: &Local, seen: u64) -> Fed
     continued(next)
 }
 
-/// Returns the key that the thread's next step adds (`true`) or removes (`false`), or `None` if the step does not
-/// change the set.
+/// Returns the key that the next step adds (`true`) or removes (`false`), or `None` if the step changes nothing.
 #[inline(always)]
 pub fn effect_of(local: &Local, _seen: u64) -> Option<(Key, bool)>
     ensures { result ≡ effect_of local.now _seen }

@@ -18,21 +18,20 @@ use lset_steps::{Action, Fed, Local, Machine, OpenReads};
 use lset_words::{Call, HEAD, Key, Kind, Reply};
 
 /// The list set without locks. To remove a node, an exchange of the node's own link marks it, and an exchange of the
-/// previous node's link then unlinks it. Any call that reaches a marked node can unlink it (Herlihy and Shavit's
-/// lock-free list).
+/// previous node's link then unlinks it. Any call that reaches a marked node can unlink it.
 #[derive(Clone, Copy)]
 pub struct LockFreeList;
 
-/// The rows of the step table where a call continues after its walk: `adds` if the call will add its key, `removes` if
-/// it will remove its key. A call that changes nothing ends at once (`leaves`, row 0).
+/// Rows of the step table after a walk: where a call adds its key or removes its key. A call that changes nothing ends
+/// at once (`leaves`, row 0).
 const TARGETS: Targets = Targets {
     adds: 5,
     removes: 8,
     leaves: 0,
 };
 
-/// Returns the next word access of a thread with a pending call. The thread's program counter is its row of the step
-/// table. The numbers in `local` must be small (`IsSmall`), as they are in every run.
+/// Returns the next word access of a pending call. The program counter `pc` is the row of the step table. The numbers
+/// in `local` must be small (`IsSmall`), as they are in every run.
 #[inline(always)]
 pub fn next_action(local: &Local) -> Action
     requires { IsSmall local.now }
@@ -124,8 +123,7 @@ fn again(local: &Local) -> Fed
     continued(Local { pc: 1, ..*local })
 }
 
-/// Returns the thread's private state after its next step, which saw the word `seen`, and the reply if the step ends
-/// the call.
+/// Returns the thread's private state after its next step, which saw `seen`, and the reply if the step ends the call.
 #[inline(always)]
 pub fn fed_by(local: &Local, seen: u64) -> Fed
     requires { IsSmall local.now }
@@ -151,8 +149,8 @@ pub fn fed_by(local: &Local, seen: u64) -> Fed
     }
 }
 
-/// Returns the key that the thread's next step adds (`true`) or removes (`false`), or `None` if the step does not
-/// change the set. Only a successful exchange changes the set.
+/// Returns the key that the next step adds (`true`) or removes (`false`), or `None` if the step changes nothing. Only
+/// a successful exchange changes the set.
 #[inline(always)]
 pub fn effect_of(local: &Local, seen: u64) -> Option<(Key, bool)>
     requires { IsSmall local.now }

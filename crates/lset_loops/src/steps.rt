@@ -115,8 +115,8 @@ impl<'a, M: Machine, P: Pause> Caller<'a, M, P> {
         self.store(place, Part::Lock(node), 0);
     }
 
-    /// Attempts to change the link of a node from `old` to `new` by a compare-and-exchange. Returns the value that the
-    /// link had before. Does not call the pause: on its own, this function is for the last step of a call.
+    /// Attempts to change the link of a node from `old` to `new` by a compare-and-exchange, without calling the pause.
+    /// Returns the value that the link had before.
     #[inline(always)]
     pub fn exchange_last(&self, place: &mut TableSeat, node: Node, old: Link, new: Link) -> u64
         requires { MayAnswer M.table self.now.origin (Exchange (link_index node.number) (word_of old) (word_of new)) place.old }

@@ -29,21 +29,19 @@ use lset_steps::{Action, Fed, Local, Machine};
 use lset_words::{Call, HEAD, Key, Kind, Reply};
 
 /// The list set whose calls walk without locks, and then lock the two nodes where the walk ended. A second walk from
-/// the head checks that the first of these nodes is still in the chain and leads to the second (Herlihy and Shavit's
-/// optimistic list).
+/// the head checks that the first of these nodes is still in the chain and leads to the second.
 #[derive(Clone, Copy)]
 pub struct OptimisticList;
 
-/// The rows of the step table where a call continues after its walk: `adds` if the call will add its key, `removes` if
-/// it will remove its key, `leaves` if it can reply.
+/// Rows of the step table after a walk: where a call adds its key, removes its key, or leaves with its reply.
 const TARGETS: Targets = Targets {
     adds: 9,
     removes: 12,
     leaves: 14,
 };
 
-/// Returns the next word access of a thread with a pending call. The thread's program counter is its row of the step
-/// table. The numbers in `local` must be small (`IsSmall`), as they are in every run.
+/// Returns the next word access of a pending call. The program counter `pc` is the row of the step table. The numbers
+/// in `local` must be small (`IsSmall`), as they are in every run.
 #[inline(always)]
 pub fn next_action(local: &Local) -> Action
     requires { IsSmall local.now }
@@ -204,8 +202,7 @@ fn local_after(local: &Local, seen: u64) -> Local
     }
 }
 
-/// Returns the thread's private state after its next step, which saw the word `seen`, and the reply if the step ends
-/// the call.
+/// Returns the thread's private state after its next step, which saw `seen`, and the reply if the step ends the call.
 #[inline(always)]
 pub fn fed_by(local: &Local, seen: u64) -> Fed
     requires { IsSmall local.now }
@@ -218,8 +215,7 @@ pub fn fed_by(local: &Local, seen: u64) -> Fed
     }
 }
 
-/// Returns the key that the thread's next step adds (`true`) or removes (`false`), or `None` if the step does not
-/// change the set.
+/// Returns the key that the next step adds (`true`) or removes (`false`), or `None` if the step changes nothing.
 #[inline(always)]
 pub fn effect_of(local: &Local, _seen: u64) -> Option<(Key, bool)>
     ensures { result ≡ effect_of local.now _seen }

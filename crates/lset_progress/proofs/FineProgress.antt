@@ -27,8 +27,8 @@ use Rattle.lset_progress.proofs.RowsWithLocks.{Shape, Loads, RowOf, NodeLocks, w
 use Rattle.lset_progress.proofs.RowsWithLocks.{writes, no_lock, pred_only, gave_pred, gave_curr, after_pred}
 use Rattle.lset_progress.proofs.Standing.{Standing, stands}
 
--- Returns an upper bound on the steps of a call that remain after its next step, when it runs alone. The list has one
--- number for each row of the step table, from row 0 on.
+-- Returns a bound on the steps that remain after the next one, if the call runs alone. The list has one number for
+-- each row of the step table, from row 0 on.
 abbrev left : ℕ → (ℕ → ℕ) → Local → ℕ
 left size key l = slice_index (0 ∷ (4 * size + 1) ∷ (4 * size) ∷ (4 * ahead key size (key l.curr) + 6)
     ∷ (4 * ahead key size (key l.curr) + 5) ∷ (4 * ahead key size (key l.curr) + 4)
@@ -59,7 +59,7 @@ module _ {sz : Sizes} {ws : List ℕ} {used : ℕ → ℕ} {t : ℕ} {vs : ℕ �
   abbrev To : ℕ → Local → Type 0
   To n k = Loads shape size ws (record l { pc = n }) (continued k)
 
-  -- The number of nodes with greater keys (`rest`) is smaller for curr than for pred, the node before curr.
+  -- `rest`, the number of nodes with greater keys, is smaller for curr than for pred, the node before curr.
   curr_less : Behind V t (target l.call) l.pred l.curr → rest size ws l.curr < rest size ws l.pred
   curr_less b =
       let follows : node_link ws l.pred ≡ 2 * l.curr = b.follows in

@@ -80,9 +80,9 @@ lazy_marks = record {
   takes_at = takes_out_at;
 }
 
--- The number of steps of an additional walk from the head. A call that still has no reply after row 14 of the step
--- table needs such a walk. `left` returns, for each row of the step table, how many steps remain after the next one in
--- a walk that will pass validation.
+-- The number of steps of an additional walk from the head. A call without a reply makes such a walk after row 14 of
+-- the step table. `left` returns, for each row, how many steps remain after the next one in a walk that will pass
+-- validation.
 abbrev round : ℕ → ℕ
 round size = 2 * size + 7
 
@@ -142,7 +142,7 @@ module _ {sz : Sizes} {ws : List ℕ} {used : ℕ → ℕ} {t : ℕ} {vs : ℕ �
   user : (a : ℕ) → node_key ws a < target l.call → a ≢ 1
   user a lt = inner true sz ws used h.memory a (target l.call) lt h.registers.low
 
-  -- The number of nodes with greater keys (`rest`) is smaller for curr than for pred, the node before curr.
+  -- `rest`, the number of nodes with greater keys, is smaller for curr than for pred, the node before curr.
   curr_less : Found V (target l.call) l.pred l.curr l.ckey → rest size ws l.curr < rest size ws l.pred
   curr_less f =
       let below : node_key ws l.pred < target l.call = f.spot.below in

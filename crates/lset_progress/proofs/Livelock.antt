@@ -11,8 +11,8 @@ use Rattle.lset_progress.specs.DeadlockFreedom.{IsDeadlockFree, moves}
 use Rattle.lset_progress.specs.Wrong.{claiming, yielding, NotLivelockFree, NotLockFree}
 use Rattle.lset_progress.proofs.WrittenRuns.{turn, rounds_never_end, rounds_are_fair}
 
--- The events of the run before the events that repeat forever: both threads have walked to the head and the tail, and
--- have written their numbers into the head's lock word, thread 1 last.
+-- The events before those that repeat forever: both threads have walked to the head and the tail, and have written
+-- their numbers into the head's lock word, thread 1 last.
 abbrev claims : List Event
 claims = Begin 0 (Add (record { 0 = 3 })) ∷ Go 0 ∷ Go 0 ∷ Go 0 ∷ Begin 1 (Add (record { 0 = 5 })) ∷ Go 1 ∷ Go 1 ∷ Go 1 ∷ Go 0
     ∷ Go 1 ∷ []
@@ -22,8 +22,8 @@ pub claiming_is_not_lock_free : NotLockFree claiming
 claiming_is_not_lock_free reads most law = rounds_never_end claiming claims (Go 0) (Go 0 ∷ Go 1 ∷ Go 1 ∷ []) refl refl refl refl
     (steps_of reads) refl most law
 
--- The events of the run before the events that repeat forever: thread 0 has added 5. Then thread 0, which adds 3, and
--- thread 1, which removes 5, have both walked to the head and the node of 5.
+-- The events before those that repeat forever: thread 0 has added 5. Then thread 0, which adds 3, and thread 1, which
+-- removes 5, have both walked to the head and the node of 5.
 abbrev yields : List Event
 yields = Begin 0 (Add (record { 0 = 5 })) ∷ Go 0 ∷ Go 0 ∷ Go 0 ∷ Go 0 ∷ Go 0 ∷ Go 0 ∷ Go 0 ∷ Go 0 ∷ Go 0 ∷ Go 0 ∷ Go 0 ∷ Go 0
     ∷ Begin 0 (Add (record { 0 = 3 })) ∷ Go 0 ∷ Go 0 ∷ Begin 1 (Remove (record { 0 = 5 })) ∷ Go 1 ∷ Go 1 ∷ []

@@ -31,9 +31,9 @@ use Rattle.lset_progress.proofs.RowsWithLocks.{Shape, Loads, Stores, RowOf, Node
 use Rattle.lset_progress.proofs.RowsWithLocks.{gave_pred, gave_curr, after_pred, again, goes, on, takes, timed, unlocks, writes}
 use Rattle.lset_progress.proofs.Standing.{Standing, stands}
 
--- The number of steps of an additional walk from the head. A call that still has no reply after it has released its
--- locks needs such a walk. `left` returns, for each row of the step table, how many steps remain after the next one in
--- a walk that will pass validation.
+-- The number of steps of an additional walk from the head. A call without a reply makes such a walk after it has
+-- released its locks. `left` returns, for each row of the step table, how many steps remain after the next one in a
+-- walk that will pass validation.
 abbrev round : ℕ → ℕ
 round size = 4 * size + 4
 
@@ -87,7 +87,7 @@ module _ {sz : Sizes} {ws : List ℕ} {used : ℕ → ℕ} {t : ℕ} {vs : ℕ �
   even : (a : ℕ) → V.published a → node_link ws a ≡ 2 * (node_link ws a / 2)
   even a p = let z : node_link ws a % 2 ≡ 0 = h.memory.marked a p in omega arith
 
-  -- The number of nodes with greater keys (`rest`) is smaller for curr than for pred, the node before curr.
+  -- `rest`, the number of nodes with greater keys, is smaller for curr than for pred, the node before curr.
   curr_less : Found V (target l.call) l.pred l.curr l.ckey → rest size ws l.curr < rest size ws l.pred
   curr_less f =
       let below : node_key ws l.pred < target l.call = f.spot.below in

@@ -39,7 +39,7 @@ leads_up v ord i j (a ∷ ns) m p =
 pub path_up : (v : View) → IsOrdered v → (i j : ℕ) → v.published i → Path v.link i j → v.key i ≤ v.key j
 path_up v ord i j m p = leads_up v ord i j p.0 m p.1
 
--- If links lead from node i to node j, the chain has a segment (a piece) from i to j.
+-- If links lead from node i to node j, the chain has a segment from i to j.
 segment_of : (v : View) (i j : ℕ) (ns : List ℕ) → Leads v.link i ns j → (bs : List ℕ) × Segment v i bs j
 segment_of v i j [] p = ([], p)
 segment_of v i j (a ∷ ns) p = let q = segment_of v (v.link i / 2) j ns p.1 in (i ∷ q.0, (refl, p.0, q.1))

@@ -25,8 +25,7 @@ SameKeys key v = (a : ℕ) → v.published a → key a ≡ v.key a
 pub few_by : (size : ℕ) (key : ℕ → ℕ) (a : ℕ) → a < size → rest_by size key a < size
 few_by size key a h = ahead_few key size (key a) a h (omega arith)
 
--- The number of nodes with greater keys (`rest`) is smaller for the node that a link leads to than for the link's own
--- node.
+-- `rest`, the number of nodes with greater keys, decreases along each link.
 module _ (marks : Bool) (sz : Sizes) (ws : List ℕ) (used : ℕ → ℕ) (m : Memory marks sz ws used) where
   abbrev V : View
   V = view sz ws used

@@ -19,7 +19,6 @@ use Rattle.lset_progress.proofs.Rest.{rest}
 pub at_row : (P : Local → Type 0) (l : Local) (n : ℕ) → l.pc ≡ n → P (record l { pc = n }) → P l
 at_row P l n e x = subst (λ p. P (record l { pc = p })) (sym e) x
 
--- Returns whether a ≤ n and n ≤ b.
 abbrev pub within : ℕ → ℕ → ℕ → Bool
 within a b n = nat_le a n && nat_le n b
 

@@ -15,8 +15,8 @@ use Rattle.lset_progress.proofs.WrittenRuns.{op, run, is_run, is_after, state_af
 two_values : (n a b : ℕ) → (a ≡ b → ⊥) → n ≡ a → n ≡ b → ⊥
 two_values n a b d e f = d (sym e ∙ f)
 
--- The events of the run before the events that repeat forever: thread 1 marks the node of 5, thread 0 is about to
--- unlink this node, but thread 1 unlinks it first. Then thread 0 repeats its attempt forever.
+-- The events before those that repeat forever: thread 1 marks the node of 5, thread 0 is about to unlink this node,
+-- but thread 1 unlinks it first. Then thread 0 repeats its attempt forever.
 abbrev spins : List Event
 spins = Begin 0 (Add (record { 0 = 5 })) ∷ Go 0 ∷ Go 0 ∷ Go 0 ∷ Go 0 ∷ Go 0 ∷ Go 0 ∷ Begin 1
     (Remove (record { 0 = 5 })) ∷ Go 1 ∷ Go 1
@@ -37,9 +37,9 @@ pub spinning_is_not_lock_free : NotLockFree spinning
 spinning_is_not_lock_free reads most law = rounds_never_end spinning spins (Go 0) [] refl refl refl refl
     (steps_of reads) refl most law
 
--- The events of the run before the events that repeat forever: thread 0 has walked to the head and the tail, and thread
--- 1 adds 7 between them. The validation of thread 0 fails, and thread 0 keeps the lock of the head. Its next walk leads
--- to the head again, and it waits forever for the lock of the head.
+-- The events before those that repeat forever: thread 0 has walked to the head and the tail, and thread 1 adds 7
+-- between them. The validation of thread 0 fails, and thread 0 keeps the lock of the head. Its next walk leads to the
+-- head again, and it waits forever for the lock of the head.
 abbrev keeps : List Event
 keeps = Begin 0 (Add (record { 0 = 5 })) ∷ Go 0 ∷ Go 0 ∷ Begin 1
     (Add (record { 0 = 7 })) ∷ Go 1 ∷ Go 1 ∷ Go 1 ∷ Go 1 ∷ Go 1 ∷ Go 1

@@ -64,7 +64,6 @@ onward m st me n me' = Goes m me.0 n me'.0 × (me'.1 ≡ me.1)
 abbrev pub starting : Table → Call → Step (Unit {0}) → Me (Unit {0}) View → ℕ → Me (Unit {0}) View → Type 0
 starting m c st me n me' = Starts m c me.0 n me'.0 × (me'.1 ≡ me.1)
 
--- Returns the number of steps that the pending call has made.
 abbrev pub steps_of : Option PendingCall → ℕ
 steps_of None = 0
 steps_of (Some u) = u.steps

@@ -11,8 +11,7 @@ nowhere = record { now = tt; ref_ptr = (0, 0) }
 abbrev pub called : Past → OwnCall → Past
 called r c = Called' nowhere r c
 
--- Returns the record of a seat after another seat is merged into it. Before that, r was the record of the seat, and g
--- the record of the other seat.
+-- Returns the record r of a seat after a seat with the record g is merged into it.
 abbrev pub gathered : Past → Past → Past
 gathered r g = Gathered' nowhere r nowhere g
 

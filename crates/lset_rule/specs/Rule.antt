@@ -2,7 +2,7 @@
 -- events is a run that ends with the words in memory, and the view of each seat (its knowledge of the run) matches
 -- these events. A seat is the right to call as one thread. A receipt carries the events that a seat has seen to
 -- another seat. The definitions after `Holds` are the views after actions that are not events: opening a set,
--- splitting a seat, joining two seats, the load that completes a join, issuing a receipt, and using a receipt.
+-- splitting and joining seats, and issuing and using receipts.
 use Rattle.std.specs.Prelude.{◌≡◌, ℕ, zero, suc, ◌+◌, ◌-◌, ◌<◌, ◌≤◌, true, false, List, [], ◌∷◌, ◌++◌, length, None, cond, nat_le}
 use mathlib.Core.Option.{some}
 use lib.ListN.{get_elem?}

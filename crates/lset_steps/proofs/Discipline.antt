@@ -41,8 +41,8 @@ pub record Here (marks : Bool) (sz : Sizes) (vs : ℕ → View) (now : ℕ) (ws 
   pub course : Course vs now
   pub present : vs now ≡ view sz ws used
 
--- The facts about thread `t` and its private state `l` at moment `now` that the proof of the thread's step can use.
--- They include the assertion of the proof outline at the thread's row.
+-- The facts about thread `t` and its private state `l` at moment `now`, with the assertion of the proof outline at the
+-- thread's row.
 pub record Thread (At : Outline) (sz : Sizes) (t : ℕ) (vs : ℕ → View) (first now : ℕ) (ws : List ℕ) (used : ℕ → ℕ)
     (done : Bool) (l : Local) : Type 0 where
   pub registers : Registers sz t l

@@ -55,8 +55,7 @@ pub fn ceiling_at(word: u64) -> Reply
     }
 }
 
-/// The rows of a step table where a call continues after its walk: `adds` if the call will add its key, `removes` if
-/// it will remove its key, and `leaves` if it can reply.
+/// The rows of a step table after a walk: where a call adds its key, removes its key, or leaves with its reply.
 #[derive(Clone, Copy)]
 pub struct Targets {
     pub adds: u8,

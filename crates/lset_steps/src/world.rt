@@ -23,10 +23,10 @@ pub enum StepFault {
     /// The world has no thread with this number.
     #[error("no such thread")]
     NoThread,
-    /// The thread already has a pending call, so it cannot begin another.
+    /// The thread already has a pending call.
     #[error("the thread already has a pending call")]
     Busy,
-    /// The thread has no pending call, so it cannot make a step.
+    /// The thread has no pending call.
     #[error("the thread has no pending call")]
     Idle,
 }
@@ -467,8 +467,8 @@ impl<M: Machine> World<M> {
     ///
     /// Returns the first error that applies if the event is not enabled. The world is then unchanged.
     /// - `NoThread`: the world has no thread with this number;
-    /// - `Busy`: the thread already has a pending call, so it cannot begin another;
-    /// - `Idle`: the thread has no pending call, so it cannot make a step.
+    /// - `Busy`: the thread already has a pending call;
+    /// - `Idle`: the thread has no pending call.
     #[inline(always)]
     pub fn step(&mut self, event: Event) -> Result<Told, StepFault>
         ensures { StepResult M.table self.old event result self.new }
