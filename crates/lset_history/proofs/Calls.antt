@@ -59,8 +59,8 @@ pub record EndAt (r : Run) (thread : ℕ) (call : Call) (begun : ℕ) (changed :
   pub after_change : (m : ℕ) → changed ≡ Some m → m ≤ end
   pub right : RightReply (is_some changed) r.quota r.contents r.counts begun end thread call (Some reply)
 
--- States that the last call of a thread is this call, that the call is pending and began at `begun`, and that the call
--- has made a change if and only if `changed` is not `None`.
+-- States that this is the last call of a thread, and that it has been pending since `begun`. The call has made a
+-- change if and only if `changed` is not `None`.
 pub record OpenAt (last : LastCall) (call : Call) (begun : ℕ) (changed : Option ℕ) : Type 0 where
   pub is : last.pending ≡ true
   pub call_is : last.call ≡ call

@@ -32,18 +32,18 @@ pub record HasKeysOf (s : SetState) (content : List ℕ) : Type 0 where
 abbrev pub set_of_order : Opening → Log → ℕ → List Placed → SetState
 set_of_order op log last order = set_left (opening_set op) (map (answered (history_at log last)) order)
 
--- The placement theorem: if a run has an account (each event changes the keys as its call allows, and each reply is
--- correct at some moment of its call), then the order of its calls by linearization points linearizes the history, and
--- leaves the same keys as the run.
+-- The placement theorem: if a run has an account, the order of its calls by their linearization points linearizes the
+-- history, and leaves the same keys as the run. A run has an account if each event changes the keys as its call
+-- allows, and each reply is correct at some moment of its call.
 abbrev pub PlacementLinearizes : Type 0
 PlacementLinearizes = (op : Opening) (last : ℕ) (log : Log) (lists : ℕ → List ℕ) (counts : Counts) (order : List Placed)
     → Account op last log (contents_of_lists lists) counts
     → IsPlacement op.quota (calls_at log last) (contents_of_lists lists) counts order
     → Linearizes op.quota (opening_set op) (history_at log last) order × HasKeysOf (set_of_order op log last order) (lists last)
 
--- States that if a run has an account (each event changes the keys as its call allows, and each reply is correct at
--- some moment of its call), then its calls can be ordered by their linearization points. This order contains each call
--- that changed the set or completed.
+-- States that if a run has an account, its calls can be ordered by their linearization points. This order contains
+-- each call that changed the set or completed. A run has an account if each event changes the keys as its call allows,
+-- and each reply is correct at some moment of its call.
 abbrev pub EveryCallHasAPlace : Type 0
 EveryCallHasAPlace = (op : Opening) (last : ℕ) (log : Log) (lists : ℕ → List ℕ) (counts : Counts)
     → Account op last log (contents_of_lists lists) counts

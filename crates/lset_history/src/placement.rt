@@ -1,15 +1,15 @@
 ghost use Rattle.lset_history.specs.Laws.{PlacementLinearizes, EveryCallHasAPlace, LogsTellHistories, FitsAreReplies, PlacementIsOneOrder};
 
-/// The placement theorem. If a run has an account (each event changes the keys as its call allows, and each reply is
-/// correct at some moment of its call), the order of its calls by their linearization points linearizes the run's
-/// history (Herlihy and Wing), and leaves the same keys as the run. The function does nothing.
+/// The placement theorem: if a run has an account, the order of its calls by their linearization points linearizes the
+/// run's history (Herlihy and Wing), and leaves the same keys as the run. A run has an account if each event changes
+/// the keys as its call allows, and each reply is correct at some moment of its call. The function does nothing.
 pub fn placement_linearizes()
     ensures { PlacementLinearizes }
 {}
 
-/// Lemma: if a run has an account (each event changes the keys as its call allows, and each reply is correct at some
-/// moment of its call), its calls can be ordered by their linearization points. This order contains each call that
-/// changed the set or completed. The function does nothing.
+/// Lemma: if a run has an account, its calls can be ordered by their linearization points. This order contains each
+/// call that changed the set or completed. A run has an account if each event changes the keys as its call allows, and
+/// each reply is correct at some moment of its call. The function does nothing.
 pub fn every_call_has_a_place()
     ensures { EveryCallHasAPlace }
 {}

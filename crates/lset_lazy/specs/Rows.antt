@@ -23,8 +23,8 @@ abbrev pub leaves : Option Reply → Local → Fed
 leaves r l = continued (goes_to 13 r l)
 
 -- Decides how a call continues when both nodes are locked and `curr` is not marked, depending on whether `curr` has
--- the call's key: an `add` that adds continues at row 8 of the step table, a `remove` that removes at row 11, and all
--- other calls have a reply.
+-- the call's key. An `add` that will change the set continues at row 8 of the step table, and a `remove` that will
+-- change it at row 11. All other calls have a reply.
 abbrev pub decides : Call → Local → Fed
 decides (Add k) l =
     if l.ckey == target (Add k) then leaves (Some False) l

@@ -69,9 +69,9 @@ impl<M: Machine> LiveSet<M> {
     }
 
     /// Adds the events in `receipt` to the events that `seat` has seen. Both must belong to this set. The seat's later
-    /// calls start after all events in the receipt. In each order that explains these calls, they come after all calls
-    /// that had ended in the receipt's events (`receipts_keep_order`). The seat's record and the seats that it holds
-    /// do not change. Does not block or allocate.
+    /// calls start after all events in the receipt. In each order that explains these calls, all calls that had ended
+    /// in the receipt's events precede the seat's later calls (`receipts_keep_order`). The seat's record and the seats
+    /// that it holds do not change. Does not block or allocate.
     pub fn after(&self, seat: &mut Seat<M>, receipt: Receipt<M>)
         requires seat { seat.old.set ≡ self.now }
         requires receipt { receipt.set ≡ self.now }

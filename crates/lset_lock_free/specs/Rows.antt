@@ -22,8 +22,8 @@ on_to pc l = continued (record l { pc = pc })
 abbrev pub answers : Reply → Local → Fed
 answers r l = leaves_with r (record l { reply = Some r })
 
--- Decides how a call continues at the first key that is not smaller than its own: an `add` that adds continues at row
--- 5 of the step table, a `remove` that removes at row 8, and all other calls end with a reply.
+-- Decides how a call continues at the first key that is not smaller than its own. An `add` that will change the set
+-- continues at row 5 of the step table, and a `remove` that will change it at row 8. All other calls end with a reply.
 abbrev pub decides : Call → Local → ℕ → Fed
 decides (Add k) l seen =
     if seen == target (Add k) then answers False l

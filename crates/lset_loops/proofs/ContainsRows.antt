@@ -65,7 +65,7 @@ module _ (m : Table) (laws : HasReading m) (b : Begun) (own : OwnSlots) where
       ≡ leaves_with (if n % 2 == 0 then True else False) (reading b own 22 x)
   marked x n = ((laws.row_22 (reading b own 22 x) refl).1 n).0 ∙ leaves_by (n % 2 == 0) (reading b own 22 x)
 
--- Each round of the walk, which makes two steps, decreases the number of steps that the `contains` can still make.
+-- Each round of the walk (two steps) decreases the number of steps that the `contains` can still make.
 pub falls : (m : Table) → Lawful m → BoundedReads m → (b : Begun) (k : Key) → b.call ≡ Contains k → (l l' l'' : Local)
     (s s' s'' : TableSeat) (n n' : ℕ) → Holds m b l s → Goes m s.me.0 n s'.me.0 → Holds m b l' s' → Goes m s'.me.0 n' s''.me.0
     → Holds m b l'' s''

@@ -38,8 +38,8 @@ pub record MayStep (m : Table) (b : Begun) (a : Action) (s : TableSeat) : Type 0
   pub acts : a ≡ m.next held
   pub goes_on : (n : ℕ) → (m.feed held n).answer ≡ None
 
--- States that the step from seat s to s' saw the value n in the word that it accessed, and that call b is now at the
--- row of the step table that follows for this value.
+-- States that the step from seat s to s' saw the value n in its word, and that call b is now at the row of the step
+-- table that follows for this value.
 pub record HasStepped (m : Table) (b : Begun) (s : TableSeat) (n : ℕ) (s' : TableSeat) : Type 0 where
   pub leads : (l : Local) → Holds m b l s → Holds m b (m.feed l n).local s'
 
@@ -52,7 +52,7 @@ pub record MayLock (m : Table) (b : Begun) (word thread : ℕ) (s : TableSeat) :
   pub again : (n : ℕ) → n ≢ 0 → m.feed held n ≡ continued held
   pub goes_on : (m.feed held 0).answer ≡ None
 
--- Returns the thread's next slot: the node that the thread's next successful `add` links in.
+-- Returns the thread's next slot: the node that the thread's next successful `add` links into the list.
 abbrev pub slot : OwnSlots → ℕ
 slot own = slot_node own.quota own.thread own.used
 
@@ -81,8 +81,8 @@ pub record HasStored (m : Table) (b : Begun) (stores : List (ℕ × ℕ)) (s s' 
 abbrev pub slot_stores : OwnSlots → ℕ → ℕ → List (ℕ × ℕ)
 slot_stores own word x = (key_index (slot own), word) ∷ (link_index (slot own), 2 * x) ∷ []
 
--- Returns the stores that write the key `word` into the thread's next unused node (its slot) and link it in between
--- nodes p and x.
+-- Returns the stores that write the key `word` into the thread's next unused node (its slot) and link it between nodes
+-- p and x.
 abbrev pub put_stores : OwnSlots → ℕ → ℕ → ℕ → List (ℕ × ℕ)
 put_stores own word p x = (key_index (slot own), word) ∷ (link_index (slot own), 2 * x) ∷ (link_index p, 2 * slot own) ∷ []
 
@@ -112,8 +112,8 @@ pub record MayAnswer (m : Table) (b : Begun) (a : Action) (s : TableSeat) : Type
 abbrev pub StandsAfter : Table → Begun → Fed → TableSeat → Type 0
 StandsAfter m b f s = MatchOption f.answer (Holds m b f.local s) (λ r. Answered m b r f.local s)
 
--- States that the step from seat s to s' saw the value n in the word that it accessed, and that call b has then ended
--- or continues, as the step table demands for this value.
+-- States that the step from seat s to s' saw the value n in its word, and that call b has then ended or continues, as
+-- the step table demands for this value.
 abbrev pub HasTold : Table → Begun → TableSeat → ℕ → TableSeat → Type 0
 HasTold m b s n s' = (l : Local) → Holds m b l s → (f : Fed) → m.feed l n ≡ f → StandsAfter m b f s'
 

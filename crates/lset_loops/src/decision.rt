@@ -19,7 +19,7 @@ pub(crate) struct Found {
     pub word: u64,
 }
 
-/// A decision of a call: link in a node, unlink a node, or only reply.
+/// A decision of a call: link a node into the list, unlink a node, or only reply.
 #[derive(Clone, Copy)]
 pub(crate) enum Decision {
     PutIn,
@@ -72,7 +72,7 @@ impl<'a, M: Machine, P: Pause> Caller<'a, M, P> {
         node
     }
 
-    /// Writes the call's key into the thread's next slot (an unused node), and links this node in between `pred` and
+    /// Writes the call's key into the thread's next slot (an unused node), and links this node between `pred` and
     /// `curr`.
     pub fn put_in(&self, place: &mut TableSeat, found: Found)
         requires { MayStore M.table self.now.origin (put_stores self.now.slots self.now.key found.pred.number found.curr.number) place.old }

@@ -84,9 +84,9 @@ fn attempt<P: Pause>(
     }
 }
 
-/// Executes a whole `add` or `remove` on a LockFreeList. Walks to the key. Then an `add` links in the thread's next
-/// slot (an unused node), and a `remove` marks the node and attempts once to unlink it. Starts over if a link has
-/// changed since the walk. This is Herlihy and Shavit's lock-free list.
+/// Executes a whole `add` or `remove` on a LockFreeList. Walks to the key. Then an `add` links the thread's next slot
+/// (an unused node) into the list, and a `remove` marks the node and attempts once to unlink it. Starts over if a link
+/// has changed since the walk. This is Herlihy and Shavit's lock-free list.
 ///
 /// Returns `None` if a loop of the call has made `N::MOST` rounds. The call is then still pending.
 pub fn lock_free_change_within<P: Pause, N: Rounds>(

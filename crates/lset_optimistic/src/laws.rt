@@ -11,9 +11,9 @@ pub fn validated_walk()
     ensures { ValidatedWalk }
 {}
 
-/// Lemma: if a call ends without having changed the set, its reply is correct at a moment of the call when the thread,
-/// after its second walk, saw that the first of the two locked nodes leads to the second. (Herlihy and Shavit's
-/// linearization points of calls without a change.)
+/// Lemma: if a call ends without having changed the set, its reply is correct at a moment of the call: the moment
+/// after its second walk when the thread saw that the first of the two locked nodes leads to the second. (Herlihy and
+/// Shavit's linearization points of calls without a change.)
 pub fn optimistic_replies_fit()
     ensures { OptimisticRepliesFit }
 {}

@@ -285,8 +285,8 @@ module _ (T : Table) (At : Outline) (follows : Discipline T T.marks At) (rows : 
       → ((u : ℕ) → u < op.threads → (local_of (state_at T op es k) u).pc ≢ 12) → Plain (state_at T op es k).words
   plain_then op k es r none b p = plain_unless op k k es r (omega arith) b p (λ x. none x.by x.thread x.row)
 
-  -- A marked node of the chain is locked by the thread that is about to unlink it. Therefore a node that is free, or
-  -- locked by another thread, is not marked.
+  -- A marked node of the chain is locked by the thread that is about to unlink it. Therefore a node of the chain is
+  -- not marked if its lock is free, or held by a thread that is not about to unlink a node.
   pub unmarked_unless : (op : Opening) (last k t : ℕ) (es : ℕ → Event) → Run T op es last → k ≤ last
       → (local_of (state_at T op es k) t).pc ≢ 12 → (b : ℕ) → Path (node_link (state_at T op es k).words) 0 b
       → (slice_index (state_at T op es k).words (lock_index b) ≡ 0)

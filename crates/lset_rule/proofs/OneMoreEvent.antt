@@ -47,8 +47,8 @@ found (Load w) n = n
 found (Store w v) n = v
 found (Exchange w old new) n = n
 
--- `gone` returns the state h of a thread after its step, which is event n. `begins` returns the state after the start
--- of a call.
+-- `gone` returns the state of a thread after a step: h is its state before the step, f the outcome, and n the number
+-- of the event. `begins` returns its state after the start of a call.
 abbrev pub gone : Here → Fed → ℕ → Here
 gone h f n = here f.local (under_after f.answer h.under) (h.done ++ ending f.answer h.under n)
 
@@ -76,7 +76,7 @@ under_case None false u = refl
 under_case (Some r) true u = refl
 under_case (Some r) false u = refl
 
--- How a step of a thread changes its pending call.
+-- A step of a thread changes its pending call in the way that `under_after` computes.
 pub under_step : (m t : ℕ) (ch : Option Change) (a : Option Reply) (x : LastCall)
     → pending_of (last_after m (stepped t ch a) x) ≡ under_after a (pending_of x)
 under_step m t ch a x = under_case a x.pending (record { call = x.call; begun = x.begun; steps = x.steps })

@@ -86,8 +86,7 @@ begun_by log t n = known (last_at log t n).pending
     known true = begun_low log t n
     known false = tt
 
--- Returns the calls that the own thread of a seat made, without the calls in records that were merged into the seat's
--- record.
+-- Returns the calls of a seat's own thread, without the calls in records that were merged into the seat's record.
 abbrev pub own_calls : Past → List OwnCall
 own_calls (Fresh t) = []
 own_calls (Called' p r c) = own_calls r ++ c ∷ []

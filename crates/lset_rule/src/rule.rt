@@ -95,8 +95,8 @@ impl Join<View> for TakeReceipt {
 }
 
 /// How the first load of a seat after a merge (or after it uses a receipt) changes the seat's view (its knowledge of
-/// the run). The load shows that the seat has now seen all events that it and the other seat, or the receipt, had
-/// seen.
+/// the run). The load shows that the seat has seen both lists of events: its own, and that of the other seat or the
+/// receipt.
 pub struct Learn<M> {
     machine: PhantomData<M>,
 }

@@ -183,8 +183,8 @@ module _ {marks : Bool} {sz : Sizes} {ws : List ℕ} {used : ℕ → ℕ} (m : M
   pub held_from : {a : ℕ} → node_lock ws a ≡ t + 1 → InChain (view sz ws used) a → Held (view sz ws used) t a
   held_from {a} mine i = record { mine = mine; at = i; published = in_chain_published (view sz ws used) m.ordered a i }
 
-  -- If a thread holds the lock of `pred`, which has no mark and a smaller key than `key`, then `Behind` holds for
-  -- `pred` and the node that pred's link leads to.
+  -- If a thread holds the lock of `pred`, and `pred` is unmarked and has a smaller key than `key`, then `Behind` holds
+  -- for `pred` and the next node.
   pub behind_from : {pred key : ℕ} → Held (view sz ws used) t pred → node_link ws pred % 2 ≡ 0 → node_key ws pred < key
       → key < tail_word
       → Behind (view sz ws used) t key pred (node_link ws pred / 2)

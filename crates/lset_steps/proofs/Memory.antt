@@ -92,7 +92,7 @@ pub record Memory (marks : Bool) (sz : Sizes) (ws : List ℕ) (used : ℕ → �
   pub tail_key : node_key ws 1 ≡ tail_word
   pub tail_link : node_link ws 1 ≡ 2
   pub marked : UnmarkedInChain marks (view sz ws used)
-  -- In a list that does not mark nodes, no node has a mark, not even a node that no add has used yet.
+  -- In a list that does not mark nodes, no node has a mark, not even before its first use.
   pub unmarked : marks ≡ false → (i : ℕ) → i < node_count sz → node_link ws i % 2 ≡ 0
 
 module _ (marks : Bool) (sz : Sizes) (ws : List ℕ) (used : ℕ → ℕ) (m : Memory marks sz ws used) where

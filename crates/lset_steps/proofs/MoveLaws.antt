@@ -74,7 +74,7 @@ tail_stays marks v w ord ch (removes pred curr k y q m u e) = q.links 1 ord.tail
 not_both : {A : Type 0} (b : Bool) → b ≡ true → b ≡ false → A
 not_both b x y = absurd (let z : true ≡ false = sym x ∙ y in cc)
 
--- In a list that marks nodes, every node that has been in the chain (published) and has no mark is still in the chain
+-- In a list that marks nodes, every unmarked node that has been in the chain (is published) is still in the chain
 -- after a move.
 module _ (v w : View) (ord : IsOrdered v) where
   live_stays : (ch : Option (Key × Bool)) → Move true v w ch → UnmarkedInChain true v → UnmarkedInChain true w

@@ -1,4 +1,4 @@
--- Step tables with the rows 20 to 25 of `ReadRows` for `contains` and `ceiling`.
+-- Lemmas about step tables with rows 20 to 25 of `ReadRows` for `contains` and `ceiling`.
 use Rattle.std.specs.Prelude.{◌≡◌, ◌⊎◌, ℕ, None}
 use Rattle.std.proofs.Common.{inl, inr, sym, subst}
 use Rattle.lset_words.specs.declared.Call.{Call}

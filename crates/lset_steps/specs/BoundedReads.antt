@@ -48,7 +48,7 @@ pub record HasPassed (T : Table) (op : Opening) (es : ℕ → Event) (k t a l : 
   pub loads : T.next (local_of (state_at T op es at) t) ≡ Load (link_index a)
   pub read : seen_next T (state_at T op es at) t ≡ l
 
--- States that each node that a `contains` or a `ceiling` has passed was in the chain, with the link word that the call
+-- States that a `contains` or a `ceiling` passes only nodes that were in the chain, with the link word that the call
 -- saw, at some moment from the start of the call to the load.
 abbrev pub WalkWasInChain : Table → Type 0
 WalkWasInChain T = (op : Opening) (last k t a l : ℕ) (es : ℕ → Event) → Run T op es last → k ≤ last

@@ -1,5 +1,5 @@
--- The chain of a list, the nodes reachable from the head, and its content, the keys of the set. Both are computed from
--- the words of the list and from the number of slots that each thread has used (Herlihy and Shavit).
+-- The chain of a list (the nodes reachable from the head) and its content (the keys of the set). Both are computed
+-- from the words of the list and from the number of slots that each thread has used (Herlihy and Shavit).
 use Rattle.std.specs.Prelude.{◌≡◌, ◌≢◌, ℕ, ◌+◌, ◌/◌, ◌%◌, ◌<◌, ◌≤◌, ◌⊎◌, Bool, true, false, List, [], ◌∷◌, Option, slice_index}
 use Rattle.lset_words.specs.Words.{key_index, link_index, lock_index, slot_node, opening_node, Sizes}
 use Rattle.lset_words.specs.declared.Key.{Key}
@@ -72,8 +72,9 @@ pub record IsOrdered (v : View) : Type 0 where
   pub next_published : (i : ℕ) → v.published i → i ≢ 1 → v.published (v.link i / 2)
   pub increases : (i : ℕ) → v.published i → i ≢ 1 → v.key i < v.key (v.link i / 2)
 
--- States, for a list that marks nodes before it unlinks them (`true`), that each published node (one that has been in
--- the chain) without a mark is still in the chain. For any other list, states that no published node has a mark.
+-- States, for a list that marks nodes before it unlinks them (`true`), that each unmarked published node is in the
+-- chain. (A published node has been in the chain at some time.) For any other list, states that no published node has
+-- a mark.
 abbrev pub UnmarkedInChain : Bool → View → Type 0
 UnmarkedInChain true v = (b : ℕ) → v.published b → v.link b % 2 ≡ 0 → InChain v b
 UnmarkedInChain false v = (b : ℕ) → v.published b → v.link b % 2 ≡ 0
@@ -91,9 +92,9 @@ counts_of vs moment thread = (vs moment).used thread
 abbrev pub FitsIn : ℕ → View → ℕ → Call → Reply → Type 0
 FitsIn quota v thread call reply = Fits quota (InContent v) (v.used thread) call reply
 
--- [Unlinked stays]: compares node i at two moments, `v` and a later `w`. The node must be published at `v`, which means
--- that it has been in the chain. At `w`, the node has the same key and is still published. If it was unlinked, it is
--- still unlinked and has the same link. In a list that marks nodes, a marked node still has the same link.
+-- [Unlinked stays]: compares node i, which has been in the chain (is published), at two moments: `v` and a later `w`.
+-- At `w`, the node has the same key and is still published. If it was unlinked, it is still unlinked and has the same
+-- link. In a list that marks nodes, a marked node still has the same link.
 pub record UnlinkedStays (marks : Bool) (v w : View) (i : ℕ) : Type 0 where
   pub published : w.published i
   pub key : w.key i ≡ v.key i

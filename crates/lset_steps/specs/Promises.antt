@@ -70,9 +70,9 @@ abbrev pub LockUses : Table → Type 0
 LockUses T = (op : Opening) (last k t : ℕ) (es : ℕ → Event) → Run T op es last → k < last → es k ≡ Go t
     → LockUse (state_at T op es k).words t (T.next (local_of (state_at T op es k) t))
 
--- [Unlinked stays]: compares node i at moment j and at a later moment k. The node must be published at j, which means
--- that it has been in the chain. At k, it has the same key. If it was unlinked at j, it is unlinked at k and has the
--- same link. In a list that marks nodes, a node that was marked at j has the same link at k.
+-- [Unlinked stays]: compares node i at moment j and at a later moment k, if it is published at j (has been in the
+-- chain). At k, it has the same key. If it was unlinked at j, it is unlinked at k and has the same link. In a list
+-- that marks nodes, a node that was marked at j has the same link at k.
 abbrev pub UnlinkedNodesStay : Table → Type 0
 UnlinkedNodesStay T = (op : Opening) (last j k i : ℕ) (es : ℕ → Event) → Run T op es last → j ≤ k → k ≤ last
     → (views T op es j).published i → UnlinkedStays T.marks (views T op es j) (views T op es k) i
@@ -97,13 +97,13 @@ abbrev pub SeenInThePast : Table → Type 0
 SeenInThePast T = (op : Opening) (last j k b : ℕ) (es : ℕ → Event) → Run T op es last → j ≤ k → k ≤ last
     → InChain (views T op es j) b → Seen (views T op es) j k b ((views T op es k).link b)
 
--- [Unmarked in chain]: states that in a list that marks nodes, at every moment, each published node (one that has been
--- in the chain) without a mark is still in the chain. In any other list, no published node has a mark.
+-- [Unmarked in chain]: states that in a list that marks nodes, every published node (one that has been in the chain)
+-- stays in the chain until it is marked. In any other list, no published node has a mark.
 abbrev pub UnmarkedNodesInChain : Table → Type 0
 UnmarkedNodesInChain T = (op : Opening) (last k : ℕ) (es : ℕ → Event) → Run T op es last → k ≤ last
     → UnmarkedInChain T.marks (views T op es k)
 
--- States that in a list that does not mark nodes, no node has a mark, not even a node that no add has used yet.
+-- States that in a list that does not mark nodes, no node has a mark, not even before its first use.
 abbrev pub NoLinkIsMarked : Table → Type 0
 NoLinkIsMarked T = (op : Opening) (last k i : ℕ) (es : ℕ → Event) → Run T op es last → k ≤ last → T.marks ≡ false →
     i < node_count (sizes op)
@@ -127,7 +127,7 @@ NamedChange T = (op : Opening) (last k : ℕ) (es : ℕ → Event) → Run T op 
     → ChangeIsNamed op.threads op.quota (log_of T op es) (contents_of (views T op es)) (counts_of (views T op es)) k
     (log_of T op es k)
 
--- [Replies fit]: states that a call that ends in the step between moments k and k + 1 has a correct reply: `True` if
+-- [Replies fit]: states that if a call ends in the step between moments k and k + 1, its reply is correct: `True` if
 -- the call has changed the set, else a reply that is correct for the keys of the set at some moment of the call.
 abbrev pub RepliesFit : Table → Type 0
 RepliesFit T = (op : Opening) (last k t : ℕ) (es : ℕ → Event) (change : Option Change) (reply : Reply) → Run T op es last →

@@ -33,8 +33,8 @@ pub fn sorted_chain<M: Machine>()
     ensures { SortedChain M.table }
 {}
 
-/// Lemma: a lock word is `t + 1` from the step in which thread `t` takes the lock until the store of 0 that releases
-/// it. At all other moments the word is 0.
+/// Lemma: a lock word is `t + 1` while thread `t` holds the lock: from the step that takes the lock until the store of
+/// 0 that releases it. At all other moments the word is 0.
 pub fn lock_words<M: Machine>()
     ensures { LockWords M.table }
 {}
@@ -65,13 +65,13 @@ pub fn seen_in_the_past<M: Machine>()
 {}
 
 /// Lemma: in a list that marks nodes before it unlinks them, every published node (one that has been in the chain)
-/// without a mark is still in the chain. In any other list, no published node has a mark. (Heller and others, for
+/// stays in the chain until it is marked. In any other list, no published node has a mark. (Heller and others, for
 /// their lazy list.)
 pub fn unmarked_nodes_in_chain<M: Machine>()
     ensures { UnmarkedNodesInChain M.table }
 {}
 
-/// Lemma: in a list that does not mark nodes, no node has a mark, not even a node that no add has used yet.
+/// Lemma: in a list that does not mark nodes, no node has a mark, not even before its first use.
 pub fn no_link_is_marked<M: Machine>()
     ensures { NoLinkIsMarked M.table }
 {}
@@ -96,8 +96,9 @@ pub fn true_means_change<M: Machine>()
     ensures { TrueMeansChange M.table }
 {}
 
-/// Lemma: every run has an account, which states how each event changes the keys of the set and that each reply is
-/// correct. An account mentions no nodes and no locks. (A form of Herlihy and Wing's linearizability.)
+/// Lemma: every run has an account. For each event, an account states how the event changes the keys of the set. It
+/// also states that each reply is correct, and mentions no nodes and no locks. (A form of Herlihy and Wing's
+/// linearizability.)
 pub fn has_account<M: Machine>()
     ensures { HasAccount M.table }
 {}
@@ -114,9 +115,9 @@ pub fn bounded_reads<M: OpenReads>()
     ensures { BoundedReads M.table }
 {}
 
-/// Lemma: in a list whose reads take no locks (`OpenReads`), each node that a `contains` or a `ceiling` has passed was
-/// in the chain at some moment of the call, with the link that the call saw. The node can have left the chain before it
-/// was read. (O'Hearn and others' hindsight.)
+/// Lemma: in a list whose reads take no locks (`OpenReads`), a `contains` or a `ceiling` passes only nodes that were
+/// in the chain at some moment of the call. At this moment, the node had the link that the call saw. The node can have
+/// left the chain before the call read it. (O'Hearn and others' hindsight.)
 pub fn walk_was_in_chain<M: OpenReads>()
     ensures { WalkWasInChain M.table }
 {}
