@@ -78,7 +78,7 @@ pub record Traced (r : Run) (k : ℕ) (x : TracedCall) : Type 0 where
   pub ends : (m : ℕ) (reply : Reply) → x.ended ≡ Some (m, reply)
       → (m ≤ k) × EndAt r x.thread x.call x.begun x.changed m reply
 
--- States that call `x` begins before call `y` and, if both are made by one thread, also ends before `y` begins.
+-- States that call `x` begins before call `y` and, if both are calls of one thread, also ends before `y` begins.
 pub record Later (x y : TracedCall) : Type 0 where
   pub begins : x.begun < y.begun
   pub one_thread : x.thread ≡ y.thread → IsSomeAnd x.ended (λ (e : ℕ × Reply). e.0 < y.begun)

@@ -40,7 +40,8 @@ use Rattle.lset_history.proofs.Standings.{has_place}
 abbrev pub answered_of : Standing → Answered
 answered_of s = record { thread = s.traced.thread; call = s.traced.call; reply = reply_by s.traced.changed s.traced.ended }
 
--- States that a set in state `s` returns the replies of these calls, made one after another, and is then in state `t`.
+-- States that a set in state `s` returns the replies of these calls, applied one after another, and is then in state
+-- `t`.
 abbrev Leads : ℕ → SetState → SetState → List Standing → Type 0
 Leads quota s t xs = IsLegal quota s (map answered_of xs) × (set_left s (map answered_of xs) ≡ t)
 

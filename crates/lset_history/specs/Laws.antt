@@ -28,7 +28,8 @@ pub record HasKeysOf (s : SetState) (content : List ℕ) : Type 0 where
   pub members : (j : ℕ) → Contains content j ↔ Contains s.keys j
   pub alone : (keys : List ℕ) → IsStrictlyIncreasing keys → ((j : ℕ) → Contains content j ↔ Contains keys j) → s.keys ≡ keys
 
--- Returns the state of the set after a run's calls are made one by one in this order, starting from the opening keys.
+-- Returns the state of the set after a run's calls are applied one by one in this order, starting from the opening
+-- keys.
 abbrev pub set_of_order : Opening → Log → ℕ → List Placed → SetState
 set_of_order op log last order = set_left (opening_set op) (map (answered (history_at log last)) order)
 

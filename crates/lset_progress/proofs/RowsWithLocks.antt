@@ -70,10 +70,13 @@ pub after_pred : {A : Type 0} (size : ℕ) (ws : List ℕ) (curr pred x : ℕ) �
 after_pred size ws curr pred x less (inl p) = ranked size ws curr pred x p.0 less
 after_pred size ws curr pred x less (inr c) = absurd c.1
 
--- The facts about a list that the proofs of progress for all lists use. `may`: the locks that a thread can hold.
--- `late`: the call has decided what to change, and locks no more nodes. `calm`: the requirement of the thread's next
--- step on the shared words. `valid`: the walk will succeed, by the links. `left`: how many steps of such a walk remain
--- after the next one, by the number of nodes and their keys. `round`: the number of steps of an additional walk.
+-- The facts about a list that the proofs of progress for all lists use:
+-- - `may`: the locks that a thread can hold;
+-- - `late`: the call has decided what to change, and locks no more nodes;
+-- - `calm`: what the thread's next step requires of the shared words;
+-- - `valid`: the links let the walk succeed;
+-- - `left`: how many steps of a successful walk remain after the next one;
+-- - `round`: the number of steps of an additional walk.
 pub record Shape : Type 1 where
   pub may : Local → ℕ → Type 0
   pub late : Local → Type 0

@@ -11,7 +11,7 @@ nowhere = record { now = tt; ref_ptr = (0, 0) }
 abbrev pub called : Past → OwnCall → Past
 called r c = Called' nowhere r c
 
--- Returns the record r of a seat after a seat with the record g is merged into it.
+-- Returns the record of a seat after a merge: r was its record, and g the record of the seat that is merged into it.
 abbrev pub gathered : Past → Past → Past
 gathered r g = Gathered' nowhere r nowhere g
 
