@@ -50,8 +50,8 @@ abbrev pub NoMarkInChain : View → Type 0
 NoMarkInChain v = (b : ℕ) → InChain v b → v.link b % 2 ≡ 0
 
 -- [Calls end unhindered]: states, for a list without locks, that a call ends within `most` steps if its thread runs
--- alone, whatever state the other threads are in (obstruction freedom). For a `ceiling`, this is stated only if no
--- node of the chain is marked, since a `ceiling` starts again at a marked node and does not unlink it.
+-- alone, whatever state the other threads are in (obstruction freedom). For a `ceiling`, this is stated only for a
+-- chain without marked nodes, since a `ceiling` starts again at a marked node and does not unlink it.
 abbrev pub CallsEndUnhindered : Table → (Sizes → ℕ) → Type 0
 CallsEndUnhindered T most = (op : Opening) (k t : ℕ) (es : ℕ → Event) → Run T op es k → t < op.threads
     → IsPending (state_at T op es k) t

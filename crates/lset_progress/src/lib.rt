@@ -69,9 +69,8 @@ pub fn lazy_calls_end_alone()
 {}
 
 /// Theorem: a call of a LockFreeList that runs alone ends within `4N + 5` steps, whatever state the other threads are
-/// in. For a `ceiling`, this is true only if no node of the chain is marked, since a `ceiling` starts again at a
-/// marked node and unlinks no node. (Obstruction freedom, by Herlihy, Luchangco and Moir; the list is Harris's and
-/// Michael's.)
+/// in. For a `ceiling`, this holds if no node of the chain is marked, since a `ceiling` starts again at a marked node
+/// and unlinks no node. (Obstruction freedom, by Herlihy, Luchangco and Moir; the list is Harris's and Michael's.)
 #[tactic(auto, using(crate::proofs::LockFreeProgress::lock_free_calls_end))]
 pub fn lock_free_calls_end_alone()
     ensures { CallsEndUnhindered lock_free lock_free_steps }
