@@ -47,8 +47,8 @@ fn act<P: Pause>(
     }
 }` },
     { name: "coarse_within", first: 58, steps: [{"line": 73, "rows": [1]}, {"line": 76, "rows": [10]}], calls: [[74, "walk"], [75, "act"]], text: `
-/// Makes a whole call on a CoarseList: takes the list's lock, walks to the key, adds or removes the key if needed, and
-/// releases the lock. This is Herlihy and Shavit's coarse-grained list.
+/// Executes a whole call on a CoarseList: takes the list's lock, walks to the key, adds or removes the key if needed,
+/// and releases the lock. This is Herlihy and Shavit's coarse-grained list.
 ///
 /// Returns \`None\` if a loop of the call has made \`N::MOST\` rounds. The call is then still pending.
 pub fn coarse_within<P: Pause, N: Rounds>(
@@ -117,8 +117,8 @@ fn act<P: Pause>(
     }
 }` },
     { name: "fine_within", first: 62, steps: [{"line": 77, "rows": [1]}, {"line": 80, "rows": [12]}, {"line": 81, "rows": [13]}], calls: [[78, "walk"], [79, "act"]], text: `
-/// Makes a whole call on a FineList: walks to the key, locking each node before it releases the previous node, adds or
-/// removes the key if needed, and releases both locks. This is Herlihy and Shavit's fine-grained list.
+/// Executes a whole call on a FineList: walks to the key, locking each node before it releases the previous node, adds
+/// or removes the key if needed, and releases both locks. This is Herlihy and Shavit's fine-grained list.
 ///
 /// Returns \`None\` if a loop of the call has made \`N::MOST\` rounds. The call is then still pending.
 pub fn fine_within<P: Pause, N: Rounds>(
@@ -142,8 +142,8 @@ pub fn fine_within<P: Pause, N: Rounds>(
   ],
   "crates/lset_loops/src/optimistic.rt": [
     { name: "walk", first: 22, steps: [{"line": 38, "rows": [2]}, {"line": 43, "rows": [3]}], calls: [], text: `
-/// Walks from the head to the first key that is not smaller than the call's key. \`first\` is the node to which the
-/// head's link led.
+/// Walks from the head to the first key that is not smaller than the call's key. The walk starts at \`first\`, the node
+/// that the head's link led to.
 #[inline(always)]
 fn walk<P: Pause, N: Rounds>(
     caller: &Caller<OptimisticList, P>,
@@ -245,10 +245,10 @@ fn act<P: Pause>(
     }
 }` },
     { name: "optimistic_within", first: 125, steps: [{"line": 142, "rows": [1], "begins": true, "answers": false}, {"line": 146, "rows": [4]}, {"line": 147, "rows": [5]}, {"line": 150, "rows": [14], "begins": false, "answers": true}, {"line": 151, "rows": [15], "begins": false, "answers": true}, {"line": 154, "rows": [14], "begins": false, "answers": false}, {"line": 155, "rows": [15], "begins": false, "answers": false}, {"line": 156, "rows": [1], "begins": false, "answers": false}], calls: [[144, "walk"], [148, "validate"], [149, "act"]], text: `
-/// Makes a whole call on an OptimisticList. Walks to the key without locks, locks the two nodes around the key, and
-/// checks with a second walk that they are still neighbours in the list. If they are, adds or removes the key if needed
-/// and releases both locks; otherwise releases both locks and starts over. This is Herlihy and Shavit's optimistic
-/// list.
+/// Executes a whole call on an OptimisticList. Walks to the key without locks, locks the two nodes around the key, and
+/// checks with a second walk that they are still neighbours in the list. If they are, adds or removes the key if
+/// needed and releases both locks; otherwise releases both locks and starts over. This is Herlihy and Shavit's
+/// optimistic list.
 ///
 /// Returns \`None\` if a loop of the call has made \`N::MOST\` rounds. The call is then still pending.
 pub fn optimistic_within<P: Pause, N: Rounds>(
@@ -283,8 +283,8 @@ pub fn optimistic_within<P: Pause, N: Rounds>(
   ],
   "crates/lset_loops/src/lazy.rt": [
     { name: "walk", first: 17, steps: [{"line": 32, "rows": [2]}, {"line": 36, "rows": [3]}], calls: [], text: `
-/// Walks from the head to the first key that is not smaller than the call's key. \`first\` is the node to which the
-/// head's link led.
+/// Walks from the head to the first key that is not smaller than the call's key. The walk starts at \`first\`, the node
+/// that the head's link led to.
 #[inline(always)]
 fn walk<P: Pause, N: Rounds>(
     caller: &Caller<LazyList, P>,
@@ -354,10 +354,10 @@ fn act<P: Pause>(
     }
 }` },
     { name: "lazy_change_within", first: 88, steps: [{"line": 106, "rows": [1], "begins": true, "answers": false}, {"line": 109, "rows": [4]}, {"line": 110, "rows": [5]}, {"line": 114, "rows": [13], "begins": false, "answers": true}, {"line": 115, "rows": [14], "begins": false, "answers": true}, {"line": 119, "rows": [13], "begins": false, "answers": false}, {"line": 120, "rows": [14], "begins": false, "answers": false}, {"line": 121, "rows": [1], "begins": false, "answers": false}], calls: [[108, "walk"], [111, "validate"], [113, "act"]], text: `
-/// Makes a whole \`add\` or \`remove\` on a LazyList. Walks to the key without locks, locks the two nodes around the key,
-/// and checks that they are still neighbours in the list. If they are, adds or removes the key if needed and releases
-/// both locks; otherwise releases both locks and starts over. This is Herlihy and Shavit's lazy list, after Heller and
-/// others.
+/// Executes a whole \`add\` or \`remove\` on a LazyList. Walks to the key without locks, locks the two nodes around the
+/// key, and checks that they are still neighbours in the list. If they are, adds or removes the key if needed and
+/// releases both locks; otherwise releases both locks and starts over. This is Herlihy and Shavit's lazy list, after
+/// Heller and others.
 ///
 /// Returns \`None\` if a loop of the call has made \`N::MOST\` rounds. The call is then still pending.
 pub fn lazy_change_within<P: Pause, N: Rounds>(
@@ -396,8 +396,8 @@ pub fn lazy_change_within<P: Pause, N: Rounds>(
   ],
   "crates/lset_loops/src/reads.rt": [
     { name: "contains_on", first: 43, steps: [{"line": 61, "rows": [20], "begins": true, "answers": false}, {"line": 63, "rows": [21]}, {"line": 69, "rows": [22]}, {"line": 72, "rows": [20], "begins": false, "answers": false}], calls: [], text: `
-/// Makes a whole \`contains\` of \`key\`: walks to the first key that is not smaller than \`key\`, and replies according to
-/// the mark of its node. This is Herlihy and Shavit's wait-free \`contains\`.
+/// Executes a whole \`contains\` of \`key\`: walks to the first key that is not smaller than \`key\`, and replies according
+/// to the mark of its node. This is Herlihy and Shavit's wait-free \`contains\`.
 ///
 /// \`place\` is an idle seat (the right to call as one thread) on the words \`table\`, and \`slots\` are the slots of its
 /// thread (nodes for keys that it adds). Returns the slots and the reply. \`pause\` is called after each step that does
@@ -434,7 +434,7 @@ pub fn contains_on<M: ReadsByRows, P: Pause>(
   "crates/lset_loops/src/lock_free.rt": [
     { name: "find", first: 17, steps: [{"line": 31, "rows": [2]}, {"line": 34, "rows": [3]}, {"line": 40, "rows": [1], "begins": false, "answers": false}, {"line": 43, "rows": [4]}], calls: [], text: `
 /// Walks from the head to the first key that is not smaller than the call's key, and unlinks marked nodes on the way:
-/// Herlihy and Shavit's \`find\`. \`first\` is the node to which the head's link led.
+/// Herlihy and Shavit's \`find\`. The walk starts at \`first\`, the node that the head's link led to.
 fn find<P: Pause, N: Rounds>(
     caller: &Caller<LockFreeList, P>,
     place: &mut TableSeat,
@@ -503,9 +503,9 @@ fn attempt<P: Pause>(
     }
 }` },
     { name: "lock_free_change_within", first: 87, steps: [{"line": 104, "rows": [1], "begins": true, "answers": false}, {"line": 109, "rows": [1], "begins": false, "answers": false}], calls: [[106, "find"], [107, "attempt"]], text: `
-/// Makes a whole \`add\` or \`remove\` on a LockFreeList. Walks to the key. Then an \`add\` links in the thread's next slot
-/// (an unused node), and a \`remove\` marks the node and attempts once to unlink it. Starts over if a link has changed
-/// since the walk. This is Herlihy and Shavit's lock-free list.
+/// Executes a whole \`add\` or \`remove\` on a LockFreeList. Walks to the key. Then an \`add\` links the thread's next slot
+/// (an unused node) into the list, and a \`remove\` marks the node and attempts once to unlink it. Starts over if a link
+/// has changed since the walk. This is Herlihy and Shavit's lock-free list.
 ///
 /// Returns \`None\` if a loop of the call has made \`N::MOST\` rounds. The call is then still pending.
 pub fn lock_free_change_within<P: Pause, N: Rounds>(
