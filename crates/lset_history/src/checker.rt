@@ -152,7 +152,7 @@ fn first_too_early(calls: &[CallRecord], order: &[Placed]) -> Option<u32>
 /// - `Unknown`: the history has no call with this number;
 /// - `Twice`: the call is in the order twice;
 /// - `Missing`: this call is completed and not in the order; if several calls are missing, the smallest number;
-/// - `WrongReply`: the history has another reply, or the sequential set returns another reply at this point of the order;
+/// - `WrongReply`: the history has another reply, or the sequential set returns another reply after the earlier calls;
 /// - `TooEarly`: a later call of the order had ended before this call began;
 /// - `WrongSet`: `keys` are not the final keys after the order's calls, in strictly increasing order.
 ///
