@@ -94,8 +94,8 @@ pub if_some : {A : Type 0} (o : Option A) (P : A → Type 0) → ((x : A) → o 
 if_some None P f = tt
 if_some (Some x) P f = f x refl
 
--- The properties of the list of calls at moment `k`: each call agrees with the log, and no pending call and no call
--- with a change is missing.
+-- States that the list of calls at moment `k` is right: each call agrees with the log, and the list has each pending
+-- call and each call with a change.
 pub record Calls (r : Run) (k : ℕ) (xs : List TracedCall) : Type 0 where
   pub each : All (Traced r k) xs
   pub pairs : AllPairs Later xs

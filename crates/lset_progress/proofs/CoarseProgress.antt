@@ -32,8 +32,8 @@ abbrev left : ℕ → (ℕ → ℕ) → Local → ℕ
 left size key l = slice_index (0 ∷ (2 * size + 2) ∷ (2 * size + 1) ∷ (2 * ahead key size (key l.curr) + 4)
     ∷ (2 * ahead key size (key l.curr) + 3) ∷ 3 ∷ 2 ∷ 1 ∷ 2 ∷ 1 ∷ 0 ∷ []) l.pc
 
--- The facts about CoarseList that the proofs of progress shared by all lists use. A thread can hold the lock from row
--- 2 of the step table on. At rows 5 to 10, its call has decided what to change.
+-- Describes CoarseList for the proofs of progress that all lists share. A thread can hold the lock from row 2 of the
+-- step table on. At rows 5 to 10, its call has decided what to change.
 abbrev shape : Shape
 shape = record {
   may = λ l x. (x ≡ 0) × Only (nat_le 2 l.pc);

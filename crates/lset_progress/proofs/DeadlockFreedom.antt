@@ -174,7 +174,7 @@ module _ (T : Table) (law : Lawful T) (S : Shape) (most : Sizes → ℕ) (shows 
     mine_counts : (k : ℕ) → Ready k → moves calls T (state_at T op es k) (Go u) ≡ 1
     mine_counts k g = weight_of _ u 1 g.busy.meant ∙ gets_weight _ (T.next _) g.gets_on.tries
 
-    -- Proof by cases: the next event is a counted step, or it changes no shared word.
+    -- The step from moment k + 1 back to k, by cases: the next event is a counted step, or it changes no shared word.
     by_event : (k : ℕ) → Ready k → (Ready (suc k) → Gather (suc m) (suc k)) → (e : Event) → es k ≡ e
         → Enabled (state_at T op es k) e → Gather (suc m) k
     by_event k g rest (Begin t c) ee en =

@@ -48,7 +48,8 @@ use Rattle.lset_progress.proofs.Windows.{counted_or_not}
 pub follows : Discipline lazy true At
 follows = discipline_of lazy (node_locks true) At lazy_follows
 
--- The facts about a thread that is about to unlink a marked node (row 12 of the step table), and about a `ceiling`.
+-- Derives `Stands` from the assertion of a thread's row: what is known before the thread unlinks a marked node (row 12
+-- of the step table), and at the rows of a `ceiling`.
 what_stands : {q t : ℕ} {vs : ℕ → View} {first now : ℕ} {v : View} {done : Bool} {l : Local} → At q t vs first now v done l
     → Stands v t l
 what_stands at = record { takes_out = λ h. (grind arith, grind arith); ceiling = λ h. grind arith }
@@ -99,8 +100,8 @@ left size key l = get_or (0 ∷ (2 * size + 6) ∷ (2 * ahead key size (key l.cu
     ∷ (2 * ahead key size (key l.curr) + 8) ∷ 8 ∷ 7 ∷ 6 ∷ 5 ∷ 4 ∷ 3 ∷ 2 ∷ 3 ∷ 2 ∷ (1 + then_again size l.reply)
     ∷ (then_again size l.reply) ∷ []) l.pc (reads_left size key l)
 
--- The facts about LazyList that the proofs of progress for all lists use. A walk is `valid` (validation will succeed)
--- if pred is in the chain, curr is the next node, and neither is marked when both are locked. After its decision, a
+-- Describes LazyList for the proofs of progress that all lists share. A walk is `valid` (validation will succeed) if
+-- pred is in the chain, curr is the next node, and neither is marked when both are locked. After its decision, a
 -- thread that releases its locks has a reply. While a `ceiling` walks, no node of the chain is marked.
 abbrev pub shape : Shape
 shape = record {
@@ -172,7 +173,7 @@ module _ {sz : Sizes} {ws : List ℕ} {used : ℕ → ℕ} {t : ℕ} {vs : ℕ �
       | inr z ↦ subst Last (sym z.1) (stops (λ x o m. gave_pred o m))
     ]
 
-    -- Each row of a `contains` or a `ceiling` has the required effect on the number of remaining steps.
+    -- Each row of a `contains` or a `ceiling` brings the end of the call closer, as `Loads` requires.
     read : (n : ℕ) {f : Fed} → IsReadRow n → Reads (round size) size (node_key ws) ws (record l { pc = n }) f
         → Loads shape size ws (record l { pc = n }) f
     read n {f} row a = reads_then shape size (node_key ws) ws (reads_at size (node_key ws) ws) (record l { pc = n }) f row a

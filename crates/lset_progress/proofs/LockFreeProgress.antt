@@ -88,7 +88,7 @@ at_pred link l row follows =
       along = λ h. absurd (omega arith);
     }
 
--- The facts about LockFreeList that the proofs of progress for all lists use. No thread holds a lock. While a `ceiling`
+-- Describes LockFreeList for the proofs of progress that all lists share. No thread holds a lock. While a `ceiling`
 -- walks, no node of the chain is marked.
 abbrev pub shape : Shape
 shape = record {
@@ -284,7 +284,7 @@ module _ {sz : Sizes} {ws : List ℕ} {used : ℕ → ℕ} {t : ℕ} {vs : ℕ �
     both : {A B : Type 0} → A → B → A × B
     both a b = (a, b)
 
-    -- Each row of a `contains` or a `ceiling` has the required effect on the number of remaining steps.
+    -- Each row of a `contains` or a `ceiling` brings the end of the call closer, as `From` requires.
     read : (n : ℕ) {f : Fed} → IsReadRow n → Reads (round size) size key ws (record l { pc = n }) f → From n ws f
     read n {f} row a = (
       reads_then shape size key ws (reads_at size key ws) (record l { pc = n }) f row a,

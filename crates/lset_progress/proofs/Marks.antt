@@ -41,8 +41,8 @@ pub record TakesOut (threads : ℕ) (locals : ℕ → Local) (b : ℕ) : Type 0 
 abbrev pub Marked : ℕ → List ℕ → (ℕ → Local) → Type 0
 Marked threads ws locals = (b : ℕ) → Path (node_link ws) 0 b → node_link ws b % 2 ≡ 1 → TakesOut threads locals b
 
--- The facts about a thread that is about to unlink a node (row 12 of the step table). Also states that only a `ceiling`
--- is at row 23 or later.
+-- States that at row 12 of the step table, before it unlinks curr, thread t holds the locks of pred and curr, and curr
+-- is marked. Also states that only a `ceiling` is at row 23 or later.
 pub record Stands (v : View) (t : ℕ) (l : Local) : Type 0 where
   pub takes_out : l.pc ≡ 12 → Between v t (target l.call) l.pred l.curr × (v.link l.curr ≡ 2 * l.succ + 1)
   pub ceiling : 23 ≤ l.pc → l.call ≡ Ceiling (key_of l.call)

@@ -51,7 +51,7 @@ left size key l = slice_index (0 ∷ (4 * size + 3) ∷ (2 * ahead key size (key
     ∷ (2 * ahead key size (key l.node) + 5) ∷ (2 * ahead key size (key l.node) + 6) ∷ 5 ∷ 4 ∷ 3 ∷ 2 ∷ 3 ∷ 2
     ∷ (1 + then_again size l.reply) ∷ (then_again size l.reply) ∷ []) l.pc
 
--- The facts about OptimisticList that the proofs of progress for all lists use. A walk is `valid` (validation will
+-- Describes OptimisticList for the proofs of progress that all lists share. A walk is `valid` (validation will
 -- succeed) if pred is in the chain, curr is the next node, and the second walk will reach pred. After its decision, a
 -- thread that releases its locks has a reply.
 abbrev shape : Shape

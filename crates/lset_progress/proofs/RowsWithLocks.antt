@@ -70,7 +70,7 @@ pub after_pred : {A : Type 0} (size : ℕ) (ws : List ℕ) (curr pred x : ℕ) �
 after_pred size ws curr pred x less (inl p) = ranked size ws curr pred x p.0 less
 after_pred size ws curr pred x less (inr c) = absurd c.1
 
--- The facts about a list that the proofs of progress for all lists use:
+-- Describes a list for the proofs of progress that all lists share:
 -- - `may`: the locks that a thread can hold;
 -- - `late`: the call has decided what to change, and locks no more nodes;
 -- - `calm`: what the thread's next step requires of the shared words;
