@@ -124,8 +124,8 @@ record Due (b left : Bool) (o c : Option ℕ) (us zs : List ℕ) (ys : List Act)
   back : (a : Act) → In a ys → a.does ≡ changes (not b) → Earlier o us ys a → Later c us ys a → has_key a.until zs ≡ true
 
 module _ (b left : Bool) (c : Option ℕ) where
-  -- If `Due` holds for the acts a ∷ ys (the effects of calls), then it holds for ys, with the end of a removed from the
-  -- lists of ends.
+  -- `Due` still holds after the first act a (the effect of a call) has been removed from the order, and the end of a
+  -- from the lists of ends.
   due_on : (o p : Option ℕ) (us zs : List ℕ) (a : Act) (ys : List Act) → (p ≡ None → (has_key a.until us ≡ true) ⊎ (o ≡ None))
       → AllByRecursion (Apart a) ys → Due b left o c us zs (a ∷ ys) → Due b left p c (take_out a.until us) (take_out a.until zs) ys
   due_on o p us zs a ys from apart d = record {

@@ -101,7 +101,8 @@ none_in_heap x (y ∷ ys) h =
     not_less : (a b : ℕ) → is_lt (nat_cmp a b) ≡ false → b ≤ a
     not_less a b e = elim (cases_Bool (nat_lt a b)) [ inl t ↦ absurd (true≢false (rw t at e)) | inr f ↦ not_lower_number a b f ]
 
--- If x is the top of the heap `old`, x is the earliest end, and the other ends are those in the heap `new`.
+-- Removing the top x of the heap `old` leaves the heap `new`. Then x is the earliest end in `old`, and `new` contains
+-- the other ends.
 pub popped : (x : Reverse ℕ) (old new : List (Reverse ℕ)) → IsPermutation old (x ∷ new) → IsUpperBound later_first x new
     → (increasing_of old ≡ x.0 ∷ increasing_of new) × (nearest x.0 (increasing_of new) ≡ x.0)
 popped x old new p top =

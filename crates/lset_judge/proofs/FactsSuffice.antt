@@ -128,7 +128,7 @@ latest_low calls key p n since second (inr y) none before =
     let u = ended_by_then since (until_if behind_all x.begun x.ended) behind_all x x.ended refl refl ended in
     let v = y.3 in omega (arith, u, v)
 
--- ---- The facts suffice when the set opens
+-- ---- When the set opens, the stored facts suffice to find a clash
 
 pub complete_first : (opening : List ℕ) (k : ℕ) (f : Facts) → f ≡ facts_opened (presence (has_key k opening)) → AreComplete opening [] 0 k f
 complete_first opening k f e = subst (AreComplete opening [] 0 k) (sym e) (record {
@@ -150,7 +150,7 @@ complete_first opening k f e = subst (AreComplete opening [] 0 k) (sym e) (recor
     best p None so past low = record { was = so; standing = low; early = λ n h. tt }
     best p (Some x) so past low = absurd (let c = so.0.known.1 in omega (arith, c))
 
--- ---- The facts still suffice when a call starts
+-- ---- When a call starts, the stored facts still suffice to find a clash
 
 until_begun : (kind : Kind) (u : ℕ) (f : Facts) (there : Presence) → (until_of there (begun_by (begin_event kind u) f) ≡ until_of there f)
     ⊎ ((turns_to there kind ≡ true) × (until_of there (begun_by (begin_event kind u) f) ≡ u))
@@ -299,7 +299,7 @@ complete_begin threads opening calls s is x may met t moment by kept same old =
           let u = w.1 in ne (omega (arith, far, u, low)))
     ]
 
--- ---- The facts still suffice when a call ends
+-- ---- When a call ends, the stored facts still suffice to find a clash
 
 -- Two different calls start at different moments, and neither ends when the other starts.
 apart_calls : (threads : ℕ) (calls : List CallRecord) → IsHistory threads calls → (x y : CallRecord) → Contains calls x → Contains calls y → (x ≡ y → ⊥)
@@ -371,7 +371,7 @@ module _ (threads : ℕ) (opening : List ℕ) (calls : List CallRecord) (s t : S
   before_call : (o : Option CallRecord) → EndsBefore o call.begun → IsPast s.moment o
   before_call o h = let b = begun_old (record_of call) own.known in ends_past s.moment call.begun o b h
 
-  -- A key on which no call ends.
+  -- The facts about a key still suffice if the call that ends is on another key.
   still_complete : (k : ℕ) (f g : Facts) → k ≢ key → AreComplete opening calls s.moment k f → g ≡ f → AreComplete opening calls t.moment k g
   still_complete k f g ne old e = subst (AreComplete opening calls t.moment k) (sym e) (record {
     latest = old.latest;
@@ -407,7 +407,7 @@ module _ (threads : ℕ) (opening : List ℕ) (calls : List CallRecord) (s t : S
         by None so e = omega (arith, e)
         by (Some x) so e = let b = begun_old (record_of x) so.0.known in omega (arith, e, b)
 
-    -- The facts show a clash of the call with an earlier call.
+    -- If the call that ends clashes with a call that ended before its start, the facts show a clash.
     pair_found : (q : Presence) (first : Option CallRecord) → EndsBefore first call.begun → Clashes calls key (there key) None q first (Some (record_of call))
         → IsClashing f call
     pair_found q first before c =
@@ -425,7 +425,8 @@ module _ (threads : ℕ) (opening : List ℕ) (calls : List CallRecord) (s t : S
         order None h = tt
         order (Some x) h = inl h
 
-    -- The kept call left the key in the state q. If the call left it in the other state, the two clash.
+    -- The kept call and the call that ends clash if they left the key in different states, and all changes to the state
+    -- that one of them left had ended when the other started.
     two_stand : (q : Presence) → f.was ≡ q → until_of (other q) f ≤ f.begun → leaves_if call.call call.ended ≡ Some (other q) → until_of q f ≤ call.begun
         → IsClashing f call
     two_stand q was stands leaves low =
@@ -603,7 +604,7 @@ module _ (threads : ℕ) (opening : List ℕ) (calls : List CallRecord) (s t : S
       → AreCompleteBy opening calls t.moment t.states t.failed t.clash
   complete_end met kept missed known old = complete_after s.failed t.failed t.clash met kept missed is.judged now.judged known old
 
--- ---- The verdict
+-- ---- If the verdict contains no clash, no call on the key clashes with a call that starts after it has ended
 
 pub none_at_end : (s : Stream) (opening : List ℕ) (refusal : Refusal) (left : Option Presence) → IsToldBy s.failed (NotLinearizable refusal)
     → (IsSome left → refusal.moment ≡ None)

@@ -31,8 +31,8 @@ use Rattle.lset_judge.specs.Reading.{call_as, reply_as, call_if, end_as, read_as
 
 -- ---- The judge accepts the next call of a history
 
--- If call y does not end when call x starts, then the end of y by `until_if` (after all moments if y has no end) is not
--- the start of x either.
+-- If call y does not end when call x starts, `until_if` does not return the start of x as the end of y either. (For a
+-- pending call, `until_if` returns an end after all moments.)
 apart_of : (y x : CallRecord) → IsBefore x → IfSome y.ended (λ (d : ℕ × Reply). d.0 ≢ x.begun) → (o : Option (ℕ × Reply)) → y.ended ≡ o
     → (until_if behind_all y.begun o ≢ x.begun)
 apart_of y x before alone None is q = let b = before.0 in omega (arith, b, q)
@@ -134,7 +134,7 @@ read_plain x = of x.call x.ended
     of c None = tt
     of c (Some e) = plain_as c e.1
 
--- ---- The judge accepts each call of a history, as it reads the call, if the calls are ordered by start
+-- ---- The judge accepts the calls of a history, as it reads them, in the order of their starts
 
 pub next_may : (threads : ℕ) (opening : List ℕ) (xs : List CallRecord) (i : ℕ) (d : CallRecord) (s : Stream) (x : CallRecord) → IsHistory threads xs
     → i < length xs → x ≡ read_as (get_or xs i d) → IsStreamOf threads opening (map read_as (take i xs)) s
@@ -161,8 +161,6 @@ next_early threads m i n d x xs history at so low inside =
 pub next_thread : (threads i : ℕ) (d x : CallRecord) (xs : List CallRecord) → IsHistory threads xs → i < length xs → x ≡ read_as (get_or xs i d) → x.thread < threads
 next_thread threads i d x xs history low so =
     let a = (history.each i d low).of_a_thread in let e = ap (λ (y : CallRecord). y.thread) so in omega (arith, a, e)
-
--- ---- Lemmas about a single call
 
 -- ---- If no order explains the calls as the judge reads them, no order explains the calls themselves
 
@@ -198,8 +196,8 @@ ceiling_other k (y ∷ ys) e = elim (cases_Bool (nat_lt y k)) [
 abbrev Fits : ℕ → SetState → ℕ → Call → Reply → Type 0
 Fits quota s t c r = (reply_to quota s t (call_as c r) ≡ reply_as c r) × (after_call s t (call_as c r) (reply_as c r) ≡ after_call s t c r)
 
--- If r is the reply of the sequential set to `add k`, then the reply that the judge reads is the reply of the set to
--- the call that the judge reads. The set is the same after both calls.
+-- The judge reads another call in place of an `add` that returned full. The sequential set returns the reply that the
+-- judge reads for this call, and is in the same state after both calls.
 add_fits : (quota : ℕ) (s : SetState) (t : ℕ) (k : Key) (b c : Bool) → has_key k.0 s.keys ≡ b → (count_of s t == quota) ≡ c
     → Fits quota s t (Add k) (reply_to quota s t (Add k))
 add_fits quota s t k true c h f = rw h (rw h refl, refl)

@@ -73,8 +73,8 @@ module _ (opening : List ℕ) (calls : List CallRecord) where
         ap (λ (u : Event). stepped n u (state_after (event k) (has_key k opening) n)) is
         ∙ ap (stepped n w) (quiet_until (event k) (has_key k opening) (n - m) m n (omega (arith, up)) (λ j l h. quiet j l h k) ∙ so)
 
-    -- If key k passes the judge's rule (the test of its calls) up to moment m, has failed the rule by moment i, and has
-    -- no event after m up to n, then i is after n.
+    -- Without an event, a key does not fail the judge's rule (the test of its calls). If key k passes the rule up to
+    -- moment m and has no event from m + 1 to n, it can fail only after n.
     not_yet : (k i : ℕ) (s : State) → state_after (event k) (has_key k opening) m ≡ Some s → state_after (event k) (has_key k opening) i ≡ None
         → suc n ≤ i
     not_yet k i s so fails = elim (below_or_not i (suc n)) [
@@ -168,7 +168,7 @@ module _ (threads : ℕ) (calls : List CallRecord) (history : IsHistory threads 
           let u : d.end ≡ e.end.0 = until_end behind_all (call e.number).begun (call e.number).ended e.end e.ended in
           omega (arith, f, g, u, a))
 
-  -- If the end of pending call n is below `behind_all`, the call has ended in the history, with the same end.
+  -- If the stored end of a pending call is below `behind_all`, the call has this end in the history.
   ended_at : (n : ℕ) → n < length calls → (pending_of (call n)).end < behind_all → (e : ℕ × Reply) × ((call n).ended ≡ Some e) × (e.0 ≡ (pending_of (call n)).end)
   ended_at n low early = elim (none_or_some (call n).ended) [
     | inl e ↦ absurd (let u : (pending_of (call n)).end ≡ behind_all + (call n).begun = ap (until_if behind_all (call n).begun) e in omega (arith, u, early))

@@ -62,9 +62,8 @@ abbrev pub HasToBe : List CallRecord → ℕ → Option Presence → Presence �
 HasToBe calls key left need None = left ≡ Some need
 HasToBe calls key left need (Some y) = IsOf calls key y × (needs_if y.call y.ended ≡ Some need)
 
--- Returns the start of the first of two clashing calls, or 0 if the key's opening state replaces this call. At this
--- moment the time between the two calls begins. This time ends when the second call ends, or never if the second call
--- is pending or is replaced by the key's final state.
+-- Returns the start of the first of two clashing calls, or 0 if the key's opening state replaces this call. Between
+-- this moment and the end of the second call, no call can change the key to the state that the second call needs.
 abbrev pub since_of : Option CallRecord → ℕ
 since_of None = 0
 since_of (Some x) = x.begun
@@ -118,8 +117,8 @@ abbrev pub ComesFirst : Option CallRecord → Option CallRecord → Type 0
 ComesFirst first None = Unit {0}
 ComesFirst first (Some y) = EndsBefore first y.begun
 
--- States that no call on a key clashes with a later call: one that starts after the first call has ended. Also states
--- that no call clashes with the key's opening state, or with its final state.
+-- States that no call on a key clashes with a call that starts after it has ended. Also states that no call clashes
+-- with the key's opening state, or with its final state.
 abbrev pub HasNoClash : List CallRecord → ℕ → Presence → Option Presence → Type 0
 HasNoClash calls key there left = (was : Presence) (first second : Option CallRecord) → ComesFirst first second
     → IsClash calls key there left was first second → ⊥

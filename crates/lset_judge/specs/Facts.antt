@@ -115,9 +115,9 @@ begun_by (looks w since) f = f
 begun_by (leaves w) f = f
 begun_by idle f = f
 
--- States that the facts `new` store the completed call `call`, which left the key in the state `new.was`. All changes to
--- the other state end by the start of `call`. For the call that `old` stores, this does not hold, or this call left the
--- key in the other state. The latest ends of changes are the same in `new` as in `old`.
+-- States that the facts `new` store the completed call `call` in place of the call that `old` stores. `call` left the
+-- key in the state `new.was`, and all changes to the other state end by its start. The call in `old` is less useful: it
+-- left the key in the other state, or started before these changes had ended. The latest ends of changes stay the same.
 pub record IsKept (call : StreamCall) (old new : Facts) : Type 0 where
   pub first : first_of (key_of call.call).0 new ≡ Some call
   pub leaves : leaves_if call.call call.ended ≡ Some new.was
@@ -126,13 +126,14 @@ pub record IsKept (call : StreamCall) (old new : Facts) : Type 0 where
   pub standing : until_of (other new.was) old ≤ call.begun
   pub better : old.was ≡ new.was → until_of (other new.was) old ≤ old.begun → ⊥
 
--- States that the kept call of these facts serves at least as well as `call`: if all changes to the other state end by
--- the start of `call`, the kept call left the key in the same state, and all these changes end by its start.
+-- States that the kept call (the stored one) is at least as useful for finding a clash as `call`. If all changes to the
+-- state that `call` did not leave end by the start of `call`, then the kept call left the same state as `call`, and
+-- these changes also end by the start of the kept call.
 abbrev pub ServesAsWell : StreamCall → Facts → Type 0
 ServesAsWell call f = IfSome call.ended (λ (e : ℕ × Reply). is_plain call.call e.1 ≡ true) → (p : Presence) → leaves_if call.call call.ended ≡ Some p
     → until_of (other p) f ≤ call.begun → (f.was ≡ p) × (until_of (other p) f ≤ f.begun)
 
--- The facts do not change at the end of `call`, since their kept call serves at least as well.
+-- The facts stay the same at the end of `call`, since their kept call (the stored one) is at least as useful.
 pub record IsUnchanged (call : StreamCall) (old new : Facts) : Type 0 where
   pub same : new ≡ old
   pub serves : ServesAsWell call old
@@ -182,7 +183,7 @@ abbrev pub IsPast : ℕ → Option CallRecord → Type 0
 IsPast moment None = Unit {0}
 IsPast moment (Some x) = IfSome x.ended (λ (e : ℕ × Reply). e.0 ≤ moment)
 
--- States that the kept call of these facts clashes with each call with which `first` clashes. `first` left the key in
+-- States that the kept call (the stored one) clashes with each call that clashes with `first`. `first` left the key in
 -- the state p.
 pub record IsAsGood (key : ℕ) (f : Facts) (p : Presence) (first : Option CallRecord) : Type 0 where
   pub was : f.was ≡ p
@@ -198,7 +199,8 @@ pub record AreComplete (opening : List ℕ) (calls : List CallRecord) (moment ke
   pub best : (p : Presence) (first : Option CallRecord) → WasSo calls key (presence (has_key key opening)) p first → IsPast moment first
       → until_of (other p) f ≤ since_of first → IsAsGood key f p first
 
--- States that no two calls on the key that have ended by a moment clash one after the other.
+-- States that, among the calls on the key that have ended by a moment, no call clashes with one that starts after it
+-- has ended.
 abbrev pub NoneMissed : List ℕ → List CallRecord → ℕ → ℕ → Type 0
 NoneMissed opening calls moment key = (p : Presence) (first : Option CallRecord) (y : CallRecord) → EndsBefore first y.begun
     → Clashes calls key (presence (has_key key opening)) None p first (Some y) → IsPast moment (Some y) → ⊥
@@ -294,7 +296,8 @@ abbrev pub ClashesStream : List ℕ → Refusal → Option Presence → Stream �
 ClashesStream opening refusal left s c = (threads : ℕ) (calls : List CallRecord) → IsStreamKept threads opening calls s
     → IsClash calls refusal.key.0 (presence (has_key refusal.key.0 opening)) left c.was (record_if c.first) (record_if c.second)
 
--- States that no two calls on the key that the reason names clash one after the other, once all ends have been processed.
+-- States that, once all ends have been processed, no call on the key that the reason names clashes with a call that
+-- starts after it has ended.
 abbrev pub HasNone : List ℕ → Refusal → Option Presence → Stream → Type 0
 HasNone opening refusal left s = (threads : ℕ) (calls : List CallRecord) → IsStreamKept threads opening calls s
     → All (λ (p : Pending). behind_all ≤ p.end) s.pending → HasNoClash calls refusal.key.0 (presence (has_key refusal.key.0 opening)) left

@@ -31,8 +31,8 @@ abbrev pub ClashesIn : List ℕ → List CallRecord → ℕ → Option Presence 
 ClashesIn opening calls key left c =
     IsClash calls key (presence (has_key key opening)) left c.was (record_if c.first) (record_if c.second)
 
--- States that no call on a key clashes with a later call: one that starts after the first call has ended. Also states
--- that no call clashes with the key's opening state, or with its final state.
+-- States that no call on a key clashes with a call that starts after it has ended. Also states that no call clashes
+-- with the key's opening state, or with its final state.
 abbrev pub HasNoClashIn : List ℕ → List CallRecord → ℕ → Option Presence → Type 0
 HasNoClashIn opening calls key left = HasNoClash calls key (presence (has_key key opening)) left
 

@@ -122,7 +122,7 @@ abbrev pub state_after : (ℕ → Event) → Bool → ℕ → Option State
 state_after ev opening zero = Some (opened opening)
 state_after ev opening (suc m) = stepped m (ev (suc m)) (state_after ev opening m)
 
--- Returns whether, by the judge's rule, every event up to the moment `last` is possible, and then the final state
--- `left`.
+-- Returns whether the judge's rule finds every event up to the moment `last` possible, and the final state `left` after
+-- them.
 abbrev pub may_leave : (ℕ → Event) → Bool → Bool → ℕ → Bool
 may_leave ev opening left last = is_some (stepped last (leaves left) (state_after ev opening last))

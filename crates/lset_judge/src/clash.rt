@@ -34,8 +34,8 @@ struct Asked {
     left: Option<Presence>,
 }
 
-/// States a lemma: if two calls in a history clash, no order explains the history and leaves these final keys. This
-/// function does nothing at run time.
+/// States a lemma: if two calls in a history clash, no order explains the history and its final keys. This function
+/// does nothing at run time.
 pub fn clashes_exclude_orders()
     ensures { ClashesExcludeOrders }
 {}

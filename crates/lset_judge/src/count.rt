@@ -12,9 +12,9 @@ use crate::stretch::{Stretch, smallest_stretch};
 use lset_words::{Key, Presence};
 use std::alloc::{AllocError, Global};
 
-/// A count: calls on a key that no order explains, because they are too many. Whichever of two of these calls is first,
-/// it leaves the key in the state `was`, and the second needs the other state. Between any two of these calls, another
-/// call must therefore change the key back. But too few calls can do that.
+/// A count: calls on a key that are too many for any order. Of any two of these calls, the one that takes effect first
+/// leaves the key in the state `was`, and the other one needs the opposite state. Between them, another call must
+/// therefore change the key back. But too few calls can do that.
 #[derive(Debug, Drop)]
 pub struct Count {
     /// The key of all calls in the count.
@@ -45,7 +45,7 @@ impl Count {
 }
 
 /// States a lemma: if some calls in a history are a count (the key would have to change back between them more often
-/// than it can), no order explains the history and leaves these final keys. This function does nothing at run time.
+/// than it can), no order explains the history and its final keys. This function does nothing at run time.
 pub fn counts_exclude_orders()
     ensures { CountsExcludeOrders }
 {}
@@ -107,8 +107,8 @@ fn has_ended_before(first: StreamCall, second: StreamCall) -> bool
     }
 }
 
-/// Returns whether the key must change back between the two calls, in each order that their times allow: the earlier
-/// call leaves the key in the state `was`, and the later call needs the other state.
+/// Returns whether the key must change back between the two calls: whichever of them comes first leaves the key in the
+/// state `was`, and the other one needs the opposite state.
 fn need_turn(first: StreamCall, second: StreamCall, was: Presence) -> bool
     ensures { IsTrue result → NeedTurn was (record_of first) (record_of second) }
 {
@@ -239,7 +239,7 @@ fn is_count(calls: &[StreamCall], there: Presence, left: Option<Presence>, count
     need_turns(counted, was) && count.backs.len() < count.turns()
 }
 
-/// Returns the calls that a stretch of time counts, ordered by start. They can be too many for any order.
+/// Returns the calls in `stretch` (a period of time that can contain too many calls for any order), ordered by start.
 fn counted_in(
     alloc: Global,
     calls: &[StreamCall],

@@ -18,7 +18,8 @@ use std::alloc::{AllocError, Global};
 /// The verdict of `judge` on a history.
 #[derive(Debug, Drop)]
 pub enum Judged {
-    /// Some order explains the calls, from the opening keys, and leaves the final keys.
+    /// Some order explains the calls: starting from the opening keys, it has the same replies and leaves the final
+    /// keys.
     Linearizable,
     /// No order explains the calls and leaves the final keys. Contains the reason, and two calls that clash, if the
     /// judge found them.

@@ -10,8 +10,8 @@ use crate::stream::BEHIND_ALL;
 use lset_words::Presence;
 use std::alloc::{AllocError, Global};
 
-/// The pending changes of a key in two heaps: the ends of the `add`s, and the ends of the `remove`s, that have not
-/// taken effect. Also stores how many changes are pending.
+/// The pending changes of a key that have not taken effect, in two heaps: the ends of the `add`s and the ends of the
+/// `remove`s. Also stores how many changes are pending.
 #[derive(Drop)]
 pub(crate) struct ManyChanges {
     puts: Ends,
@@ -145,8 +145,8 @@ impl KeyChanges {
         }
     }
 
-    /// Returns the number of changes that have an end and are pending after the moment `before`, and when the last
-    /// completed change ended.
+    /// Returns how many changes with an end are pending after the moment `before`, and when the last completed change
+    /// ended.
     pub(crate) fn counts(&self, before: u64) -> Changes {
         if let Held::Many(many) = &self.held {
             return many.counts;

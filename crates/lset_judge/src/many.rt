@@ -104,7 +104,7 @@ impl ManyCalls {
         self.none_ends_at(call.begun) && self.none_ends_at(end_or_begin(call))
     }
 
-    /// Returns whether no call in the table that is pending when `call` starts has the same thread as `call`.
+    /// Returns whether the thread of `call` has no pending call in the table when `call` starts.
     pub(crate) fn are_free(&self, call: StreamCall) -> bool
         ensures { IsTrue result ↔ All (λ p. p.call.thread ≡ call.thread → p.end ≤ call.begun) self.now }
     {

@@ -29,8 +29,8 @@ impl Changes {
         }
     }
 
-    /// Counts a change that starts and takes effect before `until`. If `until` is at least `BEHIND_ALL`, the change has
-    /// no end and is not counted.
+    /// Counts the start of a change that ends at `until`. If `until` is at least `BEHIND_ALL`, the change has no end
+    /// and is not counted.
     pub(crate) fn begin(&mut self, until: u64) {
         if until < BEHIND_ALL {
             self.pending = self.pending.saturating_add(1);

@@ -173,7 +173,7 @@ impl PendingCalls {
         None
     }
 
-    /// Inserts a call. No pending call must have the same thread or the same end.
+    /// Inserts a call. The collection must not contain a call with the same thread or the same end.
     pub(crate) fn insert(&mut self, pending: Pending) -> Result<(), AllocError>
         requires { All (λ p. p.call.thread ≢ pending.call.thread) self.old }
         ensures { OnOk result (All (λ p. p.end ≢ pending.end) self.old → IsPermutation (pending ∷ self.old) self.new) }

@@ -131,8 +131,8 @@ impl KeyState {
         }
     }
 
-    /// Makes pending changes take effect, just after the moment `before`, until `event` is possible in the key's state.
-    /// The event is at the next moment. Returns whether such a state was reached.
+    /// Lets pending changes take effect just after the moment `before`, one by one, until the key's state allows
+    /// `event`, which is at the next moment. Returns whether the key has reached a state that allows `event`.
     pub(crate) fn settle(&mut self, before: u64, event: Event) -> bool
         ensures found { found before (event_as event) (state_of self.old) ≡ (if result then Some (state_of self.new) else None) }
         ensures facts { facts_of self.new ≡ facts_of self.old }

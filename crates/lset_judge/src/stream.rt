@@ -81,13 +81,14 @@ impl From<AllocError> for StreamFault {
 /// The verdict on the calls of a recording.
 #[derive(Clone, Copy, Debug, PartialEq, Eq)]
 pub(crate) enum StreamVerdict {
-    /// Some order explains the calls, from the opening keys, and leaves the final keys.
+    /// Some order explains the calls: starting from the opening keys, it has the same replies and leaves the final
+    /// keys.
     Linearizable,
     /// No order explains the calls and leaves the final keys.
     NotLinearizable(Refusal),
 }
 
-/// The reason why no order explains the calls and leaves the final keys: a key, whose calls alone show this, and a
+/// The reason why no order explains the calls and leaves the final keys: a key whose calls alone show this, and a
 /// moment.
 #[derive(Clone, Copy, Debug, PartialEq, Eq)]
 pub struct Refusal {
@@ -106,7 +107,7 @@ pub(crate) struct Failed {
     pub(crate) moment: u64,
 }
 
-/// A pending call. If it takes effect, then before the moment `end`.
+/// A pending call. It can take effect only before the moment `end`.
 #[derive(Clone, Copy)]
 pub(crate) struct Pending {
     pub(crate) end: u64,

@@ -9,11 +9,11 @@ use std::alloc::{AllocError, Global};
 /// A stretch: a period of time that contains too many calls on a key for any order.
 #[derive(Clone, Copy)]
 pub(crate) struct Stretch {
-    /// The key's state (present or absent) after each change that this stretch of time counts.
+    /// The key's state (present or absent) after each change in this stretch of time.
     pub(crate) was: Presence,
-    /// The stretch of time counts only changes that start at this moment or later.
+    /// Only changes that start at this moment or later are in the stretch of time.
     from: u64,
-    /// The stretch of time counts only changes that have ended by this moment.
+    /// Only changes that have ended by this moment are in the stretch of time.
     upto: u64,
     /// A call that saw the key in the state `was`. It counts as an additional call before the changes.
     pub(crate) first: Option<StreamCall>,
@@ -82,7 +82,7 @@ impl Stretch {
         }
     }
 
-    /// Returns whether `call` is one of the changes that this stretch of time counts.
+    /// Returns whether `call` is one of the changes in this stretch of time.
     pub(crate) fn has(&self, call: StreamCall) -> bool {
         is_change_to(call, self.was) && self.from <= call.begun && has_ended(call, self.upto)
     }
@@ -94,7 +94,7 @@ impl Stretch {
         }
     }
 
-    /// Returns how many calls the stretch of time counts if it contains `changes` changes. `first` and `last` count as
+    /// Returns the number of calls in the stretch of time if it contains `changes` changes. `first` and `last` count as
     /// calls. The key's opening state and final state also count if `since` or `until` is `None`.
     fn places(&self, changes: usize) -> usize {
         let before = self.first.is_some() || self.since.is_none();

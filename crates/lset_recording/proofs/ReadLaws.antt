@@ -158,8 +158,8 @@ module _ (bytes held : List ℕ) (n : ℕ) (s : SoFar) (at : StandsAt bytes held
       (subst (λ (ps : List (List ℕ)). Reads n s ps read)
       (sym (ap (cut_at 10) (append-nil held) ∙ slice_split_none (λ b. eqb b 10) held at.lacks)) ends))
 
--- When more bytes of an incomplete line are read, the reader has stored all bytes of the line, or has noted that the
--- line is too long.
+-- After more bytes of an incomplete line have been read, the reader still has stored all bytes of the line, or has
+-- noted that the line is too long.
 pub held_on : (long : Bool) (held kept new more : List ℕ) → IsHeld held kept long → new ≡ kept ++ more → IsHeld (held ++ more) new long
 held_on true held kept new more is now = omega (arith, is, length-append held more)
 held_on false held kept new more is now = ap (λ (t : List ℕ). t ++ more) is ∙ sym now

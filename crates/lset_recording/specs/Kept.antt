@@ -30,8 +30,8 @@ IsJudgeKept opening calls None = calls ≡ []
 IsJudgeKept opening calls (Some j) =
     IsJudgeOf all_threads opening calls j × IsLatest calls (moment_of j.stream) × (length calls ≤ moment_of j.stream)
 
--- States that the keys increase strictly, that each greater key k has at most k of these keys below it, and that there
--- are at most 2^32 keys.
+-- States that the keys increase strictly, and bounds their number: by 2^32, and by each key k that can be appended to
+-- them.
 pub record AreKeys (keys : List ℕ) : Type 0 where
   pub increase : IsStrictlyIncreasing keys
   pub below : (k : ℕ) → is_above keys k ≡ true → length keys ≤ k
@@ -71,7 +71,8 @@ pub record IsJudging (s : SoFar) (j : Judging) : Type 0 where
   pub first : IsFirst s.section j.judge
   pub number : j.number ≡ first_line + lines_of s
 
--- States that the reader has stored all bytes of the incomplete line (false), or that this line is too long (true).
+-- States what the reader has stored of an incomplete line: all its bytes (false), or only that the line is too long
+-- (true).
 abbrev pub IsHeld : List ℕ → List ℕ → Bool → Type 0
 IsHeld held kept false = held ≡ kept
 IsHeld held kept true = LONGEST_LINE < length held

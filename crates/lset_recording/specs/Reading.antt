@@ -152,8 +152,8 @@ nothing_told = record {
   told = record { opening = []; calls = []; keys = []; cut_off = false };
 }
 
--- States that a line does not contradict the recording so far: keys must increase, and the calls must be a history,
--- ordered by start.
+-- States that a line does not contradict the recording so far: with this line, the keys still increase, and the calls
+-- are still a history, ordered by start.
 abbrev pub GoesOn : Recording → RecordingLine → Type 0
 GoesOn c told.Title = Unit {0}
 GoesOn c (told.Opening k) = is_above c.opening k ≡ true

@@ -1,4 +1,4 @@
--- Lemmas about the events of a schedule as one list, for the loop that makes them.
+-- Lemmas about the events of a schedule as one list, for the loop that executes them.
 use Rattle.std.proofs.Common.{rules}
 use Rattle.std.proofs.lemmas.Grind.{common_steps}
 use Rattle.std.proofs.Common.{◌≡◌, ℕ, zero, suc, drop, arith, ◌-◌, ◌+◌, ◌<◌, ◌≤◌, List, [], ◌∷◌, ◌++◌, replicate, length, get_or}
@@ -25,9 +25,9 @@ length_of_events n (l ∷ ls) = search (rules, length-append, length_of_line, su
 pub as_many : (es : List LineEvent) → length (only_events es) ≡ length es
 as_many es = length-map es event_in
 
--- ---- Lemmas about the events that the loop has made and the events that remain
+-- ---- Lemmas about the events that the loop has executed and the events that remain
 
--- States that the first k events of the list es were made, and that the events in `rest` remain.
+-- States that the first k events of the list es were executed, and that the events in `rest` remain.
 pub record IsAhead (es : List LineEvent) (k : ℕ) (rest : List LineEvent) : Type 0 where
   pub within : k ≤ length es
   pub rest_is : drop k es ≡ rest
@@ -56,8 +56,8 @@ drop_more (x ∷ es) (suc k) next rest e = drop_more es k next rest e
 abbrev pub no_line : Line
 no_line = line.Begin 0 (call.Add (record { 0 = 0 }))
 
--- Returns the remaining events while the loop makes the events of line i: `times` events of line i, then all events of
--- later lines.
+-- Returns the remaining events while the loop executes the events of line i: `times` events of line i, then all events
+-- of later lines.
 abbrev pub rest_of : ℕ → List Line → ℕ → ℕ → LineEvent → List LineEvent
 rest_of n ls i times next = replicate times next ++ events_from (n + (i + 1)) (drop (i + 1) ls)
 
@@ -74,7 +74,7 @@ module _ (n : ℕ) (ls : List Line) (i k times : ℕ) (next : LineEvent) where
         let t : times ≡ times - 0 = omega arith in cc (e, f, t));
   }
 
-  -- Lemmas for the case that j events of the current line were made.
+  -- Lemmas for the case that j events of the current line were executed.
   module _ (j : ℕ) (ahead : IsAhead (events_from n ls) k (rest_of n ls i (times - j) next)) where
     is_next : j < times → drop k (events_from n ls) ≡ next ∷ rest_of n ls i (times - (j + 1)) next
     is_next inside = ahead.rest_is ∙ ap (λ z. rest_of n ls i z next) (let e : times - j ≡ suc (times - (j + 1)) = omega arith in e)

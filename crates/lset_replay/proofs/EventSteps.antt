@@ -26,7 +26,7 @@ use Rattle.lset_replay.proofs.EventLists.{IsAhead}
 use Rattle.lset_replay.proofs.FollowedRuns.{TellsKeys, holds_keys, shown}
 use Rattle.lset_replay.proofs.RecorderReady.{may_begin, may_step}
 
--- The effect that `told` returns for an event is the effect in the log's entry for this event.
+-- The log's entry for an event is the effect that `told` returns for this event, converted by `entry_told`.
 pub told_entry : (T : Table) (s : State) (e : Event) → entry_told e (told T s e) ≡ entry_of T s e
 told_entry T s (Begin t call) = refl
 told_entry T s (Go t) = refl
@@ -44,7 +44,7 @@ run_more T op es k r e = record {
     last_or_before : (j k : ℕ) → j < suc k → (j ≡ k) ⊎ (j < k)
     last_or_before j k l = grind arith
 
--- ---- Lemmas about making and recording the next event
+-- ---- Lemmas about executing and recording the next event
 module _ (T : Table) (op : Opening) (events : List LineEvent) (k : ℕ) (w : WorldState)
     (r : Recorder) (h : HasFollowed T op events k w r) (next : LineEvent) (there : ComesNext events k next) where
   abbrev es : ℕ → Event
@@ -125,9 +125,9 @@ module _ (T : Table) (op : Opening) (events : List LineEvent) (k : ℕ) (w : Wor
             account low k (omega arith) r (ap (λ (o : Opening). o.threads) h.opening_is) h.trace t _ _ (entered (Go t) i) in
             (may.0, subst (λ (z : Told). MayChange (moments_of r.changes) (suc k) z.change) (sym says) may.1)
 
--- ---- Lemmas for the loop that makes the events
+-- ---- Lemmas for the loop that executes the events
 
--- States that all events before `rest` were made and recorded.
+-- States that all events before `rest` were executed and recorded.
 pub record IsOnWay (T : Table) (op : Opening) (events rest : List LineEvent) (w : WorldState) (r : Recorder) : Type 0 where
   pub ahead : IsAhead events r.last rest
   pub followed : HasFollowed T op events r.last w r

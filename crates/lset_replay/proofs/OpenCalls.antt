@@ -50,8 +50,7 @@ open_began x xs t number call begun p =
       open_call = subst (IsOpenAs t call begun) (sym (get_or_append_left xs (x ∷ []) no_traced number low)) p.open_call;
     }
 
--- If a step of thread u does not end a call, or if u is not thread t, the pending call of thread t is the same after
--- the step.
+-- The pending call of thread t stays pending, with the same number, until a step of t ends it.
 pub open_stepped : (k u t : ℕ) (change : Option Change) (reply : Option Reply) (xs : List TracedCall) (number : ℕ) (call : Call)
     (begun : ℕ) → (reply ≡ None) ⊎ (u ≢ t) → OpenNumber xs t number call begun
     → OpenNumber (map (step_of k u change reply) xs) t number call begun

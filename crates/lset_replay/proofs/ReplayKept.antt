@@ -137,8 +137,8 @@ module _ (m t : ℕ) where
 pub calls_are : (log : Log) (k : ℕ) (e : Entry) → log k ≡ e → calls_at log (suc k) ≡ calls_after (suc k) e (calls_at log k)
 calls_are log k e at = ap (λ z. calls_after (suc k) z (calls_at log k)) at
 
--- Lemmas about a pending call of thread u, if u adds no key until the call changes the set: `IsWatched` still holds for
--- the call at the next moment.
+-- Lemmas about a pending call of thread u: `IsWatched` still holds for the call at the next moment, if u adds no key
+-- before the call changes the set.
 module _ (log : Log) (contents : Contents) (counts : Counts) (k u : ℕ) (o : OpenCall)
     (quiet : has_changed log u (suc k) ≡ false → (has_changed log u k ≡ false) × (counts (suc k) u ≡ counts k u))
     (w : IsWatched log contents counts k u o) where

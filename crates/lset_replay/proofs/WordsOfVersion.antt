@@ -117,7 +117,7 @@ history_is_in v T op k es h =
     all_map record_of (IsRecordIn v) (calls_at (log_of T op at) k)
     (calls_are_in v (log_of T op at) k (λ j. entry_enters v T (state_at T op at j) (at j) (event_begins v es j h)))
 
--- ---- Lemmas: the sequential set has only replies of version 1 for calls of version 1
+-- ---- Lemmas: the sequential set returns only replies of version 1 for calls of version 1
 
 abbrev IsReplyIn : Placed → Type 0
 IsReplyIn p = HasReply One p.reply

@@ -1,4 +1,5 @@
--- The state of a replay: the words and threads of the list (the world) and the recorder match the events made so far.
+-- The invariant of a replay: the world (the words and threads of the list) and the recorder match the events executed
+-- so far.
 use Rattle.std.specs.Prelude.{◌≡◌, ℕ, ◌<◌, List, length, Result}
 use Rattle.lset_text.specs.declared.causes.Cause.{Cause}
 use Rattle.lset_text.specs.declared.causes.Cause.TheVariants as cause
@@ -24,7 +25,7 @@ pub record AreSteps (T : Table) (W : Type 0) (makes : W → Event → Result Tol
   pub listed : ListedContent T
   pub made : (w : W) (e : Event) (r : Result Told Cause) (w' : W) → makes w e r w' → HasMade T (state w) e r (state w')
 
--- The first k events were made. They led to the world w (shared words and threads) and were recorded in r.
+-- The first k events were executed. They led to the world w (shared words and threads) and were recorded in r.
 pub record HasFollowed (T : Table) (op : Opening) (events : List LineEvent) (k : ℕ) (w : WorldState) (r : Recorder) : Type 0 where
   pub run : Run T op (event_at (only_events events)) k
   pub world : w ≡ world_after T op (only_events events) k

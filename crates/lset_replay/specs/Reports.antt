@@ -24,7 +24,7 @@ use Rattle.lset_replay.specs.Events.{events_of, only_events, line_at}
 -- The history, the order and the final keys that the report must have if the run has these events.
 pub record IsReportOf (T : Table) (op : Opening) (events : List Event)
     (history : List CallRecord) (order : List Placed) (keys : List ℕ) : Type 0 where
-  -- Each event is enabled when it is made.
+  -- Each event is enabled when it is executed.
   pub run : Run T op (event_at events) (length events)
   -- The history in the report is the history of the run.
   pub history_is : history ≡ history_of T op (event_at events) (length events)

@@ -26,7 +26,7 @@ use lset_steps::laws::{has_account, listed_content};
 use lset_text::{Cause, LineFault};
 use std::alloc::Global;
 
-/// Converts the error that stopped a replay. A run of a list never reaches the last arm.
+/// Converts the error that stopped a replay to a `ReplayFault`. A replay on a list never reaches the last arm.
 fn refusal(stopped: LineFault) -> ReplayFault
     ensures { (T : Table) (op : Opening) (events : List LineEvent) → IsStopped T op events stopped → IsRefusal T op events result }
 {
@@ -38,7 +38,7 @@ fn refusal(stopped: LineFault) -> ReplayFault
     }
 }
 
-/// Makes the events in these lines in turn and records them. `first` is the number of the first line. Stops at the
+/// Executes the events in these lines in turn and records them. `first` is the number of the first line. Stops at the
 /// first event that is not enabled and returns its line and cause. The cause is `Memory` if an allocation failed.
 pub(crate) fn follow<W: Steps>(
     world: &mut W,

@@ -21,16 +21,16 @@ pub struct RunCalls {
     pub order: Vec<Placed>,
     /// The linearization point of each entry of `order` (Herlihy and Wing).
     pub points: Vec<Point>,
-    /// The final keys.
+    /// The number of executed events.
     pub keys: Vec<u32>,
-    /// The number of events made.
+    /// The line number and the cause of the event that is not enabled, or `None` if all events were executed.
     pub events: u32,
     /// The line number and the cause of the event that is not enabled, or `None` if all events were made.
     pub refused: Option<LineFault>,
 }
 
-/// Makes the events of a schedule until an event is not enabled, and returns the calls of the run. No event may have
-/// been made in `world` before.
+/// Executes the events of a schedule until an event is not enabled, and returns the calls of the run. No event may have
+/// been executed in `world` before.
 ///
 /// A call that changed the set takes effect at the event that made the change, even if the call is still pending. Any
 /// other completed call takes effect at the first moment between its start and its end when its reply is correct. On a

@@ -9,8 +9,8 @@ use lset_steps::{Action, ChainKey, Event, Local, Machine, StepFault, Told, World
 use lset_text::Cause;
 use std::alloc::AllocError;
 
-/// A list or a broken list during a run (its world): its shared words and the local states of its threads. A run makes
-/// events in this world.
+/// The world of a run: the shared words of a list or a broken list, and the local states of its threads. The events of
+/// the run are executed in this world.
 pub trait Steps {
     /// Specifies the effect of an event on a list or a broken list. By default, as for a broken list, an event can have
     /// any effect.
@@ -23,7 +23,7 @@ pub trait Steps {
     /// if the next step of the thread accesses no word.
     fn ahead(&self, t: u32) -> Option<(Action, u64)>;
 
-    /// Makes an event and returns its effect. If the event is not enabled, nothing changes, and the error is
+    /// Executes an event and returns its effect. If the event is not enabled, nothing changes, and the error is
     /// `NoThread`, `Busy` or `Idle`. On a broken list, the error can also be `Lost`.
     fn make(&mut self, event: Event) -> Result<Told, Cause>
         ensures { makes self.old event result self.new };

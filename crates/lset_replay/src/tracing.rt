@@ -42,9 +42,9 @@ pub struct TracedRun<W: Steps + Drop> {
 }
 
 impl<W: Steps + Drop> TracedRun<W> {
-    /// Creates the run of a schedule. No event may have been made in `world` before. If `chains` is true, each event
-    /// that changes which nodes are in the list, or their marks, is reported with the new list of nodes. This costs a
-    /// walk along the nodes at each event that writes the key or the link of a node. Returns `AllocError` if an
+    /// Creates the run of a schedule. No event may have been executed in `world` before. If `chains` is true, each
+    /// event that changes which nodes are in the list, or their marks, is reported with the new list of nodes. This
+    /// costs a walk along the nodes at each event that writes the key or the link of a node. Returns `AllocError` if an
     /// allocation fails.
     pub fn opened(
         alloc: Global,
@@ -63,8 +63,8 @@ impl<W: Steps + Drop> TracedRun<W> {
         })
     }
 
-    /// Makes an event and returns it as a trace shows it. If the event is not enabled, the inner error is the cause.
-    /// Returns `AllocError` if an allocation fails.
+    /// Executes an event and returns its description for a trace. If the event is not enabled, the inner error is the
+    /// cause. Returns `AllocError` if an allocation fails.
     pub fn make(&mut self, next: LineEvent) -> Result<Result<TracedEvent, Cause>, AllocError> {
         let ahead = self.look(next.event);
         let thread = thread_of(next.event);
@@ -94,7 +94,7 @@ impl<W: Steps + Drop> TracedRun<W> {
         }))
     }
 
-    /// Makes an event and records it.
+    /// Executes an event and records it.
     fn step(&mut self, event: Event) -> Result<Told, Cause> {
         let told = self.world.make(event)?;
         self.recorder.follow(event, told)?;

@@ -142,8 +142,8 @@ taken_pushed calls x m past =
     list_any-append (is_entry m) calls (x ∷ []) ∙ ap (λ c. is_taken calls m || c) (or-false (is_entry m x))
     ∙ ap (λ c. is_taken calls m || (c || ends_at m x.ended)) other
 
--- `ends` has the end of each thread's last call. If the entry of thread t is replaced by v, the new list contains the
--- moment m if `ends` contains m or if m is v. The moment m must differ from the replaced entry.
+-- If the last end of thread t is replaced by v, the result of `is_last_end` can change only for v and for the replaced
+-- end. `ends` contains the end of each thread's last call.
 last_end_set : (ends : List ℕ) (t m v : ℕ) → t < length ends → eqb (get_or ends t 0) m ≡ false
     → is_last_end (set ends t v) m ≡ (is_last_end ends m || eqb v m)
 last_end_set [] t m v low old = absurd (omega (arith, low))

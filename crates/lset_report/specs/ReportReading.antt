@@ -104,7 +104,8 @@ abbrev pub end_kind : LineKind ReportLine
 end_kind = (piece.word (codes "end") ∷ [], λ t. told.End)
 
 -- Returns the kinds of lines that are allowed in the section of final keys. `from_order`, `from_calls` and
--- `from_opening` do this for the sections before. The sections have a fixed order, and any section can be empty.
+-- `from_opening` return the kinds for the sections of the order, the calls and the opening keys. The sections have a
+-- fixed order, and any section can be empty.
 abbrev pub from_keys : List (LineKind ReportLine)
 from_keys = key_kind ∷ end_kind ∷ []
 

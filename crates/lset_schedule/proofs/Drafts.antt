@@ -1,4 +1,4 @@
--- The invariant of `generate` between two turns. A turn makes at most one event.
+-- The invariant of `generate` between two turns. A turn draws at most one event.
 use Rattle.std.proofs.Common.{◌≡◌, ℕ, zero, suc, List, [], ◌∷◌, map, slice_index_or, refl, ◌≢◌, ◌+◌, ◌^◌, ◌<◌, ◌≤◌, ◌⊎◌, inl, inr, IsTrue, ◌↔◌, false, ◌++◌, length}
 use Rattle.std.proofs.Common.{length-append, sym, ap, subst, ◌∙◌, arith}
 use Rattle.std.specs.List.{range_with_len, AllByRecursion, count_by, sum_by}
@@ -95,7 +95,7 @@ draft_opening T s calls keys h none = record {
 pub goes_on : (s : State) (events m left : ℕ) → events ≡ m → (IsTrue false ↔ IsOver s events left) → IsOver s m left → ⊥
 goes_on s events m left e test over = let f : IsTrue false = test.1 (subst (λ k. IsOver s k left) (sym e) over) in cc
 
--- If a turn makes no event and the schedule has not ended, some thread has a pending call.
+-- If a turn has no event and the schedule has not ended, some thread has a pending call.
 idle_with_others : (s : State) (n left t m : ℕ) → length s.locals ≡ n → (IsOver s m left → ⊥) → IsIdle s t left
     → Resting s n → ⊥
 idle_with_others s n left t m len more h rest = more (inr (h.1, λ u lt. rest u (omega arith)))

@@ -1,4 +1,4 @@
--- One turn of `generate`, which makes at most one event.
+-- One turn of `generate`, which draws at most one event.
 use Rattle.std.specs.Prelude.{◌≡◌, ◌≢◌, ℕ, ◌<◌}
 use Rattle.lset_words.specs.Words.{key_of}
 use Rattle.lset_text.specs.Spellings.{HasCall}
@@ -10,8 +10,7 @@ use Rattle.lset_steps.specs.Steps.{State, local_of}
 abbrev pub HasOpenCall : State → ℕ → Type 0
 HasOpenCall s t = (local_of s t).pc ≢ 0
 
--- States that a turn that has drawn thread t makes no event: thread t has no pending call, and no further call can
--- begin.
+-- States that a turn that has drawn thread t has no event: thread t has no pending call, and no further call can begin.
 abbrev pub IsIdle : State → ℕ → ℕ → Type 0
 IsIdle s t left = ((local_of s t).pc ≡ 0) × (left ≡ 0)
 

@@ -1,5 +1,5 @@
-//! Schedules. A schedule is a list of events. An event is the begin of a call, or a step of a thread's pending call.
-//! This crate reads and writes the text of schedules, and draws random schedules.
+//! Schedules: lists of events. An event starts a call, or is a step of a thread's pending call. This crate reads and
+//! writes the text of schedules, and draws random schedules.
 #![tactic(auto)]
 
 mod body;
@@ -37,5 +37,5 @@ pub const MOST_STEPS: u32 = 10_000;
 /// The maximum number of events in a schedule that `generate` draws.
 pub const MOST_GENERATED: u32 = 10_000;
 
-/// The maximum number of turns that `generate` uses to draw a schedule. A turn makes at most one event.
+/// The maximum number of turns that `generate` uses to draw a schedule. A turn draws at most one event.
 pub const MOST_TURNS: u32 = 100_000;

@@ -66,7 +66,7 @@ pub starts : {S : Type 0} (g : Grammar S) (first : ℕ) (text : List ℕ) (s : S
     → Stands g first text (lines_from g first s (cut_at 10 text)) first s text
 starts g first text s = record { so_far = refl; above = []; parts = refl; number = omega arith; left = omega arith }
 
--- If the next line is accepted, the loop's invariant also holds after this line, for the state that follows the line.
+-- If the next line is accepted, the loop's invariant also holds after this line.
 pub goes_on : {S : Type 0} (g : Grammar S) (first : ℕ) (text : List ℕ) (read : Result S LineFault) (line : ℕ) (s t : S)
     (rest x after : List ℕ) → cut_at 10 rest ≡ x ∷ cut_at 10 after → length x + length after + 1 ≡ length rest → g.step s x ≡ Ok t
     → Stands g first text read line s rest → Stands g first text read (line + 1) t after
@@ -192,8 +192,7 @@ leads_all g P Q one s t [] holds leads = tt
 leads_all g P Q one s t (x ∷ xs) holds leads =
     let moved = one s leads.0 x holds leads.1 in (moved.1, leads_all g P Q one leads.0 t xs moved.0 leads.2)
 
--- Suppose that reading the line of each item changes the state for the earlier items to the state for these items and
--- this one. Then reading the lines of the whole list changes the first state to the last.
+-- If reading the line of one item adds the item to the state, reading the lines of a whole list adds all its items.
 pub items_lead : {S X : Type 0} (g : Grammar S) (state : List X → S) (lines : ℕ → List X → List (List ℕ))
     (line : ℕ → X → List ℕ) → ((n : ℕ) → lines n [] ≡ [])
     → ((n : ℕ) (x : X) (xs : List X) → lines n (x ∷ xs) ≡ line n x ∷ lines (n + 1) xs) → (before xs : List X)

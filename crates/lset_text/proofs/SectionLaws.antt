@@ -48,7 +48,7 @@ pub later_pushed : {X T : Type 0} (xs : List X) (x : X) (s t : T) → t ≡ late
 later_pushed [] x s t = refl
 later_pushed (y ∷ ys) x s t = refl
 
--- ---- If reading each item's line adds the item to the state, reading a section adds all its items, up to the
+-- ---- If reading the line of one item adds the item to the state, reading a section adds all its items, up to the
 -- section's limit
 
 pub section_leads : {S X : Type 0} (g : Grammar S) (state : List X → S) (line : X → List ℕ) (P : X → Type 0) (most : ℕ)
@@ -59,8 +59,7 @@ section_leads g state line P most xs few are each =
     items_lead g state (λ n. map line) (λ n. line) (λ n. refl) (λ n x ys. refl) [] xs
     (λ front more x is. each front more x is (omega (arith, shorter front more xs x is, few)) (middle P front more xs x is are))
 
--- Reading the lines of the opening keys changes the state without keys to the state with all of them. In version 1, a
--- file has no opening keys.
+-- Reading the lines of the opening keys adds all these keys to the state. A file of version 1 has no opening keys.
 pub openings_lead : {S : Type 0} (g : Grammar S) (state : List ℕ → S) (v : Version) (o : Opening) → Opens o
     → HasOpening v o.keys
     → ((front : List ℕ) (k : ℕ) → v ≡ Two → length front < MOST_OPENING → k < 2 ^ 32 → is_above front k ≡ true

@@ -16,7 +16,7 @@ opening_lines keys = map opening_line keys
 abbrev pub opening_form : Form
 opening_form = number_form (codes "opening") 0 max_number
 
--- States that a file of this version can have these opening keys: version 1 can have none.
+-- States that a file of this version can have these opening keys. A file of version 1 has none.
 abbrev pub HasOpening : Version → List ℕ → Type 0
 HasOpening One keys = keys ≡ []
 HasOpening Two keys = Unit {0}

@@ -1,4 +1,4 @@
--- How one entry of a log changes the last call of a thread: only an entry of the thread does.
+-- A thread's last call changes only at entries of the log that this thread makes.
 use Rattle.std.specs.Prelude.{◌≡◌, ◌≢◌, ℕ, suc}
 use Rattle.lset_words.specs.Log.{Log, Entry, maker, last_after, last_at}
 use Rattle.lset_words.proofs.Numbers.{if_same, if_other}

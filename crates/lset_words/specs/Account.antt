@@ -27,8 +27,8 @@ Changes (Some (k, true)) before after =
 Changes (Some (k, false)) before after =
     before k.0 × (after k.0 → ⊥) × ((j : ℕ) → j ≢ k.0 → (before j → after j) × (after j → before j))
 
--- Returns a thread's number of successful adds after a step that makes this change, or no change. `count` is the
--- number before the step.
+-- Returns how many adds of a thread have succeeded after a step. `count` is the number before the step. The first
+-- argument is the change that the step makes, or `None`.
 abbrev pub count_after : Option Change → ℕ → ℕ
 count_after None count = count
 count_after (Some (k, true)) count = count + 1

@@ -37,7 +37,7 @@ pub record MayFollow (threads : ℕ) (earlier : List CallRecord) (x : CallRecord
   pub call : IsCall threads x
   pub follows : All (λ y. Follows y x) earlier
 
--- [History]: the numbered calls of a sequence of starts and ends, each at a moment of its own.
+-- [History]: a list of calls, numbered in the order of their starts. All starts and ends are at different moments.
 pub record IsHistory (threads : ℕ) (calls : List CallRecord) : Type 0 where
   pub each : All (IsCall threads) calls
   pub pairs : AllPairs Follows calls
@@ -64,7 +64,7 @@ pub record Linearizes (quota : ℕ) (start : SetState) (history : List CallRecor
   pub ended : (number : ℕ) (end : ℕ) (reply : Reply) → number < length history
       → (call_numbered history number).ended ≡ Some (end, reply)
       → Contains order (record { call = number; reply = reply })
-  -- The sequential set returns these replies, one after another.
+  -- The sequential set returns these replies if its calls are made in this order.
   pub legal : IsLegal quota start (map (answered history) order)
   -- If a call ends before another call begins, it also precedes the other in the order.
   pub in_time : AllPairs (λ (p r : Placed). Precedes (call_numbered history r.call) (call_numbered history p.call) → ⊥) order

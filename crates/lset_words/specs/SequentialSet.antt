@@ -1,5 +1,5 @@
--- The sequential set: a set of keys that threads use one after another (Herlihy and Shavit's interface). In addition,
--- each thread has a quota, the number of its adds that can succeed.
+-- The sequential set: a set of keys that runs one call at a time (Herlihy and Shavit's interface). In addition, each
+-- thread has a quota, the number of its adds that can succeed.
 use Rattle.std.specs.Prelude.{◌≡◌, ℕ, ◌+◌, ◌==◌, ◌||◌, nat_lt, Bool, false, if◌then◌else◌, List, [], ◌∷◌, replicate, slice_index, slice_set}
 use Rattle.lset_words.specs.declared.Call.{Call}
 use Rattle.lset_words.specs.Words.{Opening}
@@ -29,7 +29,8 @@ abbrev pub without_key : ℕ → List ℕ → List ℕ
 without_key k [] = []
 without_key k (x ∷ xs) = if x == k then without_key k xs else x ∷ without_key k xs
 
--- Returns the reply `At` with the smallest of these increasing keys that is at or above `k`, or `Nothing` if no key is.
+-- Returns the reply to `ceiling k`: `At` with the smallest key at or above `k`, or `Nothing` if all keys are below `k`.
+-- The keys must be in increasing order.
 abbrev pub ceiling_in : ℕ → List ℕ → Reply
 ceiling_in k [] = Nothing
 ceiling_in k (x ∷ xs) = if nat_lt x k then ceiling_in k xs else At (record { 0 = x })

@@ -5,8 +5,8 @@ ghost use Rattle.lset_words.specs.Records.{Record, called};
 use crate::{Call, Reply};
 use std::sync::Wait;
 
-/// A set that several threads can call. Its calls are made from seats: a seat is the right to call as one thread. The
-/// function `session` serves any set that implements this trait.
+/// A set that several threads can call. A thread calls the set through a seat, which is the right to call as one
+/// thread. The function `session` serves any set that implements this trait.
 pub trait SetCalls {
     type Seat;
 
@@ -19,8 +19,8 @@ pub trait SetCalls {
     /// Returns the number of seats that this seat counts for: itself and those that were merged into it.
     ghost held_by: { Self.Seat → ℕ };
 
-    /// Makes `call` from `seat`, which must belong to this set, and returns the reply. Appends the call with its reply
-    /// to the seat's record. Nothing else about the seat changes.
+    /// Executes `call` for the thread of `seat`, which must belong to this set, and returns the reply. Appends the call
+    /// with its reply to the seat's record. Nothing else about the seat changes.
     ///
     /// Can block while another thread holds a lock that the call needs. The sets of this library do not allocate here,
     /// so `session` does not allocate either.

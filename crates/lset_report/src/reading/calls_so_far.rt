@@ -18,7 +18,7 @@ pub(crate) struct CallsSoFar {
     /// For each thread, the moment when its last call ended. 0 if the thread has no call yet or its last call is
     /// pending.
     pub last_ends: Vec<u32>,
-    /// For each thread, states whether its last call is pending.
+    /// For each thread, whether its last call is pending.
     pub busy: Vec<bool>,
     ghost within: { IsWithin (record { threads = history.opening.threads; quota = history.opening.quota; opening = 0 }) },
     ghost tracks: { Tracks history last_begun last_ends.items busy.items },
@@ -72,9 +72,9 @@ impl CallsSoFar {
         }
     }
 
-    /// Returns whether the call `made` can follow these calls. If a moment is after the start of the last call, another
-    /// call can only start or end at this moment if it is the end of some thread's last call. It therefore suffices to
-    /// compare with these ends, and no set of moments is stored.
+    /// Returns whether the call `made` can follow these calls. At moments after the start of the last call, the only
+    /// starts or ends are the ends of threads' last calls. The test therefore compares the moments of `made` with these
+    /// ends only, and no set of moments is stored.
     pub fn may_follow(&self, made: CallRecord) -> bool
         ensures { result ≡ may_follow self.now.history.opening.threads self.now.history.calls made }
     {

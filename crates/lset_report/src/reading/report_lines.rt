@@ -35,7 +35,7 @@ pub enum Line {
 }
 
 impl Line {
-    /// Returns the section of the report that has this line.
+    /// Returns the section of the report that contains this line.
     pub fn section(self) -> Section
         ensures { result ≡ section_after self }
     {

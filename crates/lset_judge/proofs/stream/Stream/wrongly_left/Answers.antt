@@ -27,8 +27,8 @@ right_more : (keys : List ℕ) (xs : List (Bor ℕ × Bor KeyState)) (x : Bor �
 right_more keys xs x None Q all here = All-push (λ (p : Bor ℕ × Bor KeyState). may_be_left (has_key p.0.now keys) (state_of p.1.now) ≡ true) xs x all here
 right_more keys xs x (Some k) Q h here = h
 
--- If P holds for `key`, and for the key `wrong` if there is one, then P holds for `smallest`, which is one of these
--- keys.
+-- If a property holds for the next wrong key and for the smallest wrong key so far, it holds for the smaller of the
+-- two.
 wrong_more : (P : ℕ → Type 0) (A : Type 0) (wrong : Option ℕ) (key smallest : ℕ) → (smallest ≡ key) ⊎ (wrong ≡ Some smallest) → P key → MatchOption wrong A P → P smallest
 wrong_more P A wrong key smallest (inl e) here before = subst P (sym e) here
 wrong_more P A None key smallest (inr e) here before = absurd (cc)
