@@ -10,23 +10,23 @@
 
 ghost use Rattle.lset_judge.specs.Locality.{KeysAreApart, QuotasDoNotMatter};
 
-mod busy;
-mod clash;
-mod count;
-mod ends;
-mod event;
-mod facts;
-mod judged;
-mod judged_history;
-mod key_changes;
-mod keys;
-mod many;
-mod overlaps;
-mod pending;
-mod rule;
-mod set_judge;
-mod stream;
-mod stretch;
+mod busy; // the end of each thread's last call
+mod clash; // two calls that rule out every order
+mod count; // calls that are too many for any order
+mod ends; // a heap of the ends of calls
+mod event; // the starts and ends of a key's calls
+mod facts; // the stored facts that show a clash
+mod judged; // which histories the judge can decide
+mod judged_history; // `judge`, the verdict on a complete history
+mod key_changes; // the started changes of a key
+mod keys; // search in a list of increasing keys
+mod many; // many pending calls, in a hash table
+mod overlaps; // counts the calls that overlap a change
+mod pending; // the pending calls, few or many
+mod rule; // the judge's rule and a key's state
+mod set_judge; // `Judge`, the verdict on recorded calls
+mod stream; // judges the calls one after another
+mod stretch; // searches for periods with too many calls
 
 pub use clash::{Clash, clashes_exclude_orders, find_clash};
 pub use count::{Count, counts_exclude_orders, find_count};

@@ -7,19 +7,19 @@
 //! proved.
 #![tactic(auto)]
 
-mod events;
-mod fault;
-mod fits;
-mod order;
-mod places;
-mod recorder;
-mod recording;
-mod replaying;
-mod run_calls;
-mod start;
-mod steps;
-mod traced;
-mod tracing;
+mod events; // an event with its line number
+mod fault; // the reason why a replay fails
+mod fits; // the first moment when a reply is correct
+mod order; // the calls, sorted by linearization point
+mod places; // a pending call and its linearization point
+mod recorder; // the state of a `Recorder`
+mod recording; // how a `Recorder` records an event
+mod replaying; // `replay`, and the loop over the events
+mod run_calls; // `calls_of`, the calls for a picture
+mod start; // the world before the first event
+mod steps; // `Steps`, for lists and broken lists
+mod traced; // an event as a trace shows it
+mod tracing; // `TracedRun`, a run event by event
 
 pub use events::{LineEvent, event_of};
 pub use fault::ReplayFault;

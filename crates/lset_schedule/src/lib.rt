@@ -2,13 +2,13 @@
 //! writes the text of schedules, and draws random schedules.
 #![tactic(auto)]
 
-mod body;
-mod draws;
-mod gen_fault;
-mod generator;
-mod schedule_reading;
-mod schedule_writing;
-mod value;
+mod body; // reads opening keys and event lines
+mod draws; // random calls, and `programs` of calls
+mod gen_fault; // the errors of `generate` and `programs`
+mod generator; // `generate`, which draws a random schedule
+mod schedule_reading; // `read_schedule`, from text to schedule
+mod schedule_writing; // `write_schedule`, from schedule to text
+mod value; // the type `Schedule` and its lines
 
 pub use body::{Body, EventLine, read_text};
 pub use draws::programs;

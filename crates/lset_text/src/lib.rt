@@ -2,13 +2,13 @@
 //! opening keys.
 #![tactic(auto)]
 
-mod causes;
-mod forms;
-mod headers;
-mod numbers;
-mod openings;
-mod text_parts;
-mod words;
+mod causes; // the causes of errors in files
+mod forms; // a lemma about reading all forms of lines
+mod headers; // reads and writes the four header lines
+mod numbers; // reads decimal numbers without leading zeros
+mod openings; // writes the lines of the opening keys
+mod text_parts; // splits a text at a byte
+mod words; // names of lists and calls, and replies
 
 pub use causes::{Cause, LineFault};
 pub use forms::forms_read_back;
