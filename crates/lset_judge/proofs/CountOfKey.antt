@@ -95,8 +95,8 @@ against_so true false e = absurd (true≢false (sym e))
 against_so false true e = absurd (true≢false e)
 against_so false false e = refl
 
--- An act (the effect of a call on the key) either changes the key to the state other than b, or does not change it away
--- from b.
+-- Unless an act (the effect of a call on the key) changes the key to the state other than b, a key in the state b stays
+-- in b.
 turns_or_not : (b s : Bool) (k : Kind) → suits s k → (k ≡ changes (not b)) ⊎ (against b (becomes s k) ≤ against b s)
 turns_or_not true s (changes true) h = inr (let a = against_so true true refl in omega (arith, a))
 turns_or_not true s (changes false) h = inl refl

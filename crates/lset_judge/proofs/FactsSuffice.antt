@@ -63,7 +63,7 @@ never_other : (p : Presence) → p ≡ other p → ⊥
 never_other Present e = cc
 never_other Absent e = cc
 
--- A call that leaves its key in the state q changes it to q, or needs q.
+-- A call that leaves its key in the state q either changes the key to q, or needs the key to be in q.
 changes_or_needs : (f : Effect) (q : Presence) → left_so f ≡ Some q → (turns_to q (kind_as f) ≡ true) ⊎ (needed_by f ≡ Some q)
 changes_or_needs (Changes Present) Present e = inl refl
 changes_or_needs (Changes Absent) Absent e = inl refl
@@ -116,8 +116,8 @@ ended_or_pending threads opening calls s is y e c ended =
       | inr q ↦ inr (subst (λ (z : CallRecord). Contains s.pending (pending_of z)) at q, until_end behind_all y.begun y.ended e ended)
     ]
 
--- If no call turns the key to the state p between `since` and the end of `second`, and each call starts before this end,
--- all changes to p have ended by `since`.
+-- If no call changes the key to the state p between `since` and the end of `second`, and each call starts before this
+-- end, then all changes to p have ended by `since`.
 latest_low : (calls : List CallRecord) (key : ℕ) (p : Presence) (n since : ℕ) (second : Option CallRecord) → IsLatest calls key p n → NothingTurns calls key p since second
     → ((x : CallRecord) → Contains calls x → is_before x.begun second ≡ true) → n ≤ since
 latest_low calls key p n since second (inl z) none before = omega (arith, z)

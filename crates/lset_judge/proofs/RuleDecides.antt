@@ -185,7 +185,7 @@ same_keys : (xs ys : List ℕ) → IncreasesFrom 0 xs → IncreasesFrom 0 ys →
 same_keys xs ys r s h = same_increasing 0 0 xs ys r s (within xs ys h) (within ys xs (λ k. sym (h k)))
 
 -- If each key passes the judge's rule (the test of one key's calls), some order explains the history and leaves exactly
--- the keys k with `left k` true. The judge must be able to decide the history.
+-- the keys k for which `left k` is true. The judge must be able to decide the history.
 pub explained_so : (last : ℕ) (h : HistoryValue) (left : ℕ → Bool) → latest_moment h.calls ≤ last → IsHistory h.opening.threads h.calls
     → IsStrictlyIncreasing h.opening.keys → IsJudged h
     → ((k : ℕ) → may_leave (event_at last k h.calls) (has_key k h.opening.keys) (left k) last ≡ true)

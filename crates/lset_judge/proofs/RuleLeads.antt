@@ -69,8 +69,8 @@ none_nearer d x (y ∷ ys) l =
     let o = counts_one d x (omega (arith, l)) in
     let rest = none_nearer d y ys (omega (arith, l)) in omega (arith, o, rest)
 
--- Suppose that a list is longer than ss and, for each d, has at least as many moments from d on as ss. After its
--- earliest moment is removed, the list still has at least as many moments from d on as ss.
+-- A list dominates ss if, for each d, it has at least as many moments from d on as ss. If a list dominates ss and is
+-- longer than ss, it still dominates ss after its earliest moment is removed.
 pub still_no_fewer : (ss : List ℕ) (x : ℕ) (xs : List ℕ) → ((d : ℕ) → not_before d ss ≤ not_before d (x ∷ xs))
     → length ss < length (x ∷ xs) → (d : ℕ) → not_before d ss ≤ not_before d (take_out (nearest x xs) (x ∷ xs))
 still_no_fewer ss x xs less longer d =
@@ -109,9 +109,9 @@ IsFurther g s = length (changes_to (not g.there) s) < length (options g)
 abbrev NoFewer : List ℕ → List ℕ → Type 0
 NoFewer ss gs = (d : ℕ) → not_before d ss ≤ not_before d gs
 
--- Compares two states of a key after the event at moment m: the state g by the judge's rule, and the state s by a
--- correct timeline (a choice of the moments when changes take effect). States that g has at least as many pending
--- changes left as s, and that these changes end at least as late.
+-- Compares two states of a key after the event at moment m: the state g according to the judge's rule, and the state s
+-- according to a correct timeline (a choice of the moments when changes take effect). States that g has at least as
+-- many pending changes left as s, and that these changes end at least as late.
 pub record Leads (m : ℕ) (g s : State) : Type 0 where
   pub lists : (w : Bool) → NoFewer (changes_to w s) (changes_to w g)
   pub balance : length g.puts + once g.there + length s.takes ≡ length s.puts + once s.there + length g.takes
@@ -159,7 +159,7 @@ timeline_turns b false m gt st e gp gk sp sk l h =
     further false y = let t = taken_length e sp h in let f = fewer sp gp (l.lists true) in omega (arith, t, f)
 
 -- States that the judge's rule makes one change take effect in its state g, and that the new state is still at least as
--- good as the state s by a timeline (a choice of the moments when changes take effect).
+-- good as the state s of a timeline (a choice of the moments when changes take effect).
 pub record Turns (m : ℕ) (g s : State) : Type 0 where
   pub state : State
   pub is : turned_if m g (options g) ≡ Some state
@@ -191,9 +191,9 @@ rule_turns false m t (x ∷ xs) gk s l f =
     lists false = l.lists false
 rule_turns b m t gp gk s l f = absurd (omega (arith, f))
 
--- Suppose that the key is present by the judge's rule and absent by the timeline (a choice of the moments when changes
--- take effect), or the reverse. Then the timeline has fewer pending changes left that would change the key's state by
--- the rule.
+-- Suppose that the key is present according to the judge's rule and absent according to the timeline (a choice of the
+-- moments when changes take effect), or the reverse. Then the timeline has fewer pending changes left that would change
+-- the key's state according to the rule.
 apart : (b c : Bool) (m gt st : ℕ) (gp gk sp sk : List ℕ) → Leads m (at b gt gp gk) (at c st sp sk) → (b ≡ c → ⊥)
     → IsFurther (at b gt gp gk) (at c st sp sk)
 apart true false m gt st gp gk sp sk l n = let y = l.balance in let f = fewer sp gp (l.lists true) in omega (arith, y, f)
@@ -232,7 +232,7 @@ asked m (looks w since) g s l t f =
 asked m v g s l t f = absurd (true≢false f)
 
 -- States that the judge's rule finds a state for the event v, and that this state is still at least as good as the
--- state s by a timeline (a choice of the moments when changes take effect).
+-- state s of a timeline (a choice of the moments when changes take effect).
 pub record Settles (n m : ℕ) (v : Event) (g s : State) : Type 0 where
   pub state : State
   pub is : settled n m v (Some g) ≡ Some state

@@ -293,7 +293,7 @@ module _ (threads : ℕ) (calls : List CallRecord) (history : IsHistory threads 
               at ∙ ap (λ q. begin_event q (until last (x_ p.call))) kd;
         })
 
-    -- The order contains the act (the effect) of a completed call on the key, if it contains the call.
+    -- If the order contains a completed call on the key, it contains the act (the effect) of this call.
     pub stands_if : (order : List Placed) (n : ℕ) (e : ℕ × Reply) → Contains order (record { call = n; reply = e.1 }) → (x_ n).ended ≡ Some e
         → (key_of (x_ n).call).0 ≡ k → In (act (x_ n).begun e.0 (kind (x_ n))) (map act_of order)
     stands_if order n e c s own =

@@ -167,8 +167,8 @@ same_self true b e = e
 same_self false b e = rw e refl
 
 module _ (ev : ℕ → Event) (last : ℕ) (left : Bool) (are : AreEvents ev) where
-  -- Relates a list xs of pending changes (to the state w) to the events up to moment m and to the acts ys, the effects
-  -- of calls that have not taken effect.
+  -- Relates the list xs of pending changes to the state w to the events up to moment m, and to the acts ys that have
+  -- not taken effect yet. (An act is the effect of a call.)
   pub record Lists (w : Bool) (m : ℕ) (xs : List ℕ) (ys : List Act) : Type 0 where
     pub from_event : (u : ℕ) → has_key u xs ≡ true → (i : ℕ) × (i ≤ m) × (ev i ≡ begins w u)
     pub needed : (u : ℕ) → has_key u xs ≡ true → u ≤ last → (i : ℕ) × In (act i u (changes w)) ys

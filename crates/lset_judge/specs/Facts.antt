@@ -126,14 +126,15 @@ pub record IsKept (call : StreamCall) (old new : Facts) : Type 0 where
   pub standing : until_of (other new.was) old ≤ call.begun
   pub better : old.was ≡ new.was → until_of (other new.was) old ≤ old.begun → ⊥
 
--- States that the kept call (the stored one) is at least as useful for finding a clash as `call`. If all changes to the
+-- States that the kept call (the stored one) is at least as useful as `call` for finding a clash. If all changes to the
 -- state that `call` did not leave end by the start of `call`, then the kept call left the same state as `call`, and
 -- these changes also end by the start of the kept call.
 abbrev pub ServesAsWell : StreamCall → Facts → Type 0
 ServesAsWell call f = IfSome call.ended (λ (e : ℕ × Reply). is_plain call.call e.1 ≡ true) → (p : Presence) → leaves_if call.call call.ended ≡ Some p
     → until_of (other p) f ≤ call.begun → (f.was ≡ p) × (until_of (other p) f ≤ f.begun)
 
--- The facts stay the same at the end of `call`, since their kept call (the stored one) is at least as useful.
+-- States that the facts stay the same at the end of `call`, since their kept call (the stored one) is at least as
+-- useful.
 pub record IsUnchanged (call : StreamCall) (old new : Facts) : Type 0 where
   pub same : new ≡ old
   pub serves : ServesAsWell call old
@@ -152,8 +153,8 @@ AreOverBy calls key there moment = All (λ (x : CallRecord). (key_of x.call).0 �
     → until_if behind_all x.begun x.ended ≤ moment) calls
 
 -- States that the stored facts about a key are correct. If they store a call, this call is one of `calls` and left the
--- key in the state `was`; otherwise the set opened with the key in this state. The changes to each state end by the
--- moment in the facts.
+-- key in the state `was`; otherwise the set opened with the key in this state. All changes to each state end by the
+-- moment that the facts store for this state.
 pub record AreFacts (opening : List ℕ) (calls : List CallRecord) (key : ℕ) (f : Facts) : Type 0 where
   pub was : WasSo calls key (presence (has_key key opening)) f.was (record_if (first_of key f))
   pub over : (there : Presence) → AreOverBy calls key there (until_of there f)
@@ -164,7 +165,7 @@ IsClashBy opening calls moment key c = (later : List CallRecord) → All (λ (z 
     → IsClash (calls ++ later) key (presence (has_key key opening)) None c.was (record_if c.first) (record_if c.second)
 
 -- States that the stored facts about each key are correct. Once a key has failed the judge's rule (the test of one
--- key's calls), only the facts about this key must be correct, and only until a clash is found. The clash must be on
+-- key's calls), states this only for the facts about this key. Once a clash is found, states only that it is a clash on
 -- this key.
 abbrev pub AreKnownBy : List ℕ → List CallRecord → ℕ → States → Option Failed → Option Clash → Type 0
 AreKnownBy opening calls moment states None clash = (k : ℕ) → AreFacts opening calls k (facts_for states k)
@@ -273,8 +274,8 @@ BeginIsKnown before key event after (Some f) None = (facts_for after f.key.0 ≡
     ⊎ ((facts_for after f.key.0 ≡ facts_for before f.key.0) × (f.key.0 ≢ key))
 BeginIsKnown before key event after (Some f) (Some c) = Unit {0}
 
--- States how the end of a call changes the stored facts about its key. If `clash` is a clash, it follows from the facts
--- before the end, and the call is its second call.
+-- States how the end of a call changes the stored facts about its key. If a clash is found, the facts before the end
+-- show it, and the call is its second call.
 pub record EndIsKept (before : States) (call : StreamCall) (after : States) (clash : Option Clash) : Type 0 where
   pub facts : IsEnded call (facts_for before (key_of call.call).0) (facts_for after (key_of call.call).0)
   pub found : IfSome clash (IsFound (facts_for before (key_of call.call).0) call)

@@ -65,7 +65,7 @@ with_quota quota h = record {
 abbrev pub calls_by : ℕ → ℕ → List CallRecord → List CallRecord
 calls_by key moment calls = filter (λ (x : CallRecord). (key_of x.call).0 == key && nat_le x.begun moment) calls
 
--- Returns the history of the calls on the key that start by the moment. The set opens with the key if it does so in h.
+-- Returns the history of the calls on the key that start by the moment. The set opens with or without the key, as in h.
 abbrev pub of_key : ℕ → ℕ → HistoryValue → HistoryValue
 of_key key moment h = record {
   opening = record {

@@ -14,7 +14,7 @@ const LOW: u32 = 65_536;
 pub(crate) struct Busy {
     /// For each thread below `LOW`, the end of its last call, or 0 if it has made no call.
     pub(crate) low: Vec<u64>,
-    /// For each thread from `LOW` on that has made a call, the end of its last call.
+    /// For each thread with number `LOW` or higher that has made a call, the end of its last call.
     pub(crate) high: HashMap<u32, u64>,
 }
 

@@ -231,8 +231,8 @@ fn last_before(calls: &[StreamCall], was: Presence, moment: u64) -> Option<Strea
     last
 }
 
-/// Searches for a call before `second` such that no order can explain both (a clash). If the key's opening state
-/// already rules out `second`, the result has no `first`.
+/// Searches for an earlier call that clashes with `second`: no order can explain both. The result has no `first` if the
+/// key's opening state already rules out `second`.
 fn clash_with(calls: &[StreamCall], asked: Asked, second: StreamCall) -> Option<Clash>
     ensures { IfSome result (λ c. IsClash (records calls.now) asked.key.0 asked.there asked.left c.was (record_if c.first) (record_if c.second)) }
 {

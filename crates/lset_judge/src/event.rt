@@ -6,11 +6,12 @@ ghost use Rattle.lset_judge.specs.Events.{kind_as, open_kind, begin_event, end_e
 
 use lset_words::{Call, Effect, Presence};
 
-/// The meaning of a call's start or end for the call's key.
+/// What the start or end of a call means for the call's key. A change is an `add` or `remove` that returned true or is
+/// pending.
 #[derive(Clone, Copy, Debug, PartialEq, Eq)]
 pub(crate) enum Event {
-    /// A change starts. The fields are the new state of the key, and the end of the call (after all moments if it has
-    /// no end).
+    /// A change starts. The fields are the new state of the key, and the end of the change (a moment after all others
+    /// if the change has no end).
     Begins(Presence, u64),
     /// A change ends. The field is the new state of the key.
     Ends(Presence),

@@ -71,7 +71,7 @@ fn read_as(call: &CallRecord) -> StreamCall
     }
 }
 
-/// Adds the next call of the history to the judge. The caller must know that the judge accepts this call next. Fails
+/// Adds the next call of the history to the judge. The judge must be able to accept this call as the next one. Fails
 /// only if an allocation fails.
 fn add_next(judge: &mut Judge, call: StreamCall) -> Result<(), AllocError>
     requires { MayCome (pending_in judge.old.stream) (moment_of judge.old.stream) (record_of call) }
@@ -95,8 +95,8 @@ fn add_next(judge: &mut Judge, call: StreamCall) -> Result<(), AllocError>
     }
 }
 
-/// Decides whether some order linearizes the calls of a history, from its opening keys, and leaves `keys`. The set has
-/// no quota. `keys` must be in increasing order.
+/// Decides whether some order linearizes the calls of a history and leaves the final keys `keys`. The set starts with
+/// the history's opening keys and has no quota. `keys` must be in increasing order.
 ///
 /// The verdict is exact if each completed call returned true or false and is no `ceiling`. For any other history, the
 /// verdict is `NotLinearizable` only if no order exists, and `Undecided` otherwise. The function fails only if an

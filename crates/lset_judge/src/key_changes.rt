@@ -39,11 +39,10 @@ pub(crate) enum Held {
 /// taken effect. A change without an end counts as ending after all moments.
 #[derive(Drop)]
 pub(crate) struct KeyChanges {
-    /// The latest end among the key's `add`s that have started and that returned true or are pending. 0 if the key has
-    /// no such `add`.
+    /// The latest end of the key's started `add`s that returned true or are pending. 0 if the key has no such `add`.
     pub(crate) puts_until: u64,
-    /// The latest end among the key's `remove`s that have started and that returned true or are pending. 0 if the key
-    /// has no such `remove`.
+    /// The latest end of the key's started `remove`s that returned true or are pending. 0 if the key has no such
+    /// `remove`.
     pub(crate) takes_until: u64,
     held: Held,
 }
@@ -247,9 +246,9 @@ impl KeyChanges {
         }
     }
 
-    /// Raises `puts_until` to `end` if it is smaller. Without heaps, this also changes the end of a pending `add`,
-    /// which is `puts_until`. Call this function only if the changes are in heaps, or after the judge has found that no
-    /// order exists.
+    /// Raises `puts_until` to `end` if `puts_until` is smaller. Without heaps, this also changes the end of a pending
+    /// `add`, which is `puts_until`. Call this function only if the changes are in heaps, or after the judge has found
+    /// that no order exists.
     pub(crate) fn raise_puts(&mut self, end: u64)
         ensures puts { is_many self.old.held ≡ true → puts_in self.new ≡ puts_in self.old }
         ensures takes { takes_in self.new ≡ takes_in self.old }
@@ -259,9 +258,9 @@ impl KeyChanges {
         self.puts_until = self.puts_until.max(end);
     }
 
-    /// Raises `takes_until` to `end` if it is smaller. Without heaps, this also changes the end of a pending `remove`,
-    /// which is `takes_until`. Call this function only if the changes are in heaps, or after the judge has found that
-    /// no order exists.
+    /// Raises `takes_until` to `end` if `takes_until` is smaller. Without heaps, this also changes the end of a pending
+    /// `remove`, which is `takes_until`. Call this function only if the changes are in heaps, or after the judge has
+    /// found that no order exists.
     pub(crate) fn raise_takes(&mut self, end: u64)
         ensures puts { puts_in self.new ≡ puts_in self.old }
         ensures takes { is_many self.old.held ≡ true → takes_in self.new ≡ takes_in self.old }

@@ -1,4 +1,4 @@
-//! Many pending calls, in a hash table indexed by their ends. Adding or removing a call needs a few look-ups, and
+//! Many pending calls, in a hash table indexed by their ends. Adding or removing a call takes a few look-ups, and
 //! logarithmic time in the number of calls.
 
 ghost use Rattle.std.specs.Prelude.{◌≡◌, ◌≢◌, ◌↔◌, ◌<◌, ◌≤◌, ◌∷◌, [], IsTrue, All, Contains, IfSome, MatchOption, OnOk, length};

@@ -95,10 +95,9 @@ impl Judge {
         self.stream.overlapped()
     }
 
-    /// Decides whether some order linearizes all calls, from the opening keys, and leaves `keys`. Returns
-    /// `Linearizable` if such an order exists, else `NotLinearizable`. The set has no quota.
-    ///
-    /// `keys` are the final keys, in increasing order. The function fails only if an allocation fails.
+    /// Decides whether some order linearizes all calls and leaves the final keys `keys`. The set starts with the
+    /// opening keys and has no quota. `keys` must be in increasing order. The function fails only if an allocation
+    /// fails.
     pub fn close(self, keys: &[u32]) -> Result<Verdict, AllocError>
         requires { IsStrictlyIncreasing keys.now }
         ensures { IfOk result (λ verdict. (threads : ℕ) (opening : List ℕ) (calls : List RecordedCall) → IsJudgeOf threads opening calls self
@@ -116,9 +115,8 @@ impl Judge {
         }
     }
 
-    /// Decides whether some order linearizes all calls, from the opening keys, whatever keys it leaves. Use this
-    /// function for a recording that was cut off, since its final keys are unknown. The function fails only if an
-    /// allocation fails.
+    /// Decides whether some order linearizes all calls, whatever final keys it leaves. Use this function for a
+    /// recording that was cut off, since its final keys are unknown. The function fails only if an allocation fails.
     pub fn close_cut_off(self) -> Result<Verdict, AllocError>
         ensures { IfOk result (λ verdict. (threads : ℕ) (opening : List ℕ) (calls : List RecordedCall) → IsJudgeOf threads opening calls self
             → IsVerdictCutOff threads opening calls verdict) }

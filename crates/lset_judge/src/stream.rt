@@ -353,7 +353,7 @@ fn meet_key_end(
     Ok(met)
 }
 
-/// Returns the first state of each key in `opening`, for a set that opens with these keys.
+/// Returns the initial state of each key in `opening`, for a set that opens with these keys.
 fn opening_states(alloc: Global, opening: &[u32]) -> Result<HashMap<u32, KeyState>, AllocError>
     ensures states { IfOk result (λ states. (k : ℕ) → state_for states k ≡ opened (has_key k opening.now)) }
     ensures facts { IfOk result (λ states. (k : ℕ) → facts_for states k ≡ facts_opened (presence (has_key k opening.now))) }
@@ -386,8 +386,8 @@ fn smallest(key: u32, other: Option<u32>) -> u32
     }
 }
 
-/// Returns the verdict from `key`, which has an impossible final state. If `key` is `None`, every final state is
-/// possible, and the verdict is `Linearizable`.
+/// Returns the verdict if `key` has an impossible final state. If `key` is `None`, every final state is possible, and
+/// the verdict is `Linearizable`.
 fn verdict_of_key(key: Option<u32>) -> StreamVerdict
     ensures { result ≡ verdict_of_key key }
 {
@@ -405,7 +405,7 @@ fn verdict_of_key(key: Option<u32>) -> StreamVerdict
 /// pending calls, but not with the number of calls.
 ///
 /// `verdict` and `verdict_cut_off` return whether some order explains all calls. The judge reads the moments of each
-/// key once and in order, so no past moment must be stored.
+/// key once and in order, so it stores no past moments.
 #[derive(Drop)]
 pub(crate) struct Stream {
     alloc: Global,
@@ -677,9 +677,8 @@ impl Stream {
         self.meet_before(BEHIND_ALL)
     }
 
-    /// Decides whether some order linearizes all calls, from the opening keys, and leaves `keys`. Returns
-    /// `Linearizable` if such an order exists, else `NotLinearizable`. The set has no quota. All ends must have been
-    /// processed.
+    /// Decides whether some order linearizes all calls and leaves the final keys `keys`. The set starts with the
+    /// opening keys and has no quota. All ends must have been processed.
     pub(crate) fn verdict(&self, keys: &[u32]) -> StreamVerdict
         requires increase { IsStrictlyIncreasing keys.now }
         requires met { All (λ p. behind_all ≤ p.end) (pending_in self.now) }
@@ -693,9 +692,8 @@ impl Stream {
         }
     }
 
-    /// Decides whether some order linearizes all calls, from the opening keys, whatever keys it leaves. Returns
-    /// `Linearizable` if such an order exists, else `NotLinearizable`. This function is for a recording that was cut
-    /// off, since its final keys are unknown. All ends must have been processed.
+    /// Decides whether some order linearizes all calls, whatever final keys it leaves. This function is for a recording
+    /// that was cut off, since its final keys are unknown. All ends must have been processed.
     pub(crate) fn verdict_cut_off(&self) -> StreamVerdict
         requires { All (λ p. behind_all ≤ p.end) (pending_in self.now) }
         ensures said { (threads : ℕ) (opening : List ℕ) (calls : List RecordedCall) → IsStreamOf threads opening calls self.now

@@ -14,7 +14,8 @@ use Rattle.lset_judge.specs.Verdict.{IsPlain}
 use Rattle.lset_judge.specs.Stream.{IsBefore}
 
 pub record Recording : Type 0 where
-  -- The keys of the set when it was opened. `calls` are the calls, and `keys` are the keys of the set after all calls.
+  -- `opening` are the keys of the set when it was opened, `calls` the calls, and `keys` the keys of the set after all
+  -- calls.
   pub opening : List ℕ
   pub calls : List CallRecord
   pub keys : List ℕ

@@ -1,6 +1,5 @@
-//! A fast path for the lines of completed calls. Most lines of a long recording are such lines. Each function reads a
-//! line in one pass. For any other line, valid or not, it returns `None`, and the caller reads the line in the general
-//! way.
+//! A fast path for the lines of completed calls (most lines of a long recording). Each function reads a line in one
+//! pass. For any other line, valid or not, it returns `None`, and the caller reads the line in the general way.
 
 ghost use Rattle.std.specs.Prelude.{◌≡◌, ◌≤◌, ◌++◌, ◌∷◌, IfSome, List, ℕ, Ok, true, codes};
 ghost use Rattle.std.specs.Fmt.{decimal};

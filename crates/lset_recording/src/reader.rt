@@ -76,7 +76,7 @@ impl RecordingReader {
         }
     }
 
-    /// Reads a newline, which completes the line that is stored.
+    /// Reads the newline that completes the stored line.
     fn newline_in(&mut self) -> Result<(), LineFault>
         ensures taken { OnOk result ((bytes : List ℕ) → IsRead bytes self.old → IsRead (bytes ++ 10 ∷ []) self.new) }
         ensures refused { IfErr result (λ fault. (bytes : List ℕ) → IsRead bytes self.old → IsRefusedAt (bytes ++ 10 ∷ []) fault) }

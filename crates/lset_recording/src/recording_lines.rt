@@ -40,8 +40,8 @@ pub enum Section {
     Done,
 }
 
-/// The content of a line of a recording: the title, an opening key, a call, a final key, the end, or that the recording
-/// was cut off.
+/// The content of a line of a recording: the title, an opening key, a call, a final key, or one of the last lines:
+/// `end`, or `cut` if the recording was cut off.
 #[derive(Clone, Copy)]
 pub enum Line {
     Title,
@@ -172,7 +172,8 @@ fn ended_call(pieces: CallPieces<'_>, end: &[u8], reply: &[u8]) -> Result<Line, 
     }
 }
 
-/// Reads the line of a call from the field with its thread, and the bytes after this field.
+/// Reads a call from its line. `thread` is the field with the call's thread, and `rest` contains the bytes after this
+/// field.
 fn call(thread: &[u8], rest: &[u8]) -> Result<Line, Cause>
     ensures { result ≡ first_of One Cause.Line call_kinds (codes "call" ∷ thread.now ∷ cut_at 32 rest.now) }
 {
@@ -257,8 +258,8 @@ fn title_told(line: &[u8]) -> Result<Line, Cause>
 /// # Errors
 ///
 /// Returns `Header` if the first line is not the title. For a later line, returns `Line` if the line has more than
-/// `LONGEST_LINE` bytes, or its kind is not allowed here. Returns `Number` if a field that must be a number is not a
-/// number or is out of range.
+/// `LONGEST_LINE` bytes, or if its kind is not allowed in this section. Returns `Number` if a field that must be a
+/// number is not a number or is out of range.
 pub fn line_told(section: Section, line: &[u8]) -> Result<Line, Cause>
     ensures { result ≡ line_told section line.now }
 {

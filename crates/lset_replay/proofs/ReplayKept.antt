@@ -25,7 +25,7 @@ use Rattle.lset_history.specs.Changes.{is_present, IsBounded}
 use Rattle.lset_history.proofs.ChangeLaws.{all_upto_later}
 use Rattle.lset_replay.proofs.KeyChanges.{Tells, changes_by, quiet_keys}
 
--- At moment k, o is the pending call of thread t, with its number, operation and start.
+-- States that, at moment k, o is the pending call of thread t, with its number, operation and start.
 pub record IsWatched (log : Log) (contents : Contents) (counts : Counts) (k t : ℕ) (o : OpenCall) : Type 0 where
   pub here : OpenNumber (calls_at log k) t o.number o.call o.begun
   pub since : o.begun ≤ k
@@ -44,7 +44,7 @@ PlaceBy q contents counts x None (Some end) p =
 abbrev pub PlaceOf : ℕ → Contents → Counts → TracedCall → Option Linearized → Type 0
 PlaceOf q contents counts x p = PlaceBy q contents counts x x.changed x.ended p
 
--- The recorder's content s describes the first k events of the run.
+-- States that the recorder's content s describes the first k events of the run.
 pub record Follows (op : Opening) (log : Log) (contents : Contents) (counts : Counts) (k : ℕ) (s : Trace) : Type 0 where
   pub history : s.calls ≡ history_at log k
   pub seats : length s.under_way ≡ op.threads

@@ -18,14 +18,15 @@ use Rattle.lset_replay.specs.Trace.{trace_at, trace_of}
 use Rattle.lset_replay.specs.Reports.{world_after, IsFirstRefused}
 use Rattle.lset_words.specs.Words.{Opening}
 
--- Values of type W (worlds: the words and threads of a list) change with each event as the step table T defines.
--- `state` returns the state of a world.
+-- States that values of type W (worlds: the words and threads of a list) change with each event as the step table T
+-- defines. `state` returns the state of a world.
 pub record AreSteps (T : Table) (W : Type 0) (makes : W → Event → Result Told Cause → W → Type 0) (state : W → WorldState) : Type 0 where
   pub account : HasAccount T
   pub listed : ListedContent T
   pub made : (w : W) (e : Event) (r : Result Told Cause) (w' : W) → makes w e r w' → HasMade T (state w) e r (state w')
 
--- The first k events were executed. They led to the world w (shared words and threads) and were recorded in r.
+-- States that the first k events were executed, that they led to the world w (shared words and threads), and that r has
+-- recorded them.
 pub record HasFollowed (T : Table) (op : Opening) (events : List LineEvent) (k : ℕ) (w : WorldState) (r : Recorder) : Type 0 where
   pub run : Run T op (event_at (only_events events)) k
   pub world : w ≡ world_after T op (only_events events) k
@@ -33,7 +34,7 @@ pub record HasFollowed (T : Table) (op : Opening) (events : List LineEvent) (k :
   pub opening_is : r.history.opening ≡ op
   pub counted : r.last ≡ k
 
--- `next` is the event with index k, counted from 0.
+-- States that `next` is the event with index k, counted from 0.
 pub record ComesNext (es : List LineEvent) (k : ℕ) (next : LineEvent) : Type 0 where
   pub known : k < length es
   pub event_is : event_at (only_events es) k ≡ next.event

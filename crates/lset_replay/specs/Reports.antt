@@ -21,7 +21,7 @@ use Rattle.lset_replay.specs.declared.fault.ReplayFault.TheVariants as fault
 use Rattle.lset_report.specs.declared.report.Report.{Report}
 use Rattle.lset_replay.specs.Events.{events_of, only_events, line_at}
 
--- The history, the order and the final keys that the report must have if the run has these events.
+-- States which history, order and final keys the report of a run with these events has.
 pub record IsReportOf (T : Table) (op : Opening) (events : List Event)
     (history : List CallRecord) (order : List Placed) (keys : List ℕ) : Type 0 where
   -- Each event is enabled when it is executed.
@@ -37,7 +37,8 @@ pub record IsReportOf (T : Table) (op : Opening) (events : List Event)
 abbrev pub world_after : Table → Opening → List Event → ℕ → WorldState
 world_after T op events k = record { sizes = sizes op; state = state_at T op (event_at events) k }
 
--- The first event that is not enabled is in line `line`, and `cause` is the first cause that applies to this event.
+-- States that the first event that is not enabled is in line `line`, and that `cause` is the first cause that applies
+-- to this event.
 pub record IsFirstRefused (T : Table) (op : Opening) (events : List LineEvent)
     (line : ℕ) (cause : StepFault) : Type 0 where
   pub index : ℕ

@@ -152,7 +152,7 @@ abbrev pub entry_told : Event → Told → Entry
 entry_told (event.Begin thread call) told = began thread call
 entry_told (event.Go thread) told = stepped thread told.change told.answer
 
--- The thread has a pending call that can change the set or end at this moment.
+-- States that the thread has a pending call that can change the set or end at this moment.
 pub record MayStep (h : HistoryValue) (under_way : List (Option OpenCall)) (places : List (Option Linearized))
     (thread moment : ℕ) : Type 0 where
   pub of_a_thread : thread < length under_way

@@ -17,7 +17,8 @@ points_in xs = map (λ (x : Pointed). x.point) xs
 abbrev pub rank_of : Pointed → ℕ
 rank_of x = if x.point.change then 2 * x.point.moment else 2 * x.point.moment + 1
 
--- The list ys contains the entries in xs, sorted by `rank_of`. Entries with equal keys keep their relative order.
+-- States that the list ys contains the entries in xs, sorted by `rank_of`. Entries with equal ranks keep their relative
+-- order.
 pub record AreByPoints (xs ys : List Pointed) : Type 0 where
   pub moved : IsPermutation xs ys
   pub increase : IsNonDecreasingBy rank_of ys

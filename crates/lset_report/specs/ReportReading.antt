@@ -1,4 +1,4 @@
--- The grammar of reports: defines which report a text is, or which is the first error in the text. Lines are checked
+-- The grammar of reports: defines the report that a text represents, or the first error in the text. Lines are checked
 -- one by one. The checks of a line have a fixed order.
 use Rattle.std.specs.Prelude.{◌≡◌, ◌≢◌, ◌⊎◌, ℕ, ◌+◌, ◌<◌, ◌≤◌, ◌^◌, ◌==◌, ◌&&◌, ◌||◌, not, nat_lt, Bool, true, false, List, []}
 use Rattle.std.specs.Prelude.{◌∷◌, ◌++◌, length, codes, Option, Some, None, Result, Ok, Err, if◌then◌else◌, slice_index_or}

@@ -65,8 +65,8 @@ HasWordsIn One calls order = AllByRecursion (λ (x : CallRecord). HasCall One x.
     × AllByRecursion (λ (p : Placed). HasReply One p.reply) order
 HasWordsIn Two calls order = Unit {0}
 
--- The version of the format has words for everything in the report. Version 1 has no words for opening keys, for
--- `ceiling` and for the replies of `ceiling`. Version 2 can express every report.
+-- States that the report's version of the format has words for everything in the report. Version 1 has no words for
+-- opening keys, for `ceiling` and for the replies of `ceiling`. Version 2 can express every report.
 pub record HasWordsOfVersion (r : ReportValue) : Type 0 where
   pub opening : HasOpening r.version r.history.opening.keys
   pub words : HasWordsIn r.version r.history.calls r.order

@@ -89,9 +89,9 @@ impl Reader {
         number as usize == self.calls.history.calls().len() && self.calls.may_follow(made)
     }
 
-    /// Returns the line if it can follow the lines read so far, otherwise the cause of the error. The section of the
-    /// line must not be full, an opening key must be greater than the previous opening key, and a call must be able to
-    /// follow the previous calls.
+    /// Returns the line if it can follow the lines read so far, otherwise the cause of the error. A line can follow if
+    /// its section is not full. In addition, an opening key must be greater than the previous one, and a call must be
+    /// able to follow the previous calls.
     fn judged(&self, line: Line) -> Result<Line, Cause>
         ensures { result ≡ judged (so_far self.now) line }
     {
@@ -207,7 +207,7 @@ fn report(alloc: Global, bytes: &[u8]) -> Result<Report, ReportFault>
 /// Reads a report of either version from its bytes. Allocates.
 ///
 /// The first line states the version. In version 2, lines with opening keys can precede the calls, in strictly
-/// increasing order. In version 1, a line with `opening`, `ceiling`, `nothing` or a reply such as `at-5` is the error
+/// increasing order. In version 1, a line with `opening`, `ceiling`, `nothing` or a reply such as `at-5` has the error
 /// `Line`. The function does not check that the order explains the history and leaves the final keys; use `check_order`
 /// for this check. Reading n bytes takes about `n log n` steps, whatever numbers they contain.
 ///

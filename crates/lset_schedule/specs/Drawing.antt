@@ -62,7 +62,7 @@ after_turn T threads keys p =
 abbrev pub IsEnd : Progress → Type 0
 IsEnd p = IsOver p.state (length p.lines) p.left
 
--- States that `lines` are the lines of the schedule if `generate` makes at most `turns` further turns from state p.
+-- States that `lines` are the lines of the schedule after at most `turns` further turns of `generate` from state p.
 -- `generate` stops early if the schedule ends.
 unfoldable pub AreDrawn : Table → ℕ → ℕ → ℕ → Progress → List Line → Type 0
 AreDrawn T threads keys zero p lines = lines ≡ p.lines

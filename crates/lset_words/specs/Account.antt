@@ -83,16 +83,16 @@ RightReply true quota contents counts first last thread call (Some reply) = repl
 RightReply false quota contents counts first last thread call (Some reply) =
     FitsSometime quota contents counts first last thread call reply
 
--- Thread `t` begins a call between moments `k` and `k + 1`. At moment `k`, the thread has no pending call. The set's
--- keys and the counts of successful adds do not change.
+-- States that thread `t` begins a call between moments `k` and `k + 1`. At moment `k`, the thread has no pending call.
+-- The set's keys and the counts of successful adds do not change.
 pub record Begins (threads : ℕ) (log : Log) (contents : Contents) (counts : Counts) (k t : ℕ) : Type 0 where
   pub of_a_thread : t < threads
   pub idle : is_open log t k ≡ false
   pub content : Same (contents k) (contents (suc k))
   pub same_counts : (u : ℕ) → u < threads → counts (suc k) u ≡ counts k u
 
--- Thread `t` makes a step between moments `k` and `k + 1`. `change` and `reply` are `None` if the step makes no change
--- or returns no reply.
+-- States that thread `t` makes a step between moments `k` and `k + 1`. `change` and `reply` are `None` if the step
+-- makes no change or returns no reply.
 pub record Steps (threads quota : ℕ) (log : Log) (contents : Contents) (counts : Counts) (k t : ℕ) (change : Option Change)
     (reply : Option Reply) : Type 0 where
   -- Thread `t` exists and has a pending call.

@@ -54,7 +54,7 @@ answered history p = record {
   reply = p.reply;
 }
 
--- `order` is a linearization of `history`, from the state `start` of the set.
+-- States that `order` is a linearization of `history`, from the state `start` of the set.
 pub record Linearizes (quota : ℕ) (start : SetState) (history : List CallRecord) (order : List Placed) : Type 0 where
   -- The order contains only calls of the history.
   pub known : All (λ (p : Placed). p.call < length history) order

@@ -43,7 +43,7 @@ fn is_open(made: CallRecord) -> bool
 }
 
 impl CallsSoFar {
-    /// Creates a value without calls, for `threads` threads that can each add `quota` keys. Allocates.
+    /// Returns a `CallsSoFar` without calls, for `threads` threads that can each add `quota` keys. Allocates.
     pub fn new(alloc: Global, threads: u32, quota: u32) -> Result<CallsSoFar, AllocError>
         requires { IsWithin (record { threads = threads; quota = quota; opening = 0 }) }
         ensures { IfOk result (λ s. s.history ≡ record { opening = empty threads quota; calls = [] }) }
