@@ -196,8 +196,8 @@ ceiling_other k (y ∷ ys) e = elim (cases_Bool (nat_lt y k)) [
 abbrev Fits : ℕ → SetState → ℕ → Call → Reply → Type 0
 Fits quota s t c r = (reply_to quota s t (call_as c r) ≡ reply_as c r) × (after_call s t (call_as c r) (reply_as c r) ≡ after_call s t c r)
 
--- The judge reads another call in place of an `add` that returned full. The sequential set returns the reply that the
--- judge reads for this call, and is in the same state after both calls.
+-- The judge can read another call in place of an `add` (see `call_as`). The sequential set then returns the reply that
+-- the judge reads, and is in the same state as after the `add`.
 add_fits : (quota : ℕ) (s : SetState) (t : ℕ) (k : Key) (b c : Bool) → has_key k.0 s.keys ≡ b → (count_of s t == quota) ≡ c
     → Fits quota s t (Add k) (reply_to quota s t (Add k))
 add_fits quota s t k true c h f = rw h (rw h refl, refl)

@@ -92,7 +92,7 @@ pub(crate) enum StreamVerdict {
 /// moment.
 #[derive(Clone, Copy, Debug, PartialEq, Eq)]
 pub struct Refusal {
-    /// A key such that no order explains its calls and leaves its final state.
+    /// The key. No order explains its calls and leaves its final state.
     pub key: Key,
     /// No order explains the calls on `key` that start by this moment, with all their replies, whatever keys the order
     /// leaves. This is the first moment when the judge's rule (its test of one key's calls) fails for any key. `None`
@@ -386,8 +386,8 @@ fn smallest(key: u32, other: Option<u32>) -> u32
     }
 }
 
-/// Returns the verdict if `key` has an impossible final state. If `key` is `None`, every final state is possible, and
-/// the verdict is `Linearizable`.
+/// Returns the verdict for a recording in which `key` has an impossible final state: `NotLinearizable`. If `key` is
+/// `None`, every final state is possible, and the verdict is `Linearizable`.
 fn verdict_of_key(key: Option<u32>) -> StreamVerdict
     ensures { result ≡ verdict_of_key key }
 {

@@ -1,4 +1,4 @@
--- [Replay]: the report of a schedule. If the schedule cannot be run, the first event that is not enabled.
+-- [Replay]: the report of a schedule or, if the schedule cannot be run, the first event that is not enabled.
 use Rattle.std.specs.Prelude.{◌≡◌, ℕ, ◌<◌, List, length, Result, Ok, Err}
 use Rattle.std.specs.List.Sorted.{IsStrictlyIncreasing}
 use Rattle.lset_words.specs.declared.history.CallRecord.{CallRecord}

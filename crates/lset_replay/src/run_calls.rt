@@ -21,11 +21,11 @@ pub struct RunCalls {
     pub order: Vec<Placed>,
     /// The linearization point of each entry of `order` (Herlihy and Wing).
     pub points: Vec<Point>,
-    /// The number of executed events.
+    /// The final keys.
     pub keys: Vec<u32>,
-    /// The line number and the cause of the event that is not enabled, or `None` if all events were executed.
+    /// The number of executed events.
     pub events: u32,
-    /// The line number and the cause of the event that is not enabled, or `None` if all events were made.
+    /// The line number and the cause of the event that is not enabled, or `None` if all events were executed.
     pub refused: Option<LineFault>,
 }
 

@@ -12,8 +12,7 @@ use std::alloc::AllocError;
 /// The world of a run: the shared words of a list or a broken list, and the local states of its threads. The events of
 /// the run are executed in this world.
 pub trait Steps {
-    /// Specifies the effect of an event on a list or a broken list. By default, as for a broken list, an event can have
-    /// any effect.
+    /// Specifies the effect of an event. The default, which is used for broken lists, allows any effect.
     ghost makes: { Self → Event → Result Told Cause → Self → Type 0 } = { λ world event made after. Unit {0} };
 
     /// Returns the local state of thread `t`, or `None` if there is no such thread.

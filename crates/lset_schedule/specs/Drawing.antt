@@ -26,15 +26,15 @@ IsOver s events left =
     (events ≡ MOST_GENERATED) ⊎ ((left ≡ 0) × ((t : ℕ) → t < length s.locals → (local_of s t).pc ≡ 0))
 
 -- The state of `generate` between two turns: the list's state, the number of calls that can still begin, the lines so
--- far, and the random numbers that have not been drawn yet.
+-- far, and the remaining random numbers.
 pub record Progress : Type 0 where
   pub state : State
   pub left : ℕ
   pub lines : List Line
   pub answers : Stream
 
--- Returns the event of a turn that has drawn thread t, and the random numbers that have not been drawn yet. If thread t
--- has a pending call, the call makes a step. Otherwise thread t begins a random call, unless no more calls can begin.
+-- Returns the event of a turn for thread t, and the remaining random numbers. If thread t has a pending call, the call
+-- makes a step. Otherwise thread t begins a random call, unless no more calls can begin.
 abbrev pub event_drawn : State → ℕ → ℕ → ℕ → Stream → Option Event × Stream
 event_drawn s t left keys answers =
     if (local_of s t).pc == 0

@@ -17,7 +17,7 @@ use Rattle.lset_schedule.specs.declared.value.Line.{Line}
 use Rattle.lset_schedule.specs.declared.value.Line.TheVariants.{Begin, Go}
 use Rattle.lset_schedule.specs.declared.value.Schedule.{Schedule}
 
--- The value of a schedule in contracts.
+-- A schedule as a mathematical value, for use in contracts.
 pub record Plan : Type 0 where
   pub version : Version
   pub kind : Kind

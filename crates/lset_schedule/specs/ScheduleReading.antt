@@ -28,7 +28,7 @@ use Rattle.lset_schedule.specs.Plan.{Plan, planned, IsSchedule, title, schedule_
 
 -- ---- Reading the lines after the header: opening keys, then event lines
 
--- A kind of text with event lines: the patterns of these lines, and the number of events that each line counts as.
+-- A kind of text with event lines: the patterns of these lines, and how many events each line counts as.
 pub record EventLines (L : Type 0) : Type 0 where
   pub kinds : List (LineKind L)
   pub count : L → ℕ

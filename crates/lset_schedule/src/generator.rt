@@ -62,9 +62,8 @@ fn is_over<M: Machine>(world: &World<M>, threads: u32, events: usize, left: u32)
     left == 0 && !has_open_call(world, threads)
 }
 
-/// Returns the event of a turn that has drawn `thread`: a step if the thread has a pending call, else the start of a
-/// random call. Returns `None` if the thread has no pending call and `left`, the number of calls that can still begin,
-/// is 0.
+/// Returns the event of a turn for `thread`: a step if the thread has a pending call, else the start of a random call.
+/// Returns `None` if the thread has no pending call and `left`, the number of calls that can still begin, is 0.
 fn next_event<M: Machine, R: Rng>(
     world: &World<M>,
     thread: u32,

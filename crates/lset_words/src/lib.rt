@@ -115,8 +115,7 @@ pub enum Reply {
 ///
 /// # Errors
 ///
-/// The first that applies: `LayoutFault::Threads` if `threads` is outside its limits, `LayoutFault::Quota` if `quota`
-/// is.
+/// Returns `LayoutFault::Threads` if `threads` is outside its limits, else `LayoutFault::Quota` if `quota` is.
 pub fn layout(threads: u32, quota: u32) -> Result<Layout, LayoutFault>
     ensures sizes { IfOk result (λ l. l ≡ record { threads = threads; quota = quota; opening = 0 }) }
     ensures refused { IfErr result (RefusesSizes (record { threads = threads; quota = quota; opening = 0 })) }
@@ -130,8 +129,8 @@ pub fn layout(threads: u32, quota: u32) -> Result<Layout, LayoutFault>
 ///
 /// # Errors
 ///
-/// The first that applies: `LayoutFault::Threads` if `threads` is outside its limits, `LayoutFault::Quota` if `quota`
-/// is, `LayoutFault::Opening` if `opening` is.
+/// Returns the first of these errors that applies: `LayoutFault::Threads` if `threads` is outside its limits,
+/// `LayoutFault::Quota` if `quota` is, `LayoutFault::Opening` if `opening` is.
 pub fn layout_opening(threads: u32, quota: u32, opening: u32) -> Result<Layout, LayoutFault>
     ensures sizes { IfOk result (λ l. l ≡ record { threads = threads; quota = quota; opening = opening }) }
     ensures refused { IfErr result (RefusesSizes (record { threads = threads; quota = quota; opening = opening })) }
