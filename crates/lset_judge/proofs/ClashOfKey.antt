@@ -60,8 +60,8 @@ goes_on s false (changes true) e n = absurd (n refl)
 goes_on s b (sees w) e n = e
 goes_on s b nothing e n = e
 
--- Act t (the effect of a call) finds the key in its starting state b if no act that starts before the end of t changes
--- the key to the other state.
+-- Act t finds the key in its starting state b if no act that starts before the end of t changes the key to the other
+-- state. (An act is the effect of a call.)
 stays : (left s b : Bool) (t : Act) (ys : List Act) → s ≡ b → TakeTurns left s ys → Pairs Apart ys → In t ys
     → ((a : Act) → In a ys → a.does ≡ changes (not b) → a.begun < t.until → ⊥) → suits b t.does
 stays left s b t [] e turns pairs i n = absurd i
@@ -78,8 +78,8 @@ stays_left left s b (p ∷ ys) e turns n = stays_left left (becomes s p.does) b 
 abbrev pub Leaves : Bool → Kind → Type 0
 Leaves b k = (s : Bool) → suits s k → becomes s k ≡ b
 
--- Act t (the effect of a call) finds the key in the state b if an earlier act x left it in this state, and no act that
--- can be between x and t changes it to the other state.
+-- Let act x leave the key in the state b before act t. If no act that can be between them changes the key to the other
+-- state, then t finds the key in the state b. (An act is the effect of a call.)
 after : (left s b : Bool) (x t : Act) (ys : List Act) → TakeTurns left s ys → Pairs Apart ys → Before x t ys → Leaves b x.does
     → ((a : Act) → In a ys → a.does ≡ changes (not b) → x.begun < a.until → a.begun < t.until → ⊥) → suits b t.does
 after left s b x t [] turns pairs i l n = absurd i
@@ -167,8 +167,8 @@ module _ (threads : ℕ) (calls : List CallRecord) (history : IsHistory threads 
   positive : (a : Act) → In a ys → 0 < a.until
   positive a i = let l = (is_act a i).ends_later in omega (arith, l)
 
-  -- If no call can change the key to the other state between `since` and the end of the call `second`, then no act (the
-  -- effect of a call on the key) does so in this time.
+  -- Suppose that no call can change the key to the other state between `since` and the end of the call `second`. Then
+  -- no act (the effect of a call on the key) does so in this time.
   none : (p : Presence) (since : ℕ) (second : Option CallRecord) → NothingTurns calls k (other p) since second
       → (a : Act) → In a ys → a.does ≡ changes (not (is_there p)) → since < a.until → is_before a.begun second ≡ true → ⊥
   none p since second n a i d s b =

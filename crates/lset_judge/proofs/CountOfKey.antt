@@ -168,8 +168,9 @@ module _ (b left : Bool) (c : Option ℕ) where
             inl (inl (i.0, inr i.1, left_in i.0.until a.until us (subst (λ v. has_key v (take_out a.until us) ≡ true) (sym i.2) u.1), r.other, r.in_time)))
       ]
 
-  -- If the opening state or an earlier act (the effect of a call) counts, there are at most as many counted acts as
-  -- changes back, plus one if the key is not in the state b. The final state counts as an act if c is None.
+  -- Suppose that the opening state or an earlier act (the effect of a call) counts. Then there are at most as many
+  -- counted acts as changes back, plus one if the key is not in the state b. The final state counts as an act if c is
+  -- None.
   count_on : (s : Bool) (o : Option ℕ) (us zs : List ℕ) (ys : List Act) → o ≡ None → TakeTurns left s ys → Pairs Apart ys → Due b left o c us zs ys
       → length us + also c ≤ length zs + against b s
   count_on s o (u ∷ us) zs [] none turns pairs d = absurd (d.stand u (has_head u us)).1
@@ -203,8 +204,8 @@ module _ (b left : Bool) (c : Option ℕ) where
         ])
       ]
 
-  -- If neither the opening state nor an earlier act (the effect of a call) has to count, the number of counted acts is
-  -- at most the number of changes back plus one. The final state counts as an act if c is None.
+  -- Suppose that neither the opening state nor an earlier act (the effect of a call) has to count. Then there is at
+  -- most one counted act more than there are changes back. The final state counts as an act if c is None.
   count_from : (s : Bool) (o : Option ℕ) (us zs : List ℕ) (ys : List Act) → TakeTurns left s ys → Pairs Apart ys → Due b left o c us zs ys
       → length us + also c ≤ suc (length zs)
   count_from s o (u ∷ us) zs [] turns pairs d = absurd (d.stand u (has_head u us)).1
@@ -469,8 +470,8 @@ module _ (threads : ℕ) (calls : List CallRecord) (history : IsHistory threads 
           let from = count_from b finally til (is_there there) since us zs ys turns pairs due in
           let f = c.fewer in let zero_more : also since ≡ 0 = ap also e in let m = long in let s = short in omega (arith, from, f, zero_more, m, s)
 
--- If some calls in a history are a count (too many calls on a key for any order), no order explains the history with
--- its quota and leaves these final keys.
+-- If a history contains a count (too many calls on a key for any order), no order explains the history and leaves these
+-- final keys.
 pub count_refutes : (h : HistoryValue) (keys : List ℕ) (k : ℕ) (there : Presence) (left : Option Presence) (was : Presence) (since til : Option ℕ)
     (counted : List CallRecord) → IsHistory h.opening.threads h.calls → has_key k h.opening.keys ≡ is_there there
     → IfSome left (λ (l : Presence). has_key k keys ≡ is_there l) → IsCountOf h.calls k there left was since til counted → IsUnexplained h keys

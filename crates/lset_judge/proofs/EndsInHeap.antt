@@ -195,8 +195,8 @@ one_fewer m true t ps (x ∷ xs) g e =
     omega (arith, l, n)
 one_fewer m b t ps ks g e = no_state g e _
 
--- If the event v is not possible in the key's state s, the judge's rule (which decides when changes take effect) makes
--- one pending change take effect, and continues from the new state g.
+-- A step of the judge's rule, which decides when changes take effect. If the event v is not possible in the key's state
+-- s, one pending change takes effect, and the rule continues from the new state g.
 pub settles_on : (m : ℕ) (v : Event) (s g : State) → fits (suc m) v s ≡ false → turned_if m s (options s) ≡ Some g
     → settled (open_changes s) m v (Some s) ≡ settled (open_changes g) m v (Some g)
 settles_on m v s g f e =

@@ -116,8 +116,8 @@ ended_or_pending threads opening calls s is y e c ended =
       | inr q ↦ inr (subst (λ (z : CallRecord). Contains s.pending (pending_of z)) at q, until_end behind_all y.begun y.ended e ended)
     ]
 
--- If no call changes the key to the state p between `since` and the end of `second`, and each call starts before this
--- end, then all changes to p have ended by `since`.
+-- Suppose that no call changes the key to the state p between `since` and the end of `second`. If each call starts
+-- before this end, all changes to p have ended by `since`.
 latest_low : (calls : List CallRecord) (key : ℕ) (p : Presence) (n since : ℕ) (second : Option CallRecord) → IsLatest calls key p n → NothingTurns calls key p since second
     → ((x : CallRecord) → Contains calls x → is_before x.begun second ≡ true) → n ≤ since
 latest_low calls key p n since second (inl z) none before = omega (arith, z)
@@ -425,8 +425,8 @@ module _ (threads : ℕ) (opening : List ℕ) (calls : List CallRecord) (s t : S
         order None h = tt
         order (Some x) h = inl h
 
-    -- The kept call and the call that ends clash if they left the key in different states, and all changes to the state
-    -- that one of them left had ended when the other started.
+    -- Suppose that the kept call and the call that ends left the key in different states. They clash if all changes to
+    -- the state that one of them left had ended when the other one started.
     two_stand : (q : Presence) → f.was ≡ q → until_of (other q) f ≤ f.begun → leaves_if call.call call.ended ≡ Some (other q) → until_of q f ≤ call.begun
         → IsClashing f call
     two_stand q was stands leaves low =

@@ -301,8 +301,8 @@ module _ (threads : ℕ) (calls : List CallRecord) (history : IsHistory threads 
       lists false false n low is at_end l =
           list_put false k m ks o n True (λ _ f. let g : changes true ≡ changes false = sym is ∙ f in cc) (l.lists false)
 
-  -- States that the judge's rule (which decides when changes take effect) has made changes of key k take effect until
-  -- the event v is possible, and that the order o contains these changes.
+  -- States that the order o contains all changes of key k that the judge's rule lets take effect to make the event v
+  -- possible.
   pub record Settled (k m : ℕ) (v : Event) (t : State) (o : List Placed) : Type 0 where
     pub moved : Moved k m t o
     pub finds : fits (suc m) v t ≡ true
@@ -361,8 +361,8 @@ module _ (threads : ℕ) (calls : List CallRecord) (history : IsHistory threads 
 
   -- ---- All keys at moment m. Each key k is in the state `was k` now, and has the event `v k` at the next moment
   module _ (m : ℕ) (v : ℕ → Event) (was : ℕ → State) (live : (k : ℕ) → is_some (stepped m (v k) (Some (was k))) ≡ true) where
-    -- States that the judge's rule (which decides when changes take effect) finds the same state for the next event `v
-    -- k` from the state s as from the state `was k`.
+    -- States that the judge's rule (which decides when changes take effect) finds the same result from the states s and
+    -- `was k`: both lead to the same state for the next event `v k`.
     abbrev Lives : ℕ → State → Type 0
     Lives k s = found m (v k) s ≡ found m (v k) (was k)
 

@@ -1,6 +1,6 @@
--- Proof: the judge's rule, which decides when changes take effect, does at least as well as any correct timeline (a
--- choice of the moments when the changes of a key take effect). The rule has at least as many pending changes left as
--- the timeline, and these changes end at least as late.
+-- Proof: the judge's rule does at least as well as any correct timeline. (The rule decides when the changes of a key
+-- take effect; a timeline is any choice of these moments.) The rule has at least as many pending changes left as the
+-- timeline, and these changes end at least as late.
 use Rattle.std.proofs.Common.{◌≡◌, ℕ, suc, ◌+◌, ◌<◌, ◌≤◌, List, [], ◌∷◌, true, inl, inr, refl, arith, length, zero, sym, ap, ◌⊎◌, Bool, false, ◌∙◌, subst}
 use Rattle.std.specs.Prelude.{◌==◌, nat_lt, if◌then◌else◌, Option, Some, None, is_some, not}
 use Rattle.std.proofs.lemmas.Bool.{cases_Bool, true≢false, not-true, not-false, or_cases, or_parts}
@@ -159,7 +159,7 @@ timeline_turns b false m gt st e gp gk sp sk l h =
     further false y = let t = taken_length e sp h in let f = fewer sp gp (l.lists true) in omega (arith, t, f)
 
 -- States that the judge's rule makes one change take effect in its state g, and that the new state is still at least as
--- good as the state s of a timeline (a choice of the moments when changes take effect).
+-- good as s, the state of a timeline. A timeline is a choice of the moments when changes take effect.
 pub record Turns (m : ℕ) (g s : State) : Type 0 where
   pub state : State
   pub is : turned_if m g (options g) ≡ Some state
@@ -231,8 +231,8 @@ asked m (looks w since) g s l t f =
     ]
 asked m v g s l t f = absurd (true≢false f)
 
--- States that the judge's rule finds a state for the event v, and that this state is still at least as good as the
--- state s of a timeline (a choice of the moments when changes take effect).
+-- States that the judge's rule finds a state for the event v, and that this state is still at least as good as s, the
+-- state of a timeline. A timeline is a choice of the moments when changes take effect.
 pub record Settles (n m : ℕ) (v : Event) (g s : State) : Type 0 where
   pub state : State
   pub is : settled n m v (Some g) ≡ Some state

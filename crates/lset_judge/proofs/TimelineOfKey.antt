@@ -1,5 +1,5 @@
--- Proof: if the effects of a key's calls (the acts) have an order, the key has a correct timeline (a choice of the
--- moments when its changes take effect).
+-- Proof: an order of the effects of a key's calls (the acts) determines a correct timeline of the key: a choice of the
+-- moments when its changes take effect.
 use Rattle.std.proofs.Common.{◌≡◌, ◌≢◌, ℕ, zero, suc, ◌<◌, ◌≤◌, ◌⊎◌, List, [], ◌∷◌, Bool, true, false, inl, inr, refl, sym, ap, ◌∙◌, arith}
 use Rattle.std.proofs.Common.{subst, length}
 use Rattle.std.specs.Prelude.{◌==◌, ◌||◌, not, nat_lt, Some, is_some}
@@ -410,8 +410,8 @@ module _ (ev : ℕ → Event) (last : ℕ) (left : Bool) (are : AreEvents ev) wh
   ]
 
   module _ (b : Bool) (first : List Act) (ready : Ready 0 (opened b) first) where
-    -- Up to each moment, the key passes the judge's rule (the test of its calls), and the rule has at least as many
-    -- pending changes left as the timeline (a choice of the moments when changes take effect).
+    -- Up to each moment, the key passes the judge's rule (the test of its calls). The rule has at least as many pending
+    -- changes left as the timeline, which is a choice of the moments when changes take effect.
     goes_on : (m : ℕ) → m ≤ last → (g s : State) × (ys : List Act) × (state_after ev b m ≡ Some g) × Leads m g s × Ready m s ys
     goes_on zero low = (opened b, opened b, first, refl, leads_at_first b, ready)
     goes_on (suc m) low =

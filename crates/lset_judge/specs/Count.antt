@@ -50,8 +50,8 @@ pub record NeedTurn (was : Presence) (x y : CallRecord) : Type 0 where
   pub needs : needs_if y.call y.ended ≡ Some (other was)
   pub either : Precedes x y ⊎ ((leaves_if y.call y.ended ≡ Some was) × (needs_if x.call x.ended ≡ Some (other was)))
 
--- `begins_by` returns whether a call starts before `until`. `turns_in` returns whether a call on the key overlaps the
--- time from `since` to `until`, and changed the key to the state `there` or is pending and can still do so.
+-- `begins_by` returns whether a call starts before `until`. `turns_in` returns whether a call on the key changed the
+-- key to the state `there`, or can still do so, and overlaps the time from `since` to `until`.
 abbrev pub begins_by : ℕ → Option ℕ → Bool
 begins_by begun None = true
 begins_by begun (Some until) = nat_lt begun until
@@ -85,8 +85,8 @@ pub record IsCountOf (calls : List CallRecord) (key : ℕ) (there : Presence) (l
   pub turns : AllPairs (NeedTurn was) counted
   pub fewer : length (turning_in key (other was) since until calls) < turns_of (length counted) since until
 
--- States the lemma: if some calls in a history are a count (too many calls on a key for any order), no order explains
--- the history and leaves these keys, whatever the other calls did.
+-- States the lemma: if a history contains a count (too many calls on a key for any order), no order explains the
+-- history and leaves these keys, whatever the other calls did.
 abbrev pub CountsExcludeOrders : Type 0
 CountsExcludeOrders = (h : HistoryValue) (keys : List ℕ) (key : ℕ) (there : Presence) (left : Option Presence) (was : Presence)
     (since until : Option ℕ) (counted : List CallRecord) → IsHistory h.opening.threads h.calls → has_key key h.opening.keys ≡ is_there there

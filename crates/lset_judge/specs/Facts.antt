@@ -126,8 +126,8 @@ pub record IsKept (call : StreamCall) (old new : Facts) : Type 0 where
   pub standing : until_of (other new.was) old ≤ call.begun
   pub better : old.was ≡ new.was → until_of (other new.was) old ≤ old.begun → ⊥
 
--- States that the kept call (the stored one) is at least as useful as `call` for finding a clash. If all changes to the
--- state that `call` did not leave end by the start of `call`, then the kept call left the same state as `call`, and
+-- States that the kept call (the stored one) is at least as useful as `call` for finding a clash. Suppose that all
+-- changes away from the state that `call` left end by the start of `call`. Then the kept call left the same state, and
 -- these changes also end by the start of the kept call.
 abbrev pub ServesAsWell : StreamCall → Facts → Type 0
 ServesAsWell call f = IfSome call.ended (λ (e : ℕ × Reply). is_plain call.call e.1 ≡ true) → (p : Presence) → leaves_if call.call call.ended ≡ Some p
@@ -200,8 +200,8 @@ pub record AreComplete (opening : List ℕ) (calls : List CallRecord) (moment ke
   pub best : (p : Presence) (first : Option CallRecord) → WasSo calls key (presence (has_key key opening)) p first → IsPast moment first
       → until_of (other p) f ≤ since_of first → IsAsGood key f p first
 
--- States that, among the calls on the key that have ended by a moment, no call clashes with one that starts after it
--- has ended.
+-- States that no clash was missed among the calls on the key that have ended by a moment: no call clashes with a later
+-- one, that is, with a call that starts after it has ended.
 abbrev pub NoneMissed : List ℕ → List CallRecord → ℕ → ℕ → Type 0
 NoneMissed opening calls moment key = (p : Presence) (first : Option CallRecord) (y : CallRecord) → EndsBefore first y.begun
     → Clashes calls key (presence (has_key key opening)) None p first (Some y) → IsPast moment (Some y) → ⊥
@@ -297,8 +297,8 @@ abbrev pub ClashesStream : List ℕ → Refusal → Option Presence → Stream �
 ClashesStream opening refusal left s c = (threads : ℕ) (calls : List CallRecord) → IsStreamKept threads opening calls s
     → IsClash calls refusal.key.0 (presence (has_key refusal.key.0 opening)) left c.was (record_if c.first) (record_if c.second)
 
--- States that, once all ends have been processed, no call on the key that the reason names clashes with a call that
--- starts after it has ended.
+-- States that the calls on the key that the reason names have no clash (see `HasNoClash`), once all ends have been
+-- processed.
 abbrev pub HasNone : List ℕ → Refusal → Option Presence → Stream → Type 0
 HasNone opening refusal left s = (threads : ℕ) (calls : List CallRecord) → IsStreamKept threads opening calls s
     → All (λ (p : Pending). behind_all ≤ p.end) s.pending → HasNoClash calls refusal.key.0 (presence (has_key refusal.key.0 opening)) left

@@ -22,8 +22,8 @@ part_of part i h = record {
   calls = calls_in part i h.calls;
 }
 
--- States the lemma of locality: some order explains a history that the judge decides if and only if, for each part of
--- the history, some order explains the part and leaves the part's final keys.
+-- States the lemma of locality, for a history that the judge decides. Some order explains the history if and only if,
+-- for each part, some order explains the part and leaves the part's final keys.
 abbrev pub KeysAreApart : Type 0
 KeysAreApart = (h : HistoryValue) (keys : List ℕ) (part : ℕ → ℕ) (parts : ℕ)
     → IsHistory h.opening.threads h.calls → IsStrictlyIncreasing h.opening.keys → IsStrictlyIncreasing keys → IsJudged h

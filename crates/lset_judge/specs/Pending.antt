@@ -34,8 +34,8 @@ abbrev pub end_or : ℕ → Option (ℕ × Reply) → ℕ
 end_or moment None = moment
 end_or moment (Some e) = e.0
 
--- States that `next` is the call in `old` with the earliest end, that this end is before `moment`, and that `new`
--- contains the other calls.
+-- States that `next` is the call in `old` with the earliest end, and that `new` contains the other calls. The end of
+-- `next` is before `moment`.
 pub record IsNext (moment : ℕ) (old : List Pending) (next : Pending) (new : List Pending) : Type 0 where
   pub early : next.end < moment
   pub is : IsPermutation old (next ∷ new)

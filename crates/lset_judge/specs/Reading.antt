@@ -1,7 +1,7 @@
 -- The calls as the judge reads them: each completed call becomes a call that the judge can decide. A `ceiling` that
--- returned a key is read as a `contains` of this key that returned true. A `ceiling` that found no key, and an `add`
--- that returned full, are read as a `contains` of the call's own key that returned false. A pending call is read
--- unchanged. If no order explains the calls as the judge reads them, no order explains the calls themselves.
+-- returned a key is read as a `contains` of this key that returned true. A `ceiling` that found no key is read as a
+-- `contains` of its own key that returned false. An `add` that returned full is read in the same way. A pending call is
+-- read unchanged. If no order explains the calls as the judge reads them, no order explains the calls themselves.
 use Rattle.std.specs.Prelude.{ℕ, List, map, Option, Some, None}
 use Rattle.lset_words.specs.declared.Call.{Call}
 use Rattle.lset_words.specs.declared.Call.TheVariants.{Add, Contains, Ceiling}

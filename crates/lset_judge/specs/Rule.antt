@@ -13,9 +13,8 @@ pub data Event : Type 0 where
   leaves : Bool → Event
   idle : Event
 
--- The state of a key as the judge tracks it: whether the key is present (`there`), the moment of its last change
--- (`turned`), and the ends of its pending changes that have not taken effect (`puts` for `add`s, `takes` for
--- `remove`s).
+-- The state of a key as the judge tracks it. `there`: whether the key is present. `turned`: the moment of its last
+-- change. `puts` and `takes`: the ends of the pending `add`s and `remove`s that have not taken effect.
 pub record State : Type 0 where
   pub there : Bool
   pub turned : ℕ

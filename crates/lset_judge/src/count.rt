@@ -44,8 +44,8 @@ impl Count {
     }
 }
 
-/// States a lemma: if some calls in a history are a count (the key would have to change back between them more often
-/// than it can), no order explains the history and its final keys. This function does nothing at run time.
+/// States a lemma: if a history contains a count (calls on a key that are too many for any order), no order explains
+/// the history and its final keys. This function does nothing at run time.
 pub fn counts_exclude_orders()
     ensures { CountsExcludeOrders }
 {}

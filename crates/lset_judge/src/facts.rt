@@ -158,9 +158,8 @@ impl KeyState {
         })
     }
 
-    /// Stores in `clash` the clash of the call `second`, which ends now, with the stored call on the key (or with the
-    /// key's opening state, if no call is stored). Stores `None` exactly if the stored facts show no clash. This is a
-    /// separate function so that processing other ends needs no stack space for a `Clash`.
+    /// Stores the result of `clash_of` in `clash`. This is a separate function so that processing other ends needs no
+    /// stack space for a `Clash`.
     pub(crate) fn store_clash(&self, second: StreamCall, clash: &mut Option<Clash>)
         ensures { MatchOption clash.new (IsClashing (facts_of self.now) second → ⊥) (IsFound (facts_of self.now) second) }
     {

@@ -77,8 +77,8 @@ pub fn is_plain(history: &History) -> bool
 
 /// Returns whether `judge` decides the history, that is, returns a verdict other than `Undecided`. Does not allocate.
 ///
-/// This is the case if each completed call is an `add`, a `remove` or a `contains` that returned true or false, and if
-/// every thread's quota covers all its `add`s that returned true or are pending.
+/// There are two conditions. Each completed call is an `add`, a `remove` or a `contains` that returned true or false.
+/// Every thread's quota covers all its `add`s that returned true or are pending.
 pub fn is_judged(history: &History) -> bool
     ensures { IsTrue result ↔ IsJudged history.now }
 {

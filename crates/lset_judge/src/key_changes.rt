@@ -21,8 +21,8 @@ pub(crate) struct ManyChanges {
 
 /// The pending changes of a key that have not taken effect.
 ///
-/// A key needs no heap, and no allocation, if its changes do not overlap, its `add`s and `remove`s alternate, and no
-/// change is pending at the end of the recording.
+/// A key needs a heap, and an allocation, only if its changes overlap, if its `add`s and `remove`s do not alternate, or
+/// if a change has no end.
 #[derive(Drop)]
 pub(crate) enum Held {
     /// Every pending change has taken effect.

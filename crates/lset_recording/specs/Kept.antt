@@ -23,8 +23,8 @@ use Rattle.lset_recording.specs.Reading.{SoFar, Reads, Says, first_line, is_done
 abbrev pub IsLatest : List CallRecord → ℕ → Type 0
 IsLatest calls moment = (moment ≡ 0) ⊎ ((x : CallRecord) × Contains calls x × (moment ≡ x.begun))
 
--- States that the judge has judged exactly these calls, that its current moment is the start of one of them or 0, and
--- that the number of calls is at most this moment. Before the first call, the reader has no judge (None).
+-- States that the judge has judged exactly these calls. Its current moment is the start of one of them or 0, and is at
+-- least the number of calls. Before the first call, the reader has no judge (None).
 abbrev pub IsJudgeKept : List ℕ → List CallRecord → Option Judge → Type 0
 IsJudgeKept opening calls None = calls ≡ []
 IsJudgeKept opening calls (Some j) =

@@ -26,8 +26,8 @@ pub record Recording : Type 0 where
 abbrev pub all_threads : ℕ
 all_threads = 2 ^ 32
 
--- States that c is a valid recording: its opening keys and its final keys increase strictly, its calls are a history
--- with moments below 2^63, no completed call is a `ceiling`, and each completed call returned true or false.
+-- States that c is a valid recording. Its opening keys and its final keys increase strictly. Its calls are a history
+-- with moments below 2^63. No completed call is a `ceiling`, and each completed call returned true or false.
 pub record IsRecording (c : Recording) : Type 0 where
   pub opening : IsStrictlyIncreasing c.opening
   pub calls : IsHistory all_threads c.calls

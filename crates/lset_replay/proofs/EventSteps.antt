@@ -98,8 +98,8 @@ module _ (T : Table) (op : Opening) (events : List LineEvent) (k : ℕ) (w : Wor
   stopped cause.Memory w' made = tt
   stopped c w' made = made
 
-  -- The next event of a run can be recorded. The proof uses the account of the run: which event changes which key for
-  -- which call.
+  -- The next event of a run can be recorded. The proof uses the account of the run, which states how each event changes
+  -- the keys in the set.
   module _ (accounts : TellsKeys T) where
     open shown T op events use {log, contents, counts}
 

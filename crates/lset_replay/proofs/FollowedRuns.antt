@@ -32,7 +32,7 @@ shown T op events = record {
   counts = counts_of (views T op (event_at (only_events events)));
 }
 
--- Assumptions of a replay about a list: each run has an account (which event changes which key for which call), and all
+-- Assumptions of a replay about a list: each run has an account (how each event changes the keys in the set), and all
 -- keys in the set are below 2^32.
 pub record TellsKeys (T : Table) : Type 0 where
   pub account : HasAccount T

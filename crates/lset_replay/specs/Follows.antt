@@ -25,8 +25,7 @@ pub record AreSteps (T : Table) (W : Type 0) (makes : W → Event → Result Tol
   pub listed : ListedContent T
   pub made : (w : W) (e : Event) (r : Result Told Cause) (w' : W) → makes w e r w' → HasMade T (state w) e r (state w')
 
--- States that the first k events were executed, that they led to the world w (shared words and threads), and that r has
--- recorded them.
+-- States that the first k events led to the world w (shared words and threads), and that r has recorded them.
 pub record HasFollowed (T : Table) (op : Opening) (events : List LineEvent) (k : ℕ) (w : WorldState) (r : Recorder) : Type 0 where
   pub run : Run T op (event_at (only_events events)) k
   pub world : w ≡ world_after T op (only_events events) k

@@ -37,8 +37,8 @@ pub record IsReportOf (T : Table) (op : Opening) (events : List Event)
 abbrev pub world_after : Table → Opening → List Event → ℕ → WorldState
 world_after T op events k = record { sizes = sizes op; state = state_at T op (event_at events) k }
 
--- States that the first event that is not enabled is in line `line`, and that `cause` is the first cause that applies
--- to this event.
+-- States that line number `line` has the first event that is not enabled. `cause` is the first cause that applies to
+-- this event.
 pub record IsFirstRefused (T : Table) (op : Opening) (events : List LineEvent)
     (line : ℕ) (cause : StepFault) : Type 0 where
   pub index : ℕ

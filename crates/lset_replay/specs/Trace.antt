@@ -22,8 +22,8 @@ use Rattle.lset_replay.specs.declared.recorder.Recorder.{Recorder}
 
 -- ---- The reply of a pending call
 
--- Returns true if the reply of a call that changed nothing is correct while the call's key is present, and false if the
--- reply is correct while the key is absent. Always true for a `ceiling`, since `shows` tests its whole reply.
+-- Returns whether the reply of a call that changed nothing requires that the call's key is present. If not, the reply
+-- requires that the key is absent. Always true for a `ceiling`, since `shows` tests its whole reply.
 abbrev pub needs_key : Call → Reply → Bool
 needs_key (call.Add k) reply.False = true
 needs_key (call.Contains k) reply.True = true

@@ -37,8 +37,7 @@ use Rattle.lset_report.specs.Texts.{title, last_line, report_text}
 
 -- ---- Limits on the numbers in a report
 
--- States that a call is pending, or that it ended at a moment of at most 4294967295 with a reply that this version of
--- the format has.
+-- States that a call is pending, or that its end is at most 4294967295 and its reply is in this version of the format.
 abbrev pub IsEnd : Version → Option (ℕ × Reply) → Type 0
 IsEnd version None = Unit {0}
 IsEnd version (Some end) = (end.0 < 2 ^ 32) × HasReply version end.1

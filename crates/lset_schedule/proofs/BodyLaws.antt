@@ -108,8 +108,8 @@ module _ {L : Type 0} (text : EventLines L) (v : Version) (title : List ℕ) (pi
 
   -- ---- Lemmas about a single line
 
-  -- States that reading the line x changes the content from s to t, that t can be written, and that the text of t is
-  -- the text of s followed by x.
+  -- States that the line x adds to the content: reading x changes the content from s to t, and t can be written, as the
+  -- text of s followed by x.
   abbrev Adds : BodyValue L → List ℕ → BodyValue L → Type 0
   Adds s x t = HasText text v Good t × (text_lines t ≡ text_lines s ++ x ∷ [])
 

@@ -27,8 +27,8 @@ number_told : {L : Type 0} (o : Option ℕ) → (let word : Option (Unit {0}) = 
 number_told None = refl
 number_told (Some n) = refl
 
--- In version 2, a line before the first event line is read as an opening key if it has the pattern of an opening key,
--- else as an event line.
+-- In version 2, a line before the first event line can be an opening key. It is read as an opening key if it has this
+-- pattern, else as an event line.
 pub key_told : {L K : Type 0} (text : EventLines L) (ls : List L) (line : List ℕ) (now : K → List ℕ) (o : Option K) → ls ≡ []
     → MatchOption o (have_form Two opening_form (cut_at 32 line) ≡ false) (λ key. cut_at 32 line ≡ codes "opening" ∷ now key ∷ [])
     → MatchOption o (line_in Two Event (kinds_after text Two ls) line ≡ made event (line_in Two Event text.kinds line))

@@ -107,8 +107,8 @@ plan_of parts = plan_in (version_told parts) parts
 abbrev pub reading : List ℕ → Result Plan LineFault
 reading bytes = plan_of (cut_at 10 bytes)
 
--- States that each text that can be read as a schedule is the text of this schedule, and that the text of each schedule
--- can be read.
+-- States that reading inverts writing: a text that can be read as a schedule is the text of this schedule, and the text
+-- of each schedule can be read.
 abbrev pub SchedulesReadBack : Type 0
 SchedulesReadBack = (p : Plan) (bytes : List ℕ)
     → (IsSchedule p → reading (schedule_text p) ≡ Ok p)

@@ -108,9 +108,9 @@ fn schedule(alloc: Global, bytes: &[u8]) -> Result<Schedule, ScheduleFault>
 /// For other lines, the first cause in the order of `Cause` applies. If a header line is missing, the cause is the same
 /// as for a wrong line in its place. In version 1, a line that exists only in version 2 has the cause `Event`. In
 /// either version, an opening key below an event has the cause `Event`. The cause is `Number` if a thread or a key is
-/// not a number up to 4294967295, or the number of steps is not from 1 to 10000, `TooMany` if there are more than
-/// 1,000,000 events or 1,048,576 opening keys, and `Memory` if an allocation fails. A line with the cause `Memory` has
-/// no other error.
+/// not a number up to 4294967295, or if the number of steps is not from 1 to 10000. It is `TooMany` if there are more
+/// than 1,000,000 events or 1,048,576 opening keys. If an allocation fails, the cause is `Memory`, at a line without
+/// another error.
 #[tactic(auto, using(crate::proofs::ScheduleTextLaws::found_in, crate::proofs::ScheduleTextLaws::only_in))]
 pub fn read_schedule(alloc: Global, bytes: &[u8]) -> Result<Schedule, ScheduleFault>
     // If a schedule is returned, it is within the limits, and the bytes are its text.

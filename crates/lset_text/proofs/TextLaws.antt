@@ -52,8 +52,8 @@ good_in_text g bytes rest h line is good =
       subst (IsFaultlessTo line) (sym (text_after g (cut_at 10 bytes) (cut_at 10 rest) h is)) good.2,
     )
 
--- If an allocation fails while the lines after the header are read, the reported line is below the header, and neither
--- this line nor an earlier line has an error.
+-- If an allocation fails while the lines after the header are read, the reported line is below the header. Neither this
+-- line nor an earlier line has an error.
 pub good_after : {S X : Type 0} (g : TextGrammar S) (bytes rest : List ℕ) (h : Header)
     (r : Result X LineFault) → header_of g.title (cut_at 10 bytes) ≡ Ok (h, cut_at 10 rest)
     → IfErr r (λ e. e.cause ≡ Memory → IsGoodLine first_line (cut_at 10 rest)

@@ -1,5 +1,5 @@
--- Proof that a list has at most MOST_NODES nodes, and that different slots (the nodes that successful adds use up) are
--- different nodes.
+-- Proof: a list has at most MOST_NODES nodes, and different slots (the nodes that successful adds use up) are different
+-- nodes.
 use Rattle.std.specs.Prelude.{◌≡◌, ℕ, ◌+◌, ◌*◌, ◌<◌, ◌≤◌}
 use Rattle.std.proofs.Common.{arith, ap}
 use Rattle.lset_words.specs.declared.TheConstants.{MOST_THREADS, MOST_QUOTA, MOST_OPENING, MOST_NODES}

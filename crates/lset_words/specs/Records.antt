@@ -11,9 +11,8 @@ pub record CallMade : Type 0 where
   pub call : Call
   pub reply : Reply
 
--- The record of a seat (the right to call as one thread). `fresh` is the record of a thread without calls, `called`
--- appends a call that the thread made itself, and `gathered` appends the record of a seat that was merged into this
--- one.
+-- The record of a seat (the right to call as one thread). `fresh` is the record of a thread without calls. `called`
+-- appends a call that the thread made itself. `gathered` appends the record of a seat that was merged into this one.
 pub data Record : Type 0 where
   fresh : ℕ → Record
   called : Record → CallMade → Record
@@ -68,8 +67,8 @@ pub record Follows (order : List Answered) (r : Record) (c : CallMade) : Type 0 
   pub own : HasOwnCalls before r
   pub gathered_before : (u : ℕ) → NamesGathered u r → calls_by u after ≡ []
 
--- States that the order agrees with each record that was merged into this one, and that each own call comes after the
--- calls of the records that were merged before it.
+-- States that the order agrees with each record that was merged into this one. Each own call comes after the calls of
+-- the records that were merged before it.
 abbrev pub KeepsItems : List Answered → Record → Type 0
 KeepsItems order (fresh t) = Unit {0}
 KeepsItems order (called r c) = KeepsItems order r × Follows order r c
