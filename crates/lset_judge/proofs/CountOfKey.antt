@@ -95,8 +95,7 @@ against_so true false e = absurd (true≢false (sym e))
 against_so false true e = absurd (true≢false e)
 against_so false false e = refl
 
--- Unless an act (the effect of a call on the key) changes the key to the state other than b, a key in the state b stays
--- in b.
+-- A key in the state b stays in b, unless an act (the effect of a call on the key) changes it to the other state.
 turns_or_not : (b s : Bool) (k : Kind) → suits s k → (k ≡ changes (not b)) ⊎ (against b (becomes s k) ≤ against b s)
 turns_or_not true s (changes true) h = inr (let a = against_so true true refl in omega (arith, a))
 turns_or_not true s (changes false) h = inl refl
@@ -124,8 +123,8 @@ record Due (b left : Bool) (o c : Option ℕ) (us zs : List ℕ) (ys : List Act)
   back : (a : Act) → In a ys → a.does ≡ changes (not b) → Earlier o us ys a → Later c us ys a → has_key a.until zs ≡ true
 
 module _ (b left : Bool) (c : Option ℕ) where
-  -- `Due` still holds after the first act a (the effect of a call) has been removed from the order, and the end of a
-  -- from the lists of ends.
+  -- `Due` still holds after the first act a has been removed from the order, and its end from the lists of ends. (An
+  -- act is the effect of a call.)
   due_on : (o p : Option ℕ) (us zs : List ℕ) (a : Act) (ys : List Act) → (p ≡ None → (has_key a.until us ≡ true) ⊎ (o ≡ None))
       → AllByRecursion (Apart a) ys → Due b left o c us zs (a ∷ ys) → Due b left p c (take_out a.until us) (take_out a.until zs) ys
   due_on o p us zs a ys from apart d = record {
@@ -154,8 +153,8 @@ module _ (b left : Bool) (c : Option ℕ) where
         | inr q ↦ inr q
       ]
 
-  -- Another counted act (the effect of a call) can follow act a, or the final state counts as an act, or no counted act
-  -- is left after a.
+  -- After act a (the effect of a call), another counted act can follow, or the final state counts as an act, or no
+  -- counted act is left.
   later_or_last : (p : Option ℕ) (us vs : List ℕ) (a : Act) (ys : List Act) → AllByRecursion (Apart a) ys → Due b left p c (take_out a.until us) vs ys
       → Later c us (a ∷ ys) a ⊎ ((take_out a.until us ≡ []) × (also c ≡ 0))
   later_or_last p us vs a ys apart d = by c refl

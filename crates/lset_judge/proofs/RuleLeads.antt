@@ -101,8 +101,8 @@ once b = if b then 1 else 0
 abbrev pub at : Bool → ℕ → List ℕ → List ℕ → State
 at b t ps ks = record { there = b; turned = t; puts = ps; takes = ks }
 
--- States that the timeline (state s) has fewer pending changes left than the judge's rule (state g), among the changes
--- that would change the key's state in g. A timeline is a choice of the moments when changes take effect.
+-- States that the timeline (state s) has fewer pending changes left than the judge's rule (state g). Only changes that
+-- would change the key's state in g count. A timeline is a choice of the moments when changes take effect.
 abbrev pub IsFurther : State → State → Type 0
 IsFurther g s = length (changes_to (not g.there) s) < length (options g)
 
@@ -158,8 +158,8 @@ timeline_turns b false m gt st e gp gk sp sk l h =
     further true y = let f = fewer sp gp (l.lists true) in omega (arith, y, f)
     further false y = let t = taken_length e sp h in let f = fewer sp gp (l.lists true) in omega (arith, t, f)
 
--- States that the judge's rule makes one change take effect in its state g, and that the new state is still at least as
--- good as s, the state of a timeline. A timeline is a choice of the moments when changes take effect.
+-- States that the judge's rule makes one change take effect in its state g. The new state is still at least as good as
+-- s, the state of a timeline. A timeline is a choice of the moments when changes take effect.
 pub record Turns (m : ℕ) (g s : State) : Type 0 where
   pub state : State
   pub is : turned_if m g (options g) ≡ Some state
@@ -191,9 +191,9 @@ rule_turns false m t (x ∷ xs) gk s l f =
     lists false = l.lists false
 rule_turns b m t gp gk s l f = absurd (omega (arith, f))
 
--- Suppose that the key is present according to the judge's rule and absent according to the timeline (a choice of the
--- moments when changes take effect), or the reverse. Then the timeline has fewer pending changes left that would change
--- the key's state according to the rule.
+-- Suppose that the judge's rule and the timeline (a choice of the moments when changes take effect) disagree on whether
+-- the key is present. Then the timeline has fewer pending changes left that would change the key's state according to
+-- the rule.
 apart : (b c : Bool) (m gt st : ℕ) (gp gk sp sk : List ℕ) → Leads m (at b gt gp gk) (at c st sp sk) → (b ≡ c → ⊥)
     → IsFurther (at b gt gp gk) (at c st sp sk)
 apart true false m gt st gp gk sp sk l n = let y = l.balance in let f = fewer sp gp (l.lists true) in omega (arith, y, f)
@@ -231,8 +231,8 @@ asked m (looks w since) g s l t f =
     ]
 asked m v g s l t f = absurd (true≢false f)
 
--- States that the judge's rule finds a state for the event v, and that this state is still at least as good as s, the
--- state of a timeline. A timeline is a choice of the moments when changes take effect.
+-- States that the judge's rule finds a state for the event v. This state is still at least as good as s, the state of a
+-- timeline. A timeline is a choice of the moments when changes take effect.
 pub record Settles (n m : ℕ) (v : Event) (g s : State) : Type 0 where
   pub state : State
   pub is : settled n m v (Some g) ≡ Some state
@@ -266,8 +266,8 @@ more w (begins u end) ss gs h = elim (cases_Bool (same w u)) [
 ]
 more w v ss gs h = h
 
--- A change that starts adds one pending change both for the judge's rule and for the timeline (a choice of the moments
--- when changes take effect).
+-- A change that starts adds one pending change for both the judge's rule and the timeline. A timeline is a choice of
+-- the moments when changes take effect.
 alike : (w : Bool) (v : Event) (ss gs : List ℕ) → length (entering w v gs) + length ss ≡ length (entering w v ss) + length gs
 alike w (begins u end) ss gs = elim (cases_Bool (same w u)) [
   | inl t ↦ rw t (let a = length_in end ss in let b = length_in end gs in omega (arith, a, b))

@@ -9,9 +9,8 @@ use Rattle.lset_judge.specs.declared.event.Event.{Event as MomentEvent}
 use Rattle.lset_judge.specs.declared.event.Event.TheVariants.{Begins, Ends, Looks, Idle}
 use Rattle.lset_judge.specs.Rule.{State, Event, begins, ends, looks, idle}
 
--- `puts_held` returns the ends of the pending `add`s that have not taken effect, and `takes_held` the ends of the
--- pending `remove`s that have not taken effect. If the ends are not in heaps, there is at most one such change, and
--- `until` is its end.
+-- `puts_held` and `takes_held` return the ends of the pending `add`s and `remove`s that have not taken effect. If the
+-- ends are not in heaps, there is at most one such change, and `until` is its end.
 abbrev pub puts_held : ℕ → Held → List ℕ
 puts_held until Nothing = []
 puts_held until Put = until ∷ []

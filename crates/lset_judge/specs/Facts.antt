@@ -253,8 +253,8 @@ pub record IsClashing (f : Facts) (call : StreamCall) : Type 0 where
 abbrev pub clash_with : ℕ → Facts → Option StreamCall → Clash
 clash_with key f second = record { was = f.was; first = first_of key f; second = second }
 
--- States that, according to the stored facts f, c is a clash (two calls that no order can both contain), and `call` is
--- its second call.
+-- States that c is a clash according to the stored facts f: no order can contain both its calls. `call` is its second
+-- call.
 pub record IsFound (f : Facts) (call : StreamCall) (c : Clash) : Type 0 where
   pub is : c ≡ clash_with (key_of call.call).0 f (Some call)
   pub clashing : IsClashing f call

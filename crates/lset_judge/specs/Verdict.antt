@@ -47,7 +47,7 @@ adds_of thread calls = count_by (λ (x : CallRecord). may_add x.call x.ended && 
 abbrev pub IsPlain : List CallRecord → Type 0
 IsPlain calls = All (λ (x : CallRecord). IfSome x.ended (λ (e : ℕ × Reply). is_plain x.call e.1 ≡ true)) calls
 
--- States that the judge decides the history h: each completed call is no `ceiling` and returned true or false, and the
+-- States that the judge decides the history h. Each completed call is no `ceiling` and returned true or false. The
 -- quota covers all `add`s of each thread that returned true or are pending.
 pub record IsJudged (h : HistoryValue) : Type 0 where
   pub plain : IsPlain h.calls

@@ -11,9 +11,9 @@ use crate::stream::StreamCall;
 use lset_words::{Effect, Key, Presence};
 
 /// Two calls on a key that clash: no order can explain both, whatever the other calls did. The first call leaves the
-/// key in one state, and the second needs the other state. No call that overlaps the time from the start of the first
-/// call to the end of the second can change the key to that other state. The second call starts after the first has
-/// ended, or the two also clash in the opposite order.
+/// key in one state, and the second needs the other state. Between the start of the first call and the end of the
+/// second, no call can change the key to that other state. The second call starts after the first has ended, or the two
+/// also clash in the opposite order.
 #[derive(Clone, Copy, Debug, PartialEq, Eq)]
 pub struct Clash {
     /// The key's state (present or absent) after the first call.

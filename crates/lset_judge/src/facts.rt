@@ -138,8 +138,8 @@ impl KeyState {
             && ends_by(first, second)
     }
 
-    /// Returns the clash of the call `second`, which ends now, with the stored call on the key (or with the key's
-    /// opening state, if no call is stored). Returns `None` exactly if the stored facts show no clash.
+    /// Returns the clash of the stored call on the key with the call `second`, which ends now. If no call is stored,
+    /// the key's opening state replaces the stored call. Returns `None` exactly if the stored facts show no clash.
     pub(crate) fn clash_of(&self, second: StreamCall) -> Option<Clash>
         ensures { MatchOption result (IsClashing (facts_of self.now) second → ⊥) (IsFound (facts_of self.now) second) }
     {
@@ -166,8 +166,8 @@ impl KeyState {
         *clash = self.clash_of(second);
     }
 
-    /// Returns the clash of the key's final state `left` with the stored call on the key (or with the key's opening
-    /// state, if no call is stored). Returns `None` exactly if the stored facts show no clash.
+    /// Returns the clash of the stored call on the key with the key's final state `left`. If no call is stored, the
+    /// key's opening state replaces the stored call. Returns `None` exactly if the stored facts show no clash.
     pub(crate) fn clash_left(&self, key: Key, left: Presence) -> Option<Clash>
         ensures { MatchOption result (left ≡ other self.now.was → IsStanding key.0 (facts_of self.now) → ⊥) (IsFoundLeft key.0 (facts_of self.now) left) }
     {

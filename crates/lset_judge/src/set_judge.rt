@@ -37,8 +37,8 @@ pub struct Judge {
     stream: Stream,
 }
 
-/// Returns the final state of the key that `refusal` (the reason of the verdict) names, or `None` if the reason is not
-/// about the final keys.
+/// Returns the final state of the key that `refusal` (the reason of the verdict) names. Returns `None` if the reason is
+/// not about the final keys.
 fn left_as(keys: &[u32], refusal: Refusal) -> Option<Presence>
     requires { IsStrictlyIncreasing keys.now }
     ensures { result ≡ left_by keys.now refusal.key.0 refusal.moment }

@@ -271,7 +271,7 @@ takes_calls section.Calls = true
 takes_calls section.Keys = false
 takes_calls section.Done = false
 
--- Returns whether the next line can be a final key or the line `end` if the reader is in this section of the recording.
+-- Returns whether a reader in this section of the recording accepts a final key or the line `end` next.
 abbrev pub takes_keys : Section → Bool
 takes_keys section.Title = false
 takes_keys section.Opening = true

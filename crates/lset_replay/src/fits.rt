@@ -9,8 +9,8 @@ use crate::places::{OpenCall, found_in, needs_key};
 use lset_history::Changes;
 use lset_words::{Call, Reply};
 
-/// Returns the first moment, from the start of the pending call `made` up to `last`, when `reply` is correct for a call
-/// that changes nothing. Returns `None` if `reply` is correct at none of these moments.
+/// Returns the first moment when `reply` is correct for the pending call `made`, from the start of the call up to
+/// `last`. The call must not have changed the set. Returns `None` if `reply` is correct at none of these moments.
 pub fn fit(changes: &Changes, made: OpenCall, reply: Reply, last: u32) -> Option<u32>
     requires { made.begun ≤ last }
     ensures { result ≡ fit (moments_of changes.now) made reply last }

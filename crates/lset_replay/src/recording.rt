@@ -191,8 +191,8 @@ impl Recorder {
         Ok(())
     }
 
-    /// Records the next event and its effect. Can allocate. Returns the error `Memory` if an allocation fails, and
-    /// `Lost` if the effect is not possible after the run so far, which only happens on broken lists.
+    /// Records the next event and its effect. Can allocate. Returns the error `Memory` if an allocation fails. On a
+    /// broken list, returns the error `Lost` if the effect is not possible after the run so far.
     #[inline(always)]
     pub fn follow(&mut self, event: Event, told: Told) -> Result<(), Cause>
         ensures trace { OnOk result (MayRecord self.old (self.old.last + 1) event told

@@ -43,8 +43,8 @@ pub struct TracedRun<W: Steps + Drop> {
 
 impl<W: Steps + Drop> TracedRun<W> {
     /// Creates the run of a schedule. No event may have been executed in `world` before. If `chains` is true, each
-    /// event that changes which nodes are in the list, or their marks, is reported with the new list of nodes. This
-    /// costs a walk along the nodes at each event that writes the key or the link of a node. Returns `AllocError` if an
+    /// event that changes the nodes in the list or their marks is reported with the new list of nodes. This costs a
+    /// walk along the nodes at each event that writes the key or the link of a node. Returns `AllocError` if an
     /// allocation fails.
     pub fn opened(
         alloc: Global,
@@ -122,8 +122,8 @@ impl<W: Steps + Drop> TracedRun<W> {
         })
     }
 
-    /// Returns the nodes of the list from head to tail after an event, if they were requested and have changed since
-    /// they were last returned.
+    /// Returns the nodes of the list from head to tail after an event. Returns `None` if they were not requested, or
+    /// have not changed since they were last returned.
     fn changed_chain(&mut self, deed: Deed) -> Result<Option<Vec<ChainKey>>, AllocError> {
         let Some(told) = &mut self.chain else {
             return Ok(None);

@@ -156,8 +156,8 @@ module _ (bytes : List ℕ) (v : Version) (version_is : v ≡ version_told (cut_
         runs_out 3 (omega arith) (header_good (text v) bytes rest h head)
         (λ is_end. (let same = sym here ∙ is_end in cc))
 
-    -- If the header has no error, the result of reading the whole text is the result of the loop over the lines after
-    -- the header.
+    -- If the header has no error, the loop over the lines after the header determines the result of reading the whole
+    -- text.
     pub report_is : (s : Reader) → s.section ≡ section.Opening → so_far s ≡ no_lines v h
         → reading bytes ≡ told_by (AllOf rest (state s))
     report_is s section_is so_far_is =

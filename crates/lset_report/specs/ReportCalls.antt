@@ -19,8 +19,8 @@ is_open (Some end) = false
 abbrev pub is_last_end : List ℕ → ℕ → Bool
 is_last_end ends moment = list_any (λ end. end == moment) ends
 
--- Returns whether a call that starts at `begun` is pending, or ends later, at a moment that is not the end of any
--- thread's last call.
+-- Returns whether a call can have this end: it is pending, or it ends after `begun`, at a moment that is not the end of
+-- any thread's last call.
 abbrev pub ends_apart : List ℕ → ℕ → Option (ℕ × Reply) → Bool
 ends_apart ends begun None = true
 ends_apart ends begun (Some end) = nat_lt begun end.0 && not (is_last_end ends end.0)

@@ -30,8 +30,8 @@ so_far s = record {
 abbrev pub state : Reader → SoFar
 state s = record { section = s.section; report = so_far s }
 
--- States that an allocation failed while the reader read a complete line other than `end`, and that this line and all
--- earlier lines have no error.
+-- States that an allocation failed at a complete line other than `end`, and that neither this line nor an earlier line
+-- has an error.
 abbrev pub IsFull : List (List ℕ) → Result SoFar LineFault → LineFault → Type 0
 IsFull parts read e = (index : ℕ) × (e ≡ fault (first_line + index) Memory)
     × IsGoodLine first_line parts read (first_line + index) × (slice_index_or parts index [] ≢ last_line)

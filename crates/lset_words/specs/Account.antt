@@ -108,8 +108,8 @@ pub record Steps (threads quota : ℕ) (log : Log) (contents : Contents) (counts
   -- The reply, if any, is correct.
   pub right : RightReply (has_changed log t (suc k)) quota contents counts (begun_at log t k) (suc k) t (last_call log t k) reply
 
--- States that entry `k` of the log, the event between moments `k` and `k + 1`, is a valid start of a call or a valid
--- step.
+-- States that entry `k` of the log is a valid start of a call or a valid step. Entry `k` is the event between moments
+-- `k` and `k + 1`.
 abbrev pub Enters : ℕ → ℕ → Log → Contents → Counts → ℕ → Entry → Type 0
 Enters threads quota log contents counts k (began t call) = Begins threads log contents counts k t
 Enters threads quota log contents counts k (stepped t change reply) = Steps threads quota log contents counts k t change reply

@@ -110,8 +110,8 @@ pub enum Reply {
     Nothing,
 }
 
-/// Returns the layout of the words of a list that opens empty, with `threads` threads (1 to 64) and a quota of `quota`
-/// successful adds each (0 to 16,384).
+/// Returns the layout of the words of a list that opens empty. The list has `threads` threads (1 to 64), with a quota
+/// of `quota` successful adds each (0 to 16,384).
 ///
 /// # Errors
 ///
@@ -123,9 +123,9 @@ pub fn layout(threads: u32, quota: u32) -> Result<Layout, LayoutFault>
     layout_opening(threads, quota, 0)
 }
 
-/// Returns the layout of the words of a list for `threads` threads (1 to 64), a quota of `quota` successful adds each
-/// (0 to 16,384), and `opening` opening keys (0 to 1,048,576). Each opening key has a node of its own, which does not
-/// count towards a thread's quota.
+/// Returns the layout of the words of a list that opens with `opening` keys (0 to 1,048,576). The list has `threads`
+/// threads (1 to 64), with a quota of `quota` successful adds each (0 to 16,384). Each opening key has a node of its
+/// own, which does not count towards a thread's quota.
 ///
 /// # Errors
 ///
