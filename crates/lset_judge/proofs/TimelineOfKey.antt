@@ -361,7 +361,8 @@ module _ (ev : ℕ → Event) (last : ℕ) (left : Bool) (are : AreEvents ev) wh
       lists true = lists_past true m v s s.puts ys e r (r.lists true)
       lists false = lists_past false m v s s.takes ys e r (r.lists false)
 
-  -- When a change ends, no pending change to the same state ends by now, so the event is possible in the key's state.
+  -- All pending changes to the state w end after moment m + 1. The end of a change to w is therefore possible at this
+  -- moment.
   none_due : (w : Bool) (m : ℕ) (xs : List ℕ) (ys : List Act) → suc m ≤ last → Waits m ys → AllByRecursion (IsAct ev last) ys → Pairs Apart ys
       → Lists w m xs ys → not_before (suc (suc m)) xs ≡ length xs
   none_due w m xs ys low waits acts pairs l = all_late (suc (suc m)) xs (λ u h. elim (below_or_not u (suc (suc m))) [

@@ -221,8 +221,8 @@ pub record IsStreamKept (threads : ℕ) (opening : List ℕ) (calls : List CallR
 
 -- ---- Definitions that only one contract uses
 
--- States that each call that can change the key to a state other than `was` has ended when the stored call starts. If
--- no call is stored, states that no such change has started.
+-- States that all calls that can change the key away from the state `was` had ended when the stored call started. If no
+-- call is stored, states that no call of this kind has started.
 abbrev pub IsStanding : ℕ → Facts → Type 0
 IsStanding key f = until_of (other f.was) f ≤ since_of (record_if (first_of key f))
 

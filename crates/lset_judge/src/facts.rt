@@ -103,8 +103,8 @@ impl KeyState {
         }
     }
 
-    /// Returns whether each call that can change the key to a state other than `was` has ended when `first` starts.
-    /// `first` is the call that is stored for the key. If it is `None`, returns whether no such change has started.
+    /// Returns whether all calls that can change the key away from the state `was` had ended when the stored call
+    /// `first` started. If no call is stored (`None`), returns whether no call of this kind has started.
     fn is_standing(&self, first: Option<StreamCall>, key: Key) -> bool
         requires { first ≡ first_of key.0 (facts_of self.now) }
         ensures { IsTrue result ↔ IsStanding key.0 (facts_of self.now) }

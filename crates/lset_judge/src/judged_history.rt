@@ -24,8 +24,8 @@ pub enum Judged {
     /// No order explains the calls and leaves the final keys. Contains the reason, and two calls that clash, if the
     /// judge found them.
     NotLinearizable(Refusal, Option<Clash>),
-    /// Not decided: a completed call is a `ceiling`, or returned neither true nor false. The judge replaced each such
-    /// call by a call that it can decide, and some order explains the resulting history.
+    /// Not decided: a completed call is a `ceiling`, or returned neither true nor false. The judge replaced these calls
+    /// by calls that it can decide, and some order explains the resulting history.
     Undecided,
 }
 
