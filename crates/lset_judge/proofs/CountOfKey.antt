@@ -167,9 +167,9 @@ module _ (b left : Bool) (c : Option ℕ) where
             inl (inl (i.0, inr i.1, left_in i.0.until a.until us (subst (λ v. has_key v (take_out a.until us) ≡ true) (sym i.2) u.1), r.other, r.in_time)))
       ]
 
-  -- Suppose that the opening state or an earlier act (the effect of a call) counts. Then there are at most as many
-  -- counted acts as changes back, plus one if the key is not in the state b. The final state counts as an act if c is
-  -- None.
+  -- Bounds the number of counted acts if the opening state or an earlier act counts: at most the number of changes
+  -- back, plus one if the key is not in the state b. Between any two counted acts, the key must change back. (An act is
+  -- the effect of a call. The final state counts as an act if c is None.)
   count_on : (s : Bool) (o : Option ℕ) (us zs : List ℕ) (ys : List Act) → o ≡ None → TakeTurns left s ys → Pairs Apart ys → Due b left o c us zs ys
       → length us + also c ≤ length zs + against b s
   count_on s o (u ∷ us) zs [] none turns pairs d = absurd (d.stand u (has_head u us)).1
@@ -203,8 +203,8 @@ module _ (b left : Bool) (c : Option ℕ) where
         ])
       ]
 
-  -- Suppose that neither the opening state nor an earlier act (the effect of a call) has to count. Then there is at
-  -- most one counted act more than there are changes back. The final state counts as an act if c is None.
+  -- Bounds the number of counted acts by the number of changes back plus one. Between any two counted acts, the key
+  -- must change back. (An act is the effect of a call. The final state counts as an act if c is None.)
   count_from : (s : Bool) (o : Option ℕ) (us zs : List ℕ) (ys : List Act) → TakeTurns left s ys → Pairs Apart ys → Due b left o c us zs ys
       → length us + also c ≤ suc (length zs)
   count_from s o (u ∷ us) zs [] turns pairs d = absurd (d.stand u (has_head u us)).1

@@ -1,4 +1,5 @@
--- How a text is read line by line: each line changes a state, or is refused with the number of the line.
+-- How a text is read line by line. Each line changes a state, or is refused. The error contains the number of the
+-- refused line.
 use Rattle.std.specs.Prelude.{◌≡◌, ℕ, ◌+◌, ◌<◌, ◌≤◌, ◌==◌, List, [], ◌∷◌, ◌++◌, length, Result, Ok, Err, if◌then◌else◌}
 use Rattle.lset_text.specs.declared.causes.Cause.{Cause}
 use Rattle.lset_text.specs.declared.causes.Cause.TheVariants.{NotEnded}
