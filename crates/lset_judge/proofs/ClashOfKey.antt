@@ -96,7 +96,7 @@ after_left left s b x (p ∷ ys) turns pairs (inl e) l n = stays_left left (beco
     (λ a j d. n a (inr j) d (subst (λ (q : Act). q.begun < a.until) e (one_of (Apart p) a ys pairs.0 j).in_time))
 after_left left s b x (p ∷ ys) turns pairs (inr i) l n = after_left left (becomes s p.does) b x ys turns.1 pairs.1 i l (λ a j. n a (inr j))
 
--- ---- Lemmas about the states that calls leave and the states that calls need
+-- ---- Lemmas about the key's state after a call, and about the state that a call needs
 
 pub some_same : (p q : Presence) → Some p ≡ Some q → p ≡ q
 some_same p q e = cc

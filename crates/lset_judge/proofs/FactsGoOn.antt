@@ -336,7 +336,7 @@ module _ (opening : List ℕ) (calls : List CallRecord) (x : CallRecord) where
         → AreKnownBy opening calls s.moment s.states s.failed s.clash → AreKnownBy opening with_x t.moment t.states t.failed t.clash
     begin_known met kept same known = subst (AreKnownBy opening with_x t.moment t.states t.failed) (sym same) (begin_at s.failed t.failed met kept known)
 
--- ---- The clash (two calls that rule out every order) that the stored facts show after the last call
+-- ---- The clash (two calls that rule out every order) found after the last call is correct
 
 pub clash_of_met : (s : Stream) (refusal : Refusal) → IsToldBy s.failed (NotLinearizable refusal) → (clash : Option Clash) → clash ≡ clash_met s.failed s.clash
     → IfSome clash (λ (c : Clash). (opening : List ℕ) → ClashesStream opening refusal None s c)

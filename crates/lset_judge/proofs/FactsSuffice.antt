@@ -407,7 +407,7 @@ module _ (threads : ℕ) (opening : List ℕ) (calls : List CallRecord) (s t : S
         by None so e = omega (arith, e)
         by (Some x) so e = let b = begun_old (record_of x) so.0.known in omega (arith, e, b)
 
-    -- If the call that ends clashes with a call that ended before its start, the facts show a clash.
+    -- If the call clashes with one that ended before its start, the facts show a clash.
     pair_found : (q : Presence) (first : Option CallRecord) → EndsBefore first call.begun → Clashes calls key (there key) None q first (Some (record_of call))
         → IsClashing f call
     pair_found q first before c =
@@ -425,8 +425,8 @@ module _ (threads : ℕ) (opening : List ℕ) (calls : List CallRecord) (s t : S
         order None h = tt
         order (Some x) h = inl h
 
-    -- Suppose that the kept call and the call that ends left the key in different states. They clash if all changes to
-    -- the state that one of them left had ended when the other one started.
+    -- Suppose that the kept call and the new call left the key in different states. They clash if all changes to the
+    -- state that one of them left had ended when the other one started.
     two_stand : (q : Presence) → f.was ≡ q → until_of (other q) f ≤ f.begun → leaves_if call.call call.ended ≡ Some (other q) → until_of q f ≤ call.begun
         → IsClashing f call
     two_stand q was stands leaves low =

@@ -88,7 +88,7 @@ is_call Look = true
 abbrev pub first_of : ℕ → Facts → Option StreamCall
 first_of key f = if is_call f.kept then Some (call_kept key f) else None
 
--- Returns a moment by which all calls that change the key to the state `there` have ended.
+-- Returns a moment by which all changes of the key to the state `there` have ended.
 abbrev pub until_of : Presence → Facts → ℕ
 until_of Present f = f.puts_until
 until_of Absent f = f.takes_until
@@ -146,8 +146,8 @@ IsEnded call old new = IsUnchanged call old new ⊎ IsKept call old new
 
 -- ---- The meaning of the stored facts about a key
 
--- States that all calls that change the key to the state `there` end by `moment`. A pending change counts as ending
--- after all moments.
+-- States that all changes of the key to the state `there` end by `moment`. A pending change counts as ending after all
+-- moments.
 abbrev pub AreOverBy : List CallRecord → ℕ → Presence → ℕ → Type 0
 AreOverBy calls key there moment = All (λ (x : CallRecord). (key_of x.call).0 ≡ key → turns_to there (kind_if x.call x.ended) ≡ true
     → until_if behind_all x.begun x.ended ≤ moment) calls
@@ -221,8 +221,8 @@ pub record IsStreamKept (threads : ℕ) (opening : List ℕ) (calls : List CallR
 
 -- ---- Definitions that only one contract uses
 
--- States that all calls that can change the key away from the state `was` had ended when the stored call started. If no
--- call is stored, states that no call of this kind has started.
+-- States that all changes of the key away from the state `was` had ended when the stored call started. If no call is
+-- stored, states that no change of this kind has started.
 abbrev pub IsStanding : ℕ → Facts → Type 0
 IsStanding key f = until_of (other f.was) f ≤ since_of (record_if (first_of key f))
 
@@ -291,8 +291,8 @@ abbrev pub clash_met : Option Failed → Option Clash → Option Clash
 clash_met None clash = None
 clash_met (Some f) clash = clash
 
--- States that c is a clash (two calls that no order can both contain), whatever calls the stream has judged. Both calls
--- are on the key that `refusal`, the reason of the verdict, names.
+-- States that c is a clash (no order can contain both its calls), whatever calls the stream has judged. Both calls are
+-- on the key that `refusal`, the reason of the verdict, names.
 abbrev pub ClashesStream : List ℕ → Refusal → Option Presence → Stream → Clash → Type 0
 ClashesStream opening refusal left s c = (threads : ℕ) (calls : List CallRecord) → IsStreamKept threads opening calls s
     → IsClash calls refusal.key.0 (presence (has_key refusal.key.0 opening)) left c.was (record_if c.first) (record_if c.second)

@@ -13,7 +13,7 @@ use Rattle.lset_judge.specs.declared.clash.Clash.{Clash}
 use Rattle.lset_judge.specs.Clash.{record_if, HasNoClash, IsClash}
 use Rattle.lset_judge.specs.Facts.{IsStreamKept}
 
--- States that the judge j has judged these calls, on a set that opened with the keys `opening`.
+-- States that the judge j has judged these calls, on a set opened with the keys `opening`.
 abbrev pub IsJudgeOf : ℕ → List ℕ → List CallRecord → Judge → Type 0
 IsJudgeOf threads opening calls j = IsStreamKept threads opening calls j.stream
 

@@ -78,7 +78,7 @@ event_of p = end_event (kind_if p.call.call p.call.ended) p.call.begun
 abbrev pub IsOver : ℕ → CallRecord → Type 0
 IsOver moment x = (end : ℕ × Reply) × (x.ended ≡ Some end) × (end.0 ≤ moment)
 
--- States that the start and the end (if any) of a call are moments that a recording can have.
+-- States that the start and the end (if any) of a call are valid moments of a recording.
 abbrev pub IsBefore : CallRecord → Type 0
 IsBefore x = (x.begun < behind_all) × IfSome x.ended (λ (end : ℕ × Reply). end.0 < behind_all)
 
@@ -100,8 +100,8 @@ IsJudgedTo opening calls moment states (Some f) = (f.moment ≤ moment)
     × (state_after (event_at behind_all f.key.0 calls) (has_key f.key.0 opening) f.moment ≡ None)
     × ((k m : ℕ) → state_after (event_at behind_all k calls) (has_key k opening) m ≡ None → f.moment ≤ m)
 
--- States that the stream s has judged these calls, on a set that opened with the keys `opening`. No call starts after
--- the stream's current moment.
+-- States that the stream s has judged these calls, on a set opened with the keys `opening`. No call starts after the
+-- stream's current moment.
 pub record IsStreamOf (threads : ℕ) (opening : List ℕ) (calls : List CallRecord) (s : Stream) : Type 0 where
   pub opens : IsStrictlyIncreasing opening
   pub history : IsHistory threads calls
@@ -154,7 +154,7 @@ IsStreamVerdict h keys (NotLinearizable refusal) =
     ((quota : ℕ) → IsUnexplained (with_quota quota h) keys) × IsRefusedBy h keys refusal.key.0 refusal.moment
     × FailsFirst h refusal.key.0 refusal.moment
 
--- States that a verdict on a recording that was cut off is correct: Linearizable is correct for some final keys,
+-- States that the verdict on a cut-off recording is correct: Linearizable is correct for some final keys,
 -- NotLinearizable for all.
 abbrev pub IsStreamVerdictCutOff : HistoryValue → StreamVerdict → Type 0
 IsStreamVerdictCutOff h Linearizable = (keys : List ℕ) × IsStreamVerdict h keys Linearizable

@@ -103,8 +103,8 @@ impl KeyState {
         }
     }
 
-    /// Returns whether all calls that can change the key away from the state `was` had ended when the stored call
-    /// `first` started. If no call is stored (`None`), returns whether no call of this kind has started.
+    /// Returns whether all changes of the key away from the state `was` had ended when the stored call `first` started.
+    /// If no call is stored (`None`), returns whether no change of this kind has started.
     fn is_standing(&self, first: Option<StreamCall>, key: Key) -> bool
         requires { first ≡ first_of key.0 (facts_of self.now) }
         ensures { IsTrue result ↔ IsStanding key.0 (facts_of self.now) }

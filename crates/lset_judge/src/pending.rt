@@ -39,8 +39,9 @@ impl Model for PendingCalls {
     ghost invariant = { λ c. IsFirst c.next c.few.items };
 }
 
-/// Returns the reason why `call` cannot start while the calls `few` are pending, or `None` if it can. The reason is
-/// that one of these calls ends when `call` starts or ends, or that its thread already has a pending call.
+/// Returns the reason why `call` cannot start while the calls `few` are pending, or `None` if it can. There are two
+/// possible reasons: one of these calls ends when `call` starts or ends, or the thread of `call` already has a pending
+/// call.
 fn clash(few: &[Pending], call: StreamCall) -> Option<StreamFault>
     ensures { MatchOption result
         (All (λ p. (p.end ≢ call.begun) × IfSome call.ended (λ end. p.end ≢ end.0)) few.now
@@ -132,8 +133,8 @@ impl PendingCalls {
     }
 
     /// Returns the reason why `call` cannot start while the calls in this collection are pending, or `None` if it can.
-    /// The reason is that one of these calls ends when `call` starts or ends, or that its thread already has a pending
-    /// call.
+    /// There are two possible reasons: one of these calls ends when `call` starts or ends, or the thread of `call`
+    /// already has a pending call.
     pub(crate) fn clash(&self, call: StreamCall) -> Option<StreamFault>
         ensures { MatchOption result
             (All (λ p. (p.end ≢ call.begun) × IfSome call.ended (λ end. p.end ≢ end.0)) self.now

@@ -64,7 +64,8 @@ fn clash_for(stream: &Stream, refusal: Refusal, left: Option<Presence>) -> Optio
 }
 
 impl Judge {
-    /// Returns a judge without calls, for a set that opens with the keys `opening`, which must be in increasing order.
+    /// Returns a judge without calls, for a set that opens with the keys `opening`. The keys must be in increasing
+    /// order.
     pub fn new(alloc: Global, opening: &[u32]) -> Result<Judge, AllocError>
         requires { IsStrictlyIncreasing opening.now }
         ensures opened { IfOk result (λ j. (threads : ℕ) → IsJudgeOf threads opening.now [] j) }

@@ -420,7 +420,8 @@ pub(crate) struct Stream {
 }
 
 impl Stream {
-    /// Returns a stream without calls, for a set that opens with the keys `opening`, which must be in increasing order.
+    /// Returns a stream without calls, for a set that opens with the keys `opening`. The keys must be in increasing
+    /// order.
     pub fn new(alloc: Global, opening: &[u32]) -> Result<Stream, AllocError>
         requires { IsStrictlyIncreasing opening.now }
         ensures opened { IfOk result (λ s. (threads : ℕ) → IsStreamKept threads opening.now [] s) }

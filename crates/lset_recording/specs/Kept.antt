@@ -45,7 +45,7 @@ count_if false = 0
 abbrev pub lines_of : SoFar → ℕ
 lines_of s = count_if (not (is_title s.section)) + length s.told.opening + length s.told.calls + length s.told.keys + count_if (is_done s.section)
 
--- States that the stored fields of a reader agree with the recording c, which the reader has read so far.
+-- States that the stored fields of a reader agree with c, the recording read so far.
 pub record IsKept (c : Recording) (j : Judging) : Type 0 where
   pub opening : j.opening.items ≡ c.opening
   pub opens : AreKeys c.opening
@@ -102,7 +102,7 @@ IsLineOf bytes piece line = (first_line + newlines bytes ≤ line) × (line < fi
 abbrev pub HasFailed : RecordingReader → LineFault → Type 0
 HasFailed r e = r.failed ≡ Some e
 
--- States that every text that begins with these bytes has the error e, unless e is a failed allocation.
+-- States that every text beginning with these bytes has the error e, unless e is a failed allocation.
 abbrev pub IsRefusedAt : List ℕ → LineFault → Type 0
 IsRefusedAt bytes e = e.cause ≢ wrong.Memory → (more : List ℕ) → Says (bytes ++ more) (Err e)
 

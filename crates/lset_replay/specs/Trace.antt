@@ -22,8 +22,8 @@ use Rattle.lset_replay.specs.declared.recorder.Recorder.{Recorder}
 
 -- ---- The reply of a pending call
 
--- Returns whether the reply of a call that changed nothing requires that the call's key is present. If not, the reply
--- requires that the key is absent. Always true for a `ceiling`, since `shows` tests its whole reply.
+-- Returns whether the reply of a call that changed nothing requires the call's key to be present. If not, the reply
+-- requires the key to be absent. Always true for a `ceiling`, since `shows` tests its whole reply.
 abbrev pub needs_key : Call → Reply → Bool
 needs_key (call.Add k) reply.False = true
 needs_key (call.Contains k) reply.True = true

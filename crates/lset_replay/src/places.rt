@@ -11,8 +11,8 @@ pub(crate) struct OpenCall {
     pub begun: u32,
 }
 
-/// Returns whether the reply of a call that changed nothing requires that the call's key is present. If not, the reply
-/// requires that the key is absent. Returns `true` for every `ceiling`.
+/// Returns whether the reply of a call that changed nothing requires the call's key to be present. If not, the reply
+/// requires the key to be absent. Returns `true` for every `ceiling`.
 pub(crate) fn needs_key(call: Call, reply: Reply) -> bool
     ensures { result ≡ needs_key call reply }
 {

@@ -62,7 +62,7 @@ Reaches section.Done r = Unit {0}
 
 -- ---- Lemmas: bytes that are read as a line are the text of this line
 
--- States that the line is well formed, and that the report has no lines of the sections after the section of this line.
+-- States that the line is well formed, and that the report has no lines of later sections.
 abbrev pub IsNext : Version → ReportValue → Line → Type 0
 IsNext v r l = IsLine v l × Reaches (section_after l) r
 

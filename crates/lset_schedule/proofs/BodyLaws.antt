@@ -172,7 +172,7 @@ module _ {L : Type 0} (text : EventLines L) (v : Version) (title : List ℕ) (pi
         line_found_lacks v Event item_pieces IsItem kinds x i.0 known i.1,
       )
 
-  -- ---- Proof that a text that was written can be read
+  -- ---- Proof that a written text can be read
 
   event_step : (s : BodyValue L) (l : L) → Good l → sum_by text.count s.lines + text.count l ≤ MOST_EVENTS
       → with_line text v s (line_text l) ≡ Ok (record s { lines = s.lines ++ l ∷ [] })
