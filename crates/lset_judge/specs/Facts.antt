@@ -172,7 +172,7 @@ AreKnownBy opening calls moment states None clash = (k : ℕ) → AreFacts openi
 AreKnownBy opening calls moment states (Some f) None = AreFacts opening calls f.key.0 (facts_for states f.key.0)
 AreKnownBy opening calls moment states (Some f) (Some c) = IsClashBy opening calls moment f.key.0 c
 
--- ---- The facts suffice to find a clash
+-- ---- The stored facts suffice to find a clash
 
 -- States that a moment is the latest end of a change to the state `there`. It is 0 if there is no change.
 abbrev pub IsLatest : List CallRecord → ℕ → Presence → ℕ → Type 0
