@@ -1,17 +1,12 @@
 //! Facts about a refused recording. The message and the likely cause are derived from these facts.
 
-use crate::fullness::Fullness;
-use crate::key_calls::KeyCalls;
-use crate::made_calls::Made;
-use crate::merged::merged_keys;
-use crate::neighbours::Neighbours;
 use crate::odd_facts::{Odd, find_odd, places_of_odd};
-use crate::pairs::{Bound, BoundKeys, bound_of};
-use crate::runs::{Refused, Runs};
-use crate::splits::{Split, longest_split};
-use crate::symptoms::{Place, Symptom, places_of};
 use crate::tally::Tally;
 use std::alloc::{AllocError, Global};
+use tool_calls::{
+    Bound, BoundKeys, Fullness, KeyCalls, Made, Neighbours, Place, Refused, Runs, Split, Symptom,
+    bound_of, longest_split, merged_keys, places_of,
+};
 
 /// The facts that determine the likely cause.
 #[derive(Clone, Copy)]

@@ -1,11 +1,9 @@
 //! Writes a recording of one key: all calls of the key or, if they are not linearizable, a few calls that are not
 //! linearizable either.
 
-use crate::key_order::{failing_moment, has_order};
-use crate::made_calls::{Made, NEVER, put_call};
-use crate::run_reader::Recorded;
 use lset_words::Presence;
 use std::alloc::{AllocError, Global};
+use tool_calls::{Made, NEVER, Recorded, failing_moment, has_order, put_call};
 
 /// A part of a key's calls is small enough if it has at most this many calls.
 const ENOUGH: usize = 16;

@@ -1,12 +1,10 @@
 //! Finds the operation that alone is wrong: without its answers (its calls that changed nothing), all calls are
 //! linearizable.
 
-use crate::key_order::{KeyState, Pending, has_order};
-use crate::made_calls::{Made, NEVER, Operation};
-use crate::run_reader::Recorded;
 use lset_judge::{Judge, StreamFault, Verdict};
 use lset_words::{Presence, increases};
 use std::alloc::{AllocError, Global};
+use tool_calls::{KeyState, Made, NEVER, Operation, Pending, Recorded, has_order};
 
 /// Returns `true` if a call is an answer of this operation, that is, changes nothing.
 pub fn is_answer(call: Made, operation: Operation) -> bool {
@@ -56,7 +54,7 @@ pub fn is_judged_without(
         if is_answer(*call, operation) {
             continue;
         }
-        match judge.add(call.to_stream()) {
+        match judge.add(stream_call(*call)) {
             Ok(()) => {}
             Err(StreamFault::Memory) => return Err(AllocError),
             Err(_) => return Ok(false),

@@ -1,18 +1,13 @@
 //! Facts about the operation that alone is wrong: the number of wrong answers, the calls that ran during them, and the
 //! next answers.
 
-use crate::contradictions::{Clash, clash_of};
-use crate::crossings::Crossings;
-use crate::fullness::Fullness;
-use crate::key_calls::KeyCalls;
-use crate::made_calls::{Made, Operation, other};
-use crate::neighbours::Neighbours;
 use crate::odd::{WrongAnswers, is_answer, is_explained_without, is_judged_without, without};
-use crate::runs::{Refused, Runs};
-use crate::stretches::{Stretch, stretches_of};
-use crate::symptoms::{Place, symptom_of_reply};
 use lset_words::Presence;
 use std::alloc::{AllocError, Global};
+use tool_calls::{
+    Clash, Crossings, Fullness, KeyCalls, Made, Neighbours, Operation, Place, Refused, Runs,
+    Stretch, clash_of, other, stretches_of, symptom_of_reply,
+};
 
 /// The operation that alone is wrong: without its answers (its calls that changed nothing), all calls have an order.
 #[derive(Clone, Copy)]

@@ -1,44 +1,8 @@
-use crate::made_calls::Made;
+use crate::stream_calls::made_of;
 use lset_recording::{Line, Section, line_told};
-use lset_words::Presence;
 use std::alloc::{AllocError, Global};
 use std::io::Read;
-
-/// A recording: the opening keys, the calls ordered by begin, and the final keys.
-#[derive(Drop)]
-pub struct Recorded {
-    pub opening: Vec<u32>,
-    pub calls: Vec<Made>,
-    pub left: Vec<u32>,
-    /// Whether the recording was cut off, so that the final keys are unknown.
-    pub is_cut: bool,
-    /// Whether these are only the first calls of a longer recording.
-    pub is_part: bool,
-}
-
-impl Recorded {
-    /// Returns the opening state of a key.
-    pub fn opens(&self, key: u32) -> Presence {
-        presence_in(&self.opening, key)
-    }
-
-    /// Returns a key's final state; `None` if it is unknown.
-    pub fn leaves(&self, key: u32) -> Option<Presence> {
-        if self.is_cut {
-            None
-        } else {
-            Some(presence_in(&self.left, key))
-        }
-    }
-}
-
-/// Returns `Present` if the key is in a list of increasing keys, otherwise `Absent`.
-fn presence_in(keys: &[u32], key: u32) -> Presence {
-    match keys.binary_search(&key) {
-        Ok(_) => Presence::Present,
-        Err(_) => Presence::Absent,
-    }
-}
+use tool_calls::Recorded;
 
 /// Reads a recording and keeps all of its calls. Checks the form of each line. Does not check that keys increase, or
 /// that each call can follow the calls before it: the judge checks that.
@@ -72,7 +36,7 @@ impl RunReader {
     fn keep(&mut self, line: Line) -> Result<(), AllocError> {
         match line {
             Line::Opening(key) => self.recorded.opening.push(key)?,
-            Line::Call(call) => self.recorded.calls.push(Made::of(call))?,
+            Line::Call(call) => self.recorded.calls.push(made_of(call))?,
             Line::Key(key) => self.recorded.left.push(key)?,
             Line::Title | Line::End => {}
             Line::Cut => self.recorded.is_cut = true,

@@ -1,12 +1,9 @@
-use crate::crossings::Crossings;
-use crate::fullness::Fullness;
-use crate::key_calls::KeyCalls;
-use crate::made_calls::{Made, Operation, other};
-use crate::neighbours::{Neighbours, Sought};
 use crate::odd_facts::{more, percent};
-use crate::symptoms::{Place, Symptom};
 use lset_words::Presence;
 use std::alloc::{AllocError, Global};
+use tool_calls::{
+    Crossings, Fullness, KeyCalls, Made, Neighbours, Operation, Place, Sought, Symptom, other,
+};
 
 /// The numbers of contradictions of each kind. A loss is a key that became absent without a successful remove. A return
 /// is a key that became present without a successful add. Contradictions of one key do not overlap each other.

@@ -1,19 +1,17 @@
 //! The contradiction that the judge names in its verdict.
 
-use crate::contradictions::Clash;
-use crate::made_calls::{Made, NEVER};
-use crate::run_reader::Recorded;
 use lset_judge::{Judge, StreamFault, Verdict};
 use lset_words::increases;
 use std::alloc::{AllocError, Global};
+use tool_calls::{Clash, Made, NEVER, Recorded};
 
 /// Recordings with more calls than this are not judged again.
 const MOST_JUDGED: usize = 500_000;
 
 /// Converts a contradiction from the judge's type.
 fn converted(clash: lset_judge::Clash) -> Clash {
-    let first = clash.first.map(Made::of);
-    let second = clash.second.map(Made::of);
+    let first = clash.first.map(made_of);
+    let second = clash.second.map(made_of);
     let ended = second.map_or(NEVER, |second| second.ended);
     Clash {
         first,
@@ -32,7 +30,7 @@ fn judged(alloc: Global, recorded: &Recorded) -> Result<Option<Verdict>, AllocEr
     }
     let mut judge = Judge::new(alloc, &recorded.opening)?;
     for call in &recorded.calls {
-        match judge.add(call.to_stream()) {
+        match judge.add(stream_call(*call)) {
             Ok(()) => {}
             Err(StreamFault::Memory) => return Err(AllocError),
             Err(_) => return Ok(None),

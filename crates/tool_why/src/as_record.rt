@@ -4,7 +4,7 @@ use crate::because::put_because;
 use crate::diagnosis::{Diagnosis, Mark};
 use crate::sentences::{cause_text, put_first, put_headline, put_known};
 use std::alloc::{AllocError, Global};
-use tool_facts::{put_call, state_word};
+use tool_calls::{put_call, state_word};
 
 fn put_mark(out: &mut String, mark: Mark) -> Result<(), AllocError> {
     match mark {

@@ -2,7 +2,7 @@
 
 use crate::diagnosis::{Diagnosis, MOST_AROUND, Mark};
 use std::alloc::{AllocError, Global};
-use tool_facts::{Made, NEVER, state_word};
+use tool_calls::{Made, NEVER, state_word};
 
 /// The maximum width of the bars, in columns.
 const WIDTH: usize = 66;

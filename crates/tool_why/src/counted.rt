@@ -5,7 +5,8 @@ use crate::diagnosis::Diagnosis;
 use lset_judge::{Count, StreamCall, find_count};
 use lset_words::{Key, Presence};
 use std::alloc::{AllocError, Global};
-use tool_facts::{KeyCalls, Made, NEVER, Recorded, stretches_of};
+use tool_calls::{KeyCalls, Made, NEVER, Recorded, stretches_of};
+use tool_facts::stream_call;
 
 /// At most this many calls are searched for a contradiction by counting. The search needs quadratic time.
 const MOST_COUNTED: usize = 4_000;
@@ -63,7 +64,7 @@ fn calls_to_count(alloc: Global, key: &KeyCalls) -> Result<Option<Counted>, Allo
     };
     let mut calls = Vec::new(alloc);
     for call in key.after(from) {
-        calls.push(call.to_stream())?;
+        calls.push(stream_call(*call))?;
     }
     Ok(Some(Counted {
         calls,
@@ -86,7 +87,7 @@ fn backs_in(
             .partition_point(|call| call.begun < back.begun);
         if let Some(call) = recorded.calls.get(at) {
             if call.changes() {
-                found.push(call.to_stream())?;
+                found.push(stream_call(*call))?;
             }
         }
     }

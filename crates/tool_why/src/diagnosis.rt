@@ -4,11 +4,11 @@ use crate::causes::Cause;
 use crate::likely::likely;
 use lset_words::Presence;
 use std::alloc::{AllocError, Global};
-use tool_facts::{
-    Clash, Evidence, Found, KeyCalls, Made, NEVER, Neighbours, Odd, Operation, Place, Recorded,
-    Refused, Runs, Split, Symptom, evidence_of, find_all, first_of, is_answer, is_expected, other,
-    place_of, stretches_of, verdict_clash,
+use tool_calls::{
+    Clash, KeyCalls, Made, NEVER, Neighbours, Operation, Place, Recorded, Refused, Runs, Split,
+    Symptom, first_of, is_expected, other, place_of, stretches_of,
 };
+use tool_facts::{Evidence, Found, Odd, evidence_of, find_all, is_answer, verdict_clash};
 
 /// The note beside a call in a picture.
 #[derive(Clone, Copy)]

@@ -8,7 +8,8 @@ use crate::sentences::{cause_text, put_first, put_headline, put_known};
 use lset_judge::Count;
 use std::alloc::{AllocError, Global};
 use std::io::Read;
-use tool_facts::{Recorded, RunReader};
+use tool_calls::Recorded;
+use tool_facts::RunReader;
 
 /// The maximum number of lines of the verdict and the explanation, without blank lines. The line that a test adds is
 /// not counted.

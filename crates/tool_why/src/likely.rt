@@ -1,7 +1,8 @@
 //! Guesses the likely cause from the facts in the message. Makes no guess if the facts fit no cause.
 
 use crate::causes::Cause;
-use tool_facts::{Evidence, Odd, Operation, Tally};
+use tool_calls::Operation;
+use tool_facts::{Evidence, Odd, Tally};
 
 /// A share of contradictions counts only if there are at least this many contradictions.
 const ENOUGH: u64 = 5;

@@ -4,7 +4,8 @@ use crate::causes::Cause;
 use crate::diagnosis::Diagnosis;
 use lset_words::Presence;
 use std::alloc::AllocError;
-use tool_facts::{Made, NEVER, Odd, Operation, Place, Split, Symptom, Tally, other, state_word};
+use tool_calls::{Made, NEVER, Operation, Place, Split, Symptom, other, state_word};
+use tool_facts::{Odd, Tally};
 
 /// Writes a line such as `contains(3) returned true, expected false`.
 fn put_returned(out: &mut String, call: Made, expected: bool) -> Result<(), AllocError> {

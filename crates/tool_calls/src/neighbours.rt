@@ -69,7 +69,7 @@ impl Neighbours {
     }
 
     /// Returns `true` if a completed change of the sought kind overlaps the time from `since` to `until`.
-    pub(crate) fn has(&self, key: u32, since: u64, until: u64, sought: Sought) -> bool {
+    pub fn has(&self, key: u32, since: u64, until: u64, sought: Sought) -> bool {
         let end = self.changes.partition_point(|call| call.begun <= until);
         let changes = self.changes.get(..end).unwrap_or(&[]);
         let latest = self.latest.get(..end).unwrap_or(&[]);
@@ -87,7 +87,7 @@ impl Neighbours {
 
 /// Which changes a search looks for.
 #[derive(Clone, Copy)]
-pub(crate) enum Sought {
+pub enum Sought {
     OfOtherKey,
     OfOtherKeyBy(Operation),
     /// A change of another key that began at this moment or later.

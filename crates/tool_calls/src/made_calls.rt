@@ -1,6 +1,5 @@
-use lset_judge::StreamCall;
 use lset_text::call_word;
-use lset_words::{Call, Key, Presence, Reply};
+use lset_words::{Call, Key, Presence};
 use std::alloc::AllocError;
 
 /// The end of a call that is pending or has an unknown reply.
@@ -55,48 +54,6 @@ pub struct Made {
 }
 
 impl Made {
-    /// Converts a call from the judge's stream.
-    pub fn of(call: StreamCall) -> Made {
-        let operation = match call.call {
-            Call::Add(_) => Operation::Add,
-            Call::Remove(_) => Operation::Remove,
-            Call::Contains(_) | Call::Ceiling(_) => Operation::Contains,
-        };
-        let (ended, reply) = match call.ended {
-            Some((end, reply)) => (end, Some(reply == Reply::True)),
-            None => (NEVER, None),
-        };
-        Made {
-            begun: call.begun,
-            ended,
-            thread: call.thread,
-            key: call.call.key().0,
-            operation,
-            reply,
-        }
-    }
-
-    /// Converts the call for the judge's stream.
-    pub fn to_stream(self) -> StreamCall {
-        let key = Key(self.key);
-        let call = match self.operation {
-            Operation::Add => Call::Add(key),
-            Operation::Remove => Call::Remove(key),
-            Operation::Contains => Call::Contains(key),
-        };
-        let ended = match self.reply {
-            Some(true) => Some((self.ended, Reply::True)),
-            Some(false) => Some((self.ended, Reply::False)),
-            None => None,
-        };
-        StreamCall {
-            thread: self.thread,
-            call,
-            begun: self.begun,
-            ended,
-        }
-    }
-
     /// Returns the state that the key must have just before the call takes effect; `None` if the reply is unknown.
     pub fn needs(self) -> Option<Presence> {
         let yes = self.reply?;

@@ -1,7 +1,7 @@
 use crate::key_calls::KeyCalls;
 use crate::key_order::failing_moment;
 use crate::made_calls::Made;
-use crate::run_reader::Recorded;
+use crate::recorded::Recorded;
 use std::alloc::{AllocError, Global};
 
 /// The calls of a recording, grouped by key.
