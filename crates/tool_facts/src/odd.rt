@@ -1,6 +1,7 @@
 //! Finds the operation that alone is wrong: without its answers (its calls that changed nothing), all calls are
 //! linearizable.
 
+use crate::stream_calls::stream_call;
 use lset_judge::{Judge, StreamFault, Verdict};
 use lset_words::{Presence, increases};
 use std::alloc::{AllocError, Global};

@@ -1,5 +1,6 @@
 //! The contradiction that the judge names in its verdict.
 
+use crate::stream_calls::{made_of, stream_call};
 use lset_judge::{Judge, StreamFault, Verdict};
 use lset_words::increases;
 use std::alloc::{AllocError, Global};
