@@ -412,7 +412,7 @@ function keyed(engine, only, file) {
 }
 var REFUSED = "not linearizable\n";
 var OF_A_FILE = "\nlistset judge FILE, with a file, also says what is wrong\n";
-var NOT_TOLD = "\nwhat is wrong is not told: memory ran out, or the file has changed since it was judged\n";
+var NOT_TOLD = "\nno explanation: memory ran out, or the file has changed since it was judged\n";
 var BRIEF = /^(ok |\d+ of them |the recording was cut off|not linearizable|no order explains )/;
 function briefly(verdict) {
   const lines = Buffer.from(verdict.bytes).toString().split("\n");

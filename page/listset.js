@@ -218,7 +218,7 @@ function keyed(engine, only, file) {
 
 const REFUSED = "not linearizable\n";
 const OF_A_FILE = "\nlistset judge FILE, with a file, also says what is wrong\n";
-const NOT_TOLD = "\nwhat is wrong is not told: memory ran out, or the file has changed since it was judged\n";
+const NOT_TOLD = "\nno explanation: memory ran out, or the file has changed since it was judged\n";
 
 // Returns the lines of a verdict without the advice and without the contradiction.
 const BRIEF = /^(ok |\d+ of them |the recording was cut off|not linearizable|no order explains )/;

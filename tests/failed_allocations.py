@@ -81,7 +81,7 @@ def answers(program, refuse):
 OUT_OF_MEMORY = 3, "", "listset: out of memory\n"
 SPAWN = 1, "", "listset: work: Spawn\n"
 # The line below a verdict if an allocation for the explanation fails
-NOT_TOLD = "\nwhat is wrong is not told: memory ran out, or the file has changed since it was judged\n"
+NOT_TOLD = "\nno explanation: memory ran out, or the file has changed since it was judged\n"
 LAST = 10  # after this many consecutive runs without an effect, the program is assumed to have no further allocation
 
 

@@ -142,7 +142,7 @@ class Judged:
         """Returns the first lines that `judge` must print."""
         if self.key is None:
             many, met = len(self.calls), self.overlapped()
-            few = ["that is few, and a race shows only if calls meet: take fewer keys, more threads, or pauses in the set"]
+            few = ["few calls overlap, and a race shows only if they do: use fewer keys, more threads, or pauses in the set"]
             cut = ["the recording was cut off: some keys left fit, and those that were left are not known"]
             return [f"ok {many} calls", f"{met} of them overlap a change of their key", *few * (20 * met < many), *cut * (self.keys is None)]
         upto = "and leaves it as it was left" if self.moment is None else f"up to moment {self.moment}"

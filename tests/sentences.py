@@ -300,7 +300,7 @@ def the_order_leaves_these_keys(case, left, keys):
     return keys_in(left) == case.left() != case.keys == keys_in(keys)
 
 
-@of_show(r" +(\d+)  at (\d+) +thread (\d+)  (\w+) (\d+) (\S+)(  \(no change\))?(  \(still open\))?")
+@of_show(r" +(\d+)  at (\d+) +thread (\d+)  (\w+) (\d+) (\S+)(  \(no change\))?(  \(pending\))?")
 def the_call_takes_effect_there(case, place, moment, thread, word, key, reply, no_change, is_open):
     it = case.calls[case.order[int(place) - 1][0]]
     is_it = (it.thread, it.word, it.key, it.end is None) == (int(thread), word, int(key), bool(is_open))
@@ -308,7 +308,7 @@ def the_call_takes_effect_there(case, place, moment, thread, word, key, reply, n
     return is_it and it.begin <= int(moment) <= (it.end or LAST) and case.answer_at(int(place)) == reply and is_change != bool(no_change)
 
 
-@of_show(r" +(\d+) +thread (\d+)  (\w+) (\d+) (\S+)(  \(still open\))?")
+@of_show(r" +(\d+) +thread (\d+)  (\w+) (\d+) (\S+)(  \(pending\))?")
 def a_refused_order_has_the_place(case, place, thread, word, key, reply, is_open):
     number, says = case.order[int(place) - 1]
     it = case.calls[number]
@@ -427,7 +427,7 @@ def no_call_changes_the_key_later(case, word, key, since=0):
     return not may_be_made(case, word, int(key), int(since), LAST)
 
 
-LEGEND = "* changes the set    o changes nothing, its reply fits there    > still open"
+LEGEND = "* changes the set    o changes nothing, its reply fits there    > pending"
 DRAWN = ("moment ", "thread ", "set ", "order")
 
 

@@ -86,8 +86,8 @@ class Drawn:
     def cut_text(self):
         before, after = self.is_cut()
         events = "" if self.picture.events is None else f" of {self.picture.events}"
-        return (f"moments {self.first} to {self.last}{events}" + (f"; --to {self.first - 1} goes before" if before else "")
-                + (f"; --from {self.last + 1} goes on" if after else ""))
+        return (f"moments {self.first} to {self.last}{events}" + (f"; earlier: --to {self.first - 1}" if before else "")
+                + (f"; later: --from {self.last + 1}" if after else ""))
 
     def heading(self):
         def count(n, word):
@@ -116,7 +116,7 @@ class Drawn:
             return f"{told}call {place.number} {place.reply}"
         call = self.picture.calls[place.number]
         told += f"thread {call.thread}  {call.word} {call.key} {place.reply}"
-        return told + ("  (no change)" if place.change is False else "") + ("" if place.number in self.picture.ends else "  (still open)")
+        return told + ("  (no change)" if place.change is False else "") + ("" if place.number in self.picture.ends else "  (pending)")
 
     def below(self, legend):
         told, order = ["order"] if self.picture.calls else ["no calls"], self.picture.order
@@ -133,7 +133,7 @@ class Drawn:
 
     def text(self):
         cut = any(self.is_cut())
-        legend = "* changes the set    o changes nothing, its reply fits there    > " + ("goes on    < began before" if cut else "still open")
+        legend = "* changes the set    o changes nothing, its reply fits there    > " + ("ends later    < began earlier" if cut else "pending")
         told = [self.heading(), *self.refusal(), ""]
         if self.picture.calls:
             told += [*([self.cut_text()] if cut else []), *self.rows(), ""]
@@ -141,7 +141,7 @@ class Drawn:
 
     def in_svg(self):
         """Returns texts that an SVG must contain, and how many circles and bars it must have."""
-        legend = "filled: changes the set    open: changes nothing, its reply fits there    dashed: still open"
+        legend = "filled: changes the set    open: changes nothing, its reply fits there    dashed: pending"
         points = [it for it in self.picture.order if self.has_points and self.first <= it.at <= self.last]
         bars = [it for it in self.picture.calls if it.begun <= self.last and self.picture.ends.get(it.number, [GREATEST])[0] >= self.first]
         return {*map(str, self.columns), self.heading(), *self.refusal(), *filter(None, self.below(legend))}, len(points), len(bars)

@@ -16,7 +16,7 @@ use tool_why::{Explained, explain};
 const OF_A_FILE: &[u8] = b"\nlistset judge FILE, with a file, also says what is wrong\n";
 
 const FAILED: &[u8] =
-    b"\nwhat is wrong is not told: memory ran out, or the file has changed since it was judged\n";
+    b"\nno explanation: memory ran out, or the file has changed since it was judged\n";
 
 /// Returns the number of lines in a refusal; 0 for any other answer.
 fn refused_lines(made: &Result<Answer, Trouble>) -> usize {

@@ -43,7 +43,7 @@ pub enum OrderFault {
     #[error("call {0} has another reply")]
     WrongReply(u32),
     /// In the order, this call comes before a call that had already ended when this call began.
-    #[error("call {0} is ordered before a call that had ended when it began")]
+    #[error("call {0} is ordered before a call that had ended before call {0} began")]
     TooEarly(u32),
     /// The final keys differ from the keys of the sequential set after all calls, or do not increase strictly.
     #[error("the keys are not the final keys of the order, or do not increase")]

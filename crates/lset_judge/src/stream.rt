@@ -51,16 +51,16 @@ pub(crate) const BEHIND_ALL: u64 = 1 << 63;
 #[derive(Clone, Copy, Debug, PartialEq, Eq, Error)]
 pub enum StreamFault {
     /// The call starts at moment 0 or no later than an earlier call, or one of its moments is above `LAST_MOMENT`.
-    #[error("it begins at moment 0 or no later than a call before it, or a moment is too large")]
+    #[error("the call begins at moment 0 or no later than an earlier call, or a moment is too large")]
     Early,
     /// The call ends no later than it starts.
-    #[error("it does not end after its begin")]
+    #[error("the call does not end after its begin")]
     Ends,
     /// The call is a completed `ceiling`, or its reply is neither true nor false.
-    #[error("it is a ceiling that ended, or its reply is not true or false")]
+    #[error("the call is a completed ceiling, or its reply is neither true nor false")]
     NotPlain,
     /// An earlier call ends exactly when this call starts or ends.
-    #[error("a call before it ends at one of its moments")]
+    #[error("an earlier call ends at one of this call's moments")]
     Taken,
     /// The thread already has a pending call when this call starts.
     #[error("its thread already has a pending call")]

@@ -11,7 +11,7 @@ pub enum OpenFault {
     #[error("the quota is above {MOST_QUOTA}")]
     Quota,
     /// The opening keys do not increase strictly, or there are more than `MOST_OPENING`.
-    #[error("the opening keys do not increase strictly, or are more than {MOST_OPENING}")]
+    #[error("the opening keys do not increase strictly, or there are more than {MOST_OPENING}")]
     Opening,
     /// An allocation failed.
     #[error("out of memory")]

@@ -36,7 +36,7 @@ impl<M: Running> Seat<M> {
     ///     match seat.add(rt, &set, Key(5)) {
     ///         Added::New => println!(rt; "5 is in the set now")?,
     ///         Added::Already => println!(rt; "5 was in the set already")?,
-    ///         Added::Full => println!(rt; "this seat adds no key any more")?,
+    ///         Added::Full => println!(rt; "this seat has used up its quota")?,
     ///     }
     pub fn add<R: Wait>(&mut self, rt: &R, set: &LiveSet<M>, key: Key) -> Added
         requires { self.old.set ≡ set.now }

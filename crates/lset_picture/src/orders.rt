@@ -29,7 +29,7 @@ pub(crate) fn put_heading(out: &mut String, picture: &Picture) -> Result<(), All
 }
 
 /// Appends the range of drawn moments, and the command-line options that draw the moments before and after them.
-/// Example: `moments 20 to 33 of 35; --to 19 goes before; --from 34 goes on`.
+/// Example: `moments 20 to 33 of 35; earlier: --to 19; later: --from 34`.
 pub(crate) fn put_cut(
     out: &mut String,
     picture: &Picture,
@@ -43,11 +43,11 @@ pub(crate) fn put_cut(
     }
     if drawing.before {
         let before = drawing.from.saturating_sub(1);
-        write!(out, "; --to {before} goes before")?;
+        write!(out, "; earlier: --to {before}")?;
     }
     if drawing.after {
         let next = u64::from(last) + 1;
-        write!(out, "; --from {next} goes on")?;
+        write!(out, "; later: --from {next}")?;
     }
     Ok(())
 }
@@ -77,8 +77,8 @@ fn put_place(out: &mut String, number: usize, standing: Standing) -> Result<(), 
     let fit = matches!(standing.point, Some(point) if !point.change);
     let open = matches!(standing.made, Some(made) if made.ended.is_none());
     let no_change = if fit { "  (no change)" } else { "" };
-    let still_open = if open { "  (still open)" } else { "" };
-    writeln!(out, " {reply}{no_change}{still_open}")
+    let pending = if open { "  (pending)" } else { "" };
+    writeln!(out, " {reply}{no_change}{pending}")
 }
 
 /// Returns the position of an entry relative to the drawn moments: the position of its linearization point if this

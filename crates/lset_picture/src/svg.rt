@@ -14,7 +14,7 @@ use lset_words::CallRecord;
 use std::alloc::{AllocError, Global};
 
 const LEGEND: &str =
-    "filled: changes the set    open: changes nothing, its reply fits there    dashed: still open";
+    "filled: changes the set    open: changes nothing, its reply fits there    dashed: pending";
 
 /// The maximum width of the sheet, in characters. The sheet is as wide as its longest line of text, up to this number.
 const MOST_CHARACTERS: usize = 255;

@@ -11,10 +11,10 @@ use std::alloc::{AllocError, Global};
 /// The width of a row's label, in characters.
 const LABEL: usize = 10;
 
-const LEGEND: &str = "* changes the set    o changes nothing, its reply fits there    > still open";
+const LEGEND: &str = "* changes the set    o changes nothing, its reply fits there    > pending";
 
 const LEGEND_OF_CUT: &str =
-    "* changes the set    o changes nothing, its reply fits there    > goes on    < began before";
+    "* changes the set    o changes nothing, its reply fits there    > ends later    < began earlier";
 
 /// Returns whether a thread's bar continues after the signs in `marks`. `before` is true if a bar was drawn up to these
 /// signs.

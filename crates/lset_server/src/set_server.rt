@@ -29,7 +29,7 @@ use thiserror::Error;
 pub enum ServeCause {
     /// Not all seats of the set were passed to `serve`. (Seats that were merged into another seat are passed with it.)
     /// No connection was accepted.
-    #[error("the seats do not hold all seats of the set")]
+    #[error("not all seats of the set were passed")]
     Seats,
     /// The system did not accept a connection.
     #[error("the system did not accept a connection")]

@@ -7,7 +7,7 @@ use thiserror::Error;
 pub enum WorkCause {
     /// The number of programs differs from the number of seats, or not all seats of the set were passed to `work`.
     /// (Seats that were merged into another seat are passed with it.) No thread was started.
-    #[error("the number of programs is not the number of seats, or seats are missing")]
+    #[error("the number of programs differs from the number of seats, or seats are missing")]
     Programs,
     /// The system refused to start a thread. The threads that had been started have ended.
     #[error("the system refused to start a thread")]

@@ -9,7 +9,7 @@ use std::alloc::{AllocError, Global};
 const AS_LEFT: &[u8] = b" and leaves it as it was left\n";
 
 const HINT: &str =
-    "that is few, and a race shows only if calls meet: take fewer keys, more threads, or pauses in the set\n";
+    "few calls overlap, and a race shows only if they do: use fewer keys, more threads, or pauses in the set\n";
 
 const CUT_OFF: &str =
     "the recording was cut off: some keys left fit, and those that were left are not known\n";
