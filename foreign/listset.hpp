@@ -117,7 +117,7 @@ enum class list : uint8_t { coarse, fine, optimistic, lazy, lock_free };
 enum class [[nodiscard]] added : uint8_t { is_false, is_true, is_full };
 
 /// Thrown if a call is refused; `code` is the reason. LISTSET_NONE_THERE means that the seat was moved from, dropped,
-/// gathered or closed, or that another thread is making a call from it.
+/// gathered or closed, or that another thread is in a call from the seat.
 struct fault : std::runtime_error {
   listset_fault code;
 
@@ -132,8 +132,9 @@ inline std::vector<uint32_t> keys_of(listset_seat &closed) {
   return keys;
 }
 
-/// A receipt, or nothing. A receipt covers the earlier calls of the seat that issued the receipt, of all seats that this seat
-/// had gathered, and of all receipts that this seat had accepted. It can be moved but not copied, and can be passed to any
+/// A receipt, or nothing. A seat issues a receipt for its calls so far. In the order of all calls, they precede the later
+/// calls of each seat that accepts the receipt. The receipt also covers the calls of all seats that its seat had gathered,
+/// and the calls that the receipts accepted by its seat cover. It can be moved but not copied, and can be passed to any
 /// thread.
 class receipt {
 public:
@@ -155,8 +156,8 @@ private:
 inline uint64_t most_reads(uint32_t seats, uint32_t quota, uint32_t opening) { return listset_most_reads(seats, quota, opening); }
 
 /// A thread's seat in a set (the right to call the set as one thread), or nothing. It can be moved but not copied, and
-/// only one thread at a time may use it. A call that begins while another thread is making a call from the seat throws
-/// `fault`. Seats are aligned to cache lines, since a call writes to its seat.
+/// only one thread at a time may use it. A call throws `fault` if another thread is in a call from the same seat. Seats are
+/// aligned to cache lines, since a call writes to its seat.
 class alignas(128) seat {
 public:
   seat() = default;
@@ -195,8 +196,8 @@ public:
     return answer == LISTSET_TRUE;
   }
 
-  /// Returns the smallest key of the set that is at least `key`. On a lock-free list the call can wait until another thread adds or removes
-  /// a key.
+  /// Returns the smallest key of the set that is at least `key`. On a lock-free list, the call can wait until another thread
+  /// adds or removes a key.
   std::optional<uint32_t> ceiling(uint32_t key) {
     use held(*this);
     uint32_t at = 0;
@@ -332,13 +333,13 @@ class renewed_set {
   static constexpr size_t MOST_OPENING = 1 << 20;
   static constexpr std::chrono::milliseconds LONG{5};
 
-  // Locks `lock`. The holder of `lock` can be in a `ceiling` on a lock-free list, which may retry until another call unlinks a
-  // marked node. So the waiting thread calls `add` with the seat in `helper`, if this seat has used up its quota: the `add`
-  // unlinks the node, and changes no key.
+  // Locks `lock`. The holder of `lock` can be in a `ceiling` on a lock-free list, which can retry until another call unlinks a
+  // marked node. If the seat in `helper` has used up its quota, the waiting thread therefore calls `add` with this seat: the
+  // `add` unlinks the node, but cannot add a key.
   //
-  // `helper` is the caller's own place (its seat with the seat's lock) if the caller is locking all places, otherwise null. If
-  // such a caller has waited for 5 ms, new calls of other threads wait for the caller, unless such a call could be needed to
-  // unlink the node.
+  // `helper` is the caller's own place (its seat with the seat's lock) if the caller is locking all places, otherwise null.
+  // After a caller with a `helper` has waited for 5 ms, new calls of other threads wait too, unless one of these calls could be
+  // needed to unlink the node.
   held taken(std::mutex &lock, place *helper = nullptr) {
     held it(lock, std::try_to_lock);
     for (const clock::time_point begun = clock::now(); !it; it.try_lock()) {
@@ -423,7 +424,7 @@ class renewed_set {
   }
 
   // Adds a key with the seat in `mine`, after an `add` returned full. Renews the set if an earlier renewal failed, or if `add`
-  // returns full again, unless no renewal can help (the quota is 0, or the set has too many keys).
+  // returns full again. Does not renew the set if that cannot help (the quota is 0, or the set has too many keys).
   added add_renewed(place &mine, uint32_t key) {
     all_taken all(*this, mine);
     if (now == stage::open) {

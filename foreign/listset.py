@@ -21,7 +21,8 @@ only one thread at a time uses a seat:
     mine.gather(other)
     keys = mine.close()
 
-A `Shared` set can be called by any thread. A `RenewedSet` has seats that do not run out of quota.
+Any thread can call a `Shared` set. A seat can add at most `quota` keys, but the seats of a `RenewedSet` do not run out of
+quota.
 
 Keys, numbers of seats and quotas are integers from 0 to 4294967295. An integer out of range raises ValueError, and
 anything else raises TypeError; the set is unchanged then.
@@ -267,7 +268,7 @@ def _told(code):
 
 
 def _number(given, what="key"):
-    """Returns `given` as an integer that fits in a uint32_t. (ctypes would truncate a larger integer to 32 bits.)"""
+    """Returns `given` as an integer from 0 to 2**32 - 1, or raises. (ctypes would truncate a larger integer to 32 bits.)"""
     try:
         number = operator.index(given)
     except TypeError:
@@ -299,8 +300,9 @@ def _closed_keys(closed):
 
 
 class Receipt:
-    """A receipt, which covers the earlier calls of the seat that issued the receipt, of all seats that this seat had gathered,
-    and of all receipts that this seat had accepted. It can be passed to any thread.
+    """A receipt. A seat issues a receipt for its calls so far. In the order of all calls, they precede the later calls of
+    each seat that accepts the receipt. The receipt also covers the calls of all seats that its seat had gathered, and the
+    calls that the receipts accepted by its seat cover. It can be passed to any thread.
     """
 
     def __init__(self):
@@ -315,8 +317,8 @@ class Receipt:
 
 class Seat:
     """A thread's seat in a set (the right to call the set as one thread), or nothing after it has been gathered or
-    closed. Only one thread at a time may use it: a call that begins while another thread is making a call from it
-    raises `Fault`.
+    closed. Only one thread at a time may use it: a call raises `Fault` if another thread is in a call from the same
+    seat.
     """
 
     def __init__(self):
@@ -389,8 +391,8 @@ class Seat:
         return bool(reply)
 
     def ceiling(self, key):
-        """Returns the smallest key of the set that is at least `key`, or None. On a lock-free list the call can wait until another thread adds
-        or removes a key."""
+        """Returns the smallest key of the set that is at least `key`, or None. On a lock-free list, the call can wait until
+        another thread adds or removes a key."""
         at = _U32()
         return at.value if self._reply(_CEILING, key, at) == AT else None
 
@@ -614,13 +616,13 @@ class RenewedSet:
             return keys
 
     def _lock(self, lock, helper=None):
-        """Locks `lock`. The holder of `lock` can be in a `ceiling` on a lock-free list, which may retry until another call
-        unlinks a marked node. So the waiting thread calls `add` with the seat in `helper`, if this seat has used up its quota:
-        the `add` unlinks the node, and changes no key.
+        """Locks `lock`. The holder of `lock` can be in a `ceiling` on a lock-free list, which can retry until another call
+        unlinks a marked node. If the seat in `helper` has used up its quota, the waiting thread therefore calls `add` with
+        this seat: the `add` unlinks the node, but cannot add a key.
 
         `helper` is the caller's own place (its seat with the seat's lock) if the caller is locking all places, otherwise None.
-        If such a caller has waited for 5 ms, new calls of other threads wait for the caller, unless such a call could be
-        needed to unlink the node.
+        After a caller with a `helper` has waited for 5 ms, new calls of other threads wait too, unless one of these calls
+        could be needed to unlink the node.
         """
         if lock.acquire(blocking=False):
             return
@@ -703,7 +705,7 @@ class RenewedSet:
 
     def _add_renewed(self, place, key):
         """Adds a key with the seat in `place`, after an add returned FULL. Renews the set if an earlier renewal failed, or if
-        the add returns FULL again, unless no renewal can help (the quota is 0, or the set has too many keys).
+        the add returns FULL again. Does not renew the set if that cannot help (the quota is 0, or the set has too many keys).
         """
         with self._all_taken(place):
             if self._stage == "open":

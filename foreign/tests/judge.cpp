@@ -52,7 +52,7 @@ static void expect_judged() {
   expect(wrong.status == LISTSET_WRONG_TEXT && wrong.text == "listset: line 4: Line\n", "judged with a wrong line");
 }
 
-// Checks that `gen` receives each argument with all its bits.
+// Checks that `gen` passes each argument on without truncation.
 static void expect_gen() {
   std::string head = "listset-schedule 1\nlist fine\nthreads 64\nquota 16384\n";
   expect(listset::gen("fine", 64, 16384, 0, UINT32_MAX, UINT64_MAX).text == head, "the values of a generated schedule");

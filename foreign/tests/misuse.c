@@ -144,7 +144,7 @@ static void reads_and_receipts(uint8_t kind) {
   for (int at = 0; at < 4; at++) expect("no steps", listset_most_reads(outside[at][0], outside[at][1], outside[at][2]), 0);
 }
 
-// Renews a set with three seats in five places, with arguments that `listset_renew` must refuse.
+// Calls `listset_renew` with arguments that it must refuse, for a set with three seats in an array of five.
 static void refused_renewals(uint8_t kind) {
   listset_seat seats[5] = {LISTSET_NONE, LISTSET_NONE, LISTSET_NONE, LISTSET_NONE, LISTSET_NONE}, out = LISTSET_NONE;
   uint32_t room[8];

@@ -165,7 +165,7 @@ static void expect_most_keys() {
   expect(set.close().size() == keys.size() + 1, "all keys");
 }
 
-// Renews a set with `renew` several times. Each renewed set is of the next list.
+// Calls `renew` several times. Each call opens a set of the next kind of list.
 static void expect_by_hand() {
   std::vector<seat> seats;
   seats.push_back(listset::open(list::lazy, 3, 1, {5}));

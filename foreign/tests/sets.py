@@ -15,9 +15,9 @@ ENDS = [0, 2**32 - 1]  # the smallest and the largest key
 
 
 def calls_of(seat, number, kinds):
-    """Makes calls with keys that all threads use, and with keys that only this thread uses. Returns, for each shared key,
-    the number of true adds minus true removes, and the thread's own keys that remain. `kinds` is the number of operations: 4,
-    or 3 without `ceiling`.
+    """Calls operations with keys that all threads use, and with keys that only this thread uses. Returns a list with the
+    number of true adds minus true removes for each shared key, and the thread's own keys that remain. `kinds` is the number
+    of operations: 4, or 3 without `ceiling`.
     """
     draws, net, own = random.Random(number), [0] * KEYS, set()
     for _ in range(CALLS):
@@ -196,7 +196,7 @@ def by_threads(run):
 
 
 def renewed_by_itself(kind, quota):
-    """Fills a set with a small quota in four threads. Each call must reply as if the set had no quota."""
+    """Adds keys in four threads to a set with a small quota. Each call must reply as if the set had no quota."""
     of = listset.RenewedSet(kind, THREADS, quota, [KEYS * 9])
 
     def run(number):
@@ -255,7 +255,7 @@ def shared(kind):
 
 
 def two_users():
-    """Checks that a call from a seat raises an error while another thread is making a call from the same seat."""
+    """Checks that a call from a seat raises an error while another thread is in a call from the same seat."""
     mine = listset.open("lazy", 1, 1)
     with mine._used():
         text = "no seat is here: it was moved, dropped, gathered or closed, or another thread is in a call from it"
@@ -270,7 +270,7 @@ def pages():
 
 
 def memory():
-    """Checks that sets without references are freed. Each of these sets has about 3 MB."""
+    """Checks that sets without references are freed. Each of these sets needs about 3 MB."""
     before = pages()
     for _ in range(60):
         listset.open_set("lazy", 8, 16384).split()
@@ -299,7 +299,7 @@ def side_by_side():
 
 
 def opened(at, number):
-    """Opens a set. `number` is the number of seats, the quota, the first key or the last key."""
+    """Opens a set. `at` selects the argument that is `number`: the number of seats, the quota, the first or the last key."""
     seats, quota, first, last = [number if at == it else it + 1 for it in range(4)]
     listset.open_set("lazy", seats, quota, [first, last])
 

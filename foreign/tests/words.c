@@ -33,7 +33,7 @@ static const struct {
     {"trace", listset_trace, listset_trace_with_chains},
 };
 
-// Joins the words, separated by zero bytes. Each word follows the text `before`. Returns the length.
+// Joins the words, with `before` in front of each word and a zero byte between two words. Returns the length.
 static size_t join(const char **words, int count, const char *before) {
   size_t length = 0;
   for (int at = 0; at < count; at++) {

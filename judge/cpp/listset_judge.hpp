@@ -3,7 +3,7 @@
 //     auto verdict = listset::judge<MySet>();
 //     ASSERT_TRUE(verdict) << verdict;             // GoogleTest; any other: if (!verdict) std::cerr << verdict
 //
-// MySet has add, remove and contains; or insert, erase, and contains or count. Threads call new sets, and the begin and
+// MySet has add, remove and contains; or insert, erase, and contains or count. Threads call new sets, and the start and
 // the end of each call are recorded. A judge decides whether some order of the calls explains their replies.
 //
 // The judge is liblistset if <listset.h> is included before this file. Otherwise it is the program named by the
@@ -65,13 +65,14 @@ inline namespace judged_by_program_in_gtest {
 inline namespace judged_by_program {
 #endif
 
-/// Options of a test. All are checked before the first set is created.
+/// Options of a test. All are checked before the first set is created. The runs of a test cycle through seven presets,
+/// which are built-in numbers of threads, calls and keys.
 struct options {
     /// The number of threads that call a set at the same time: 1 to 64. 0 selects the preset's number.
     unsigned threads = 0;
-    /// The number of calls of each thread: at least 1, and at most 1,000,000,000 for all threads together. 0 cycles
-    /// through the presets. After every 20,000 calls of all threads together, the calls are written to the file while
-    /// the threads wait.
+    /// The number of calls of each thread: at least 1, and at most 1,000,000,000 for all threads together. 0 selects the
+    /// preset's number. After every 20,000 calls of all threads together, the threads wait until these calls are written
+    /// to the file.
     unsigned calls = 0;
     /// The number of keys: 1 to 1,048,576. 0 selects the preset's number. With more than eight keys, half of the calls
     /// use the first four.
@@ -87,7 +88,7 @@ struct options {
     unsigned seconds = 10;
     /// After this many seconds, the test begins no new run: 1 to 604,800.
     unsigned within = 60;
-    /// The verdict is false if less than this percentage of the calls overlap a change of their key.
+    /// The verdict is false if less than this percentage of the calls overlap a call that adds or removes the same key.
     unsigned at_least = 0;
     /// The relative frequencies of add, remove and contains.
     unsigned adds = 1, removes = 1, finds = 1;
@@ -103,19 +104,19 @@ struct options {
 };
 
 /// The result of a test. It is true if some order explains each run, each run was completed, and at least `at_least` percent
-/// of the calls overlapped a change of their key. `<<` prints it.
+/// of the calls overlapped a call that added or removed the same key. `<<` prints it.
 struct verdict {
     bool ok = true;
     /// Whether the test was skipped because of LISTSET=skip, so that nothing was judged.
     bool is_skipped = false;
     uint64_t calls = 0;
-    /// The number of calls that overlapped a change of their key, as counted by the judge.
+    /// The number of calls that overlapped a call that added or removed the same key, as counted by the judge.
     uint64_t overlapped = 0;
     /// The seed of the failed run.
     uint64_t seed = 0;
     /// The judge's output about the failed run, and the file with the run's recording.
     std::string said, file;
-    /// The name of the judge, and its statement about its proof.
+    /// The name of the judge, and what the judge states about its own proof.
     std::string judge;
     /// The complete message.
     std::string text;
@@ -133,7 +134,8 @@ struct no_verdict : std::runtime_error {
 namespace judging {
 
 // The sizes of a run: the number of threads, of new sets used one after another, of calls per thread and set, and of
-// keys. The keys are the multiples of `times`. Threads wait for each other after every MEET calls, or only at the beginning.
+// keys. The keys are the multiples of `times`. Threads wait for each other after every MEET calls or, if `meets_once`, only at
+// the beginning.
 struct shape {
     const char *name;
     unsigned threads, sets, calls, keys, times;
@@ -263,8 +265,8 @@ struct slot {
     std::atomic<unsigned> begin, end;  // `begin` is 0 until the call begins, `end` until the call ends
 };
 
-// The calls of a run that are in the file: the length of the file, and a moment. The file contains all calls that began up to
-// this moment.
+// How much of a run is in the file: the length of the file, and the value of `tickets` at the last save. The file contains all
+// calls that had begun by then.
 struct saved {
     uint64_t length = 0;
     unsigned moment = 0;
@@ -633,7 +635,7 @@ inline std::string proof_in(const std::string &version) {
     return at == std::string::npos ? "proof unknown" : version.substr(at, version.find('\n', at) - at);
 }
 
-// The judge of a test: its name, its statement about its proof, and how to call it.
+// The judge of a test: its name, what it states about its own proof, and how to call it.
 struct judge_found {
     std::string name, proof;
     std::function<answer(const std::string &file)> asked_of;
@@ -835,8 +837,8 @@ template <class Make, class Key> struct tester {
         return found;
     }
 
-    // Writes a small file beside the recording, with the calls that show why a key is refused. Returns the part of the
-    // message that names this file.
+    // Writes a small file beside the recording: calls on one key that no order explains. Returns the part of the message that
+    // names this file.
     std::string alone(const std::string &path, const std::string &number) const {
         const std::string text = number.empty() || !by.only ? "" : by.only(path, number), file = path.substr(0, path.size() - 6) + "-key-" + number + ".calls";
         return !text.empty() && std::ofstream(file) << text << std::flush ? say(ALONE, file) : "";

@@ -2,7 +2,7 @@
 //
 //	func TestIsLinearizable(t *testing.T) { judge.Check(t, NewMySet) }
 //
-// MySet has Add, Remove and Contains. Goroutines call new sets, and the begin and the end of each call are recorded. A
+// MySet has Add, Remove and Contains. Goroutines call new sets, and the start and the end of each call are recorded. A
 // judge decides whether some order of the calls explains their replies.
 //
 // The judge is liblistset in a test with the tag `listset`, which needs cgo and pkg-config. Otherwise it is the program
@@ -40,7 +40,8 @@ type notKnown struct{}
 // NotKnown is the value of the panic if the outcome of a call is unknown.
 var NotKnown any = notKnown{}
 
-// Options are the options of a test. All of them are checked before the first set is created.
+// Options are the options of a test. All of them are checked before the first set is created. The runs of a test cycle
+// through seven presets, which are built-in numbers of threads, calls and keys.
 type Options struct {
 	Threads       int    // the number of goroutines that call a set at the same time: 1 to 64; 0 selects the preset's number
 	Calls         int    // the number of calls of each goroutine: at least 1, at most 1,000,000,000 for all together; 0 selects the preset's number; after every 20,000 calls, the goroutines wait until these calls are written to the file
@@ -50,7 +51,7 @@ type Options struct {
 	Seed          int64  // the random seed for the calls, keys and pauses of the first run; each later run uses the next seed
 	Seconds       int    // if no call begins or ends for this many seconds, a run is considered hung and is cut short: 1 to 3,600
 	Within        int    // after this many seconds, the test begins no new run: 1 to 604,800
-	AtLeast       int    // the test fails if less than this percentage of the calls overlap a change of their key
+	AtLeast       int    // the test fails if less than this percentage of the calls overlap a call that adds or removes the same key
 	Adds          int    // the relative frequency of Add among the calls
 	Removes       int    // the relative frequency of Remove among the calls
 	Finds         int    // the relative frequency of Contains among the calls
@@ -117,8 +118,8 @@ type shape struct {
 }
 
 // size has the sizes of a run: the number of goroutines, of new sets used one after another, of calls per goroutine and
-// set, and of keys. The keys are the multiples of times. Goroutines wait for each other after every manyMeet calls, or only
-// at the beginning.
+// set, and of keys. The keys are the multiples of times. Goroutines wait for each other after every manyMeet calls or, if
+// meetsOnce, only at the beginning.
 type size struct {
 	threads, sets, calls, keys, times int
 	meetsOnce                         bool
@@ -204,9 +205,9 @@ func (o Options) most(of func(size) int) (most int) {
 	return most
 }
 
-// Verdict is the result of a successful test: some order explains each run. It has the number of calls, the number of calls
-// that overlapped a change of their key (as counted by the judge), and the judge with its statement about its proof. String
-// formats it.
+// Verdict is the result of a successful test: some order explains each run. Overlapped is the number of calls that
+// overlapped a call that added or removed the same key, as counted by the judge. Judge is the judge's name, and what the
+// judge states about its own proof. String formats the verdict.
 type Verdict struct {
 	Calls, Overlapped int
 	Judge             string
@@ -296,7 +297,7 @@ func check(t Test, of func(keys int) (source, error), options []Options) {
 	}
 }
 
-// checkName is the environment variable that contains the name of a child process's Check.
+// checkName is the environment variable that tells a child process for which Check it was started.
 const checkName = "LISTSET_CHECK"
 
 var (
@@ -304,7 +305,7 @@ var (
 	lock   sync.Mutex
 )
 
-// nameOf returns the name of the test, followed by the number of its Check.
+// nameOf returns the name of the test and the number of this Check in the test.
 func nameOf(t Test) string {
 	lock.Lock()
 	defer lock.Unlock()
@@ -393,7 +394,8 @@ func judged(options Options, of func(keys int) (source, error), name string) (ve
 	return t.all()
 }
 
-// all performs the requested runs, each up to three times, and then more runs as long as few calls have overlapped.
+// all performs the requested runs, each up to three times, and then more runs as long as few calls have overlapped other
+// calls.
 func (t *tester) all() (verdict Verdict, err error) {
 	verdict.Judge = t.by.String()
 	began, o := time.Now(), t.options

@@ -47,14 +47,14 @@ func (t *text) set(to string) { t.length = uint32(copy(t.bytes[:], to)) }
 
 func (t *text) String() string { return string(t.bytes[:t.length]) }
 
-// saved describes the calls of a run that are in the file: the length of the file, and a moment. The file contains all calls
-// that began up to this moment.
+// saved describes how much of a run is in the file: the length of the file, and the value of tickets at the last save. The
+// file contains all calls that had begun by then.
 type saved struct {
 	length int64
 	moment uint32
 }
 
-// head has the numbers of a run that two processes can share: one process performs the run, and the other watches it.
+// head has the numbers of a run. Two processes can share it: one performs the run, the other watches the run.
 type head struct {
 	seed  int64
 	saves [2]saved
@@ -85,7 +85,7 @@ func newArea(options Options, source source) *area {
 
 func (a *area) bytes() int { return int(unsafe.Sizeof(head{})) + manyPart*int(unsafe.Sizeof(slot{})) }
 
-// lay uses this memory for the area of a run: first the head, then the slots.
+// lay makes this memory the area of a run: first the head, then the slots.
 func (a *area) lay(memory []byte) {
 	a.memory, a.head = memory, (*head)(unsafe.Pointer(&memory[0]))
 	a.slots = unsafe.Slice((*slot)(unsafe.Pointer(&memory[unsafe.Sizeof(head{})])), manyPart)

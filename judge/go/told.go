@@ -77,7 +77,7 @@ func (r *recording) judged(by *judgeFound, a *area, trouble string) (int, error)
 // ofKey matches the key in the judge's output.
 var ofKey = regexp.MustCompile(`of key (\d+) `)
 
-// firstOf returns the first of several lines of calls, and the number of further lines.
+// firstOf returns the first line of lines, and how many more lines there are.
 func firstOf(lines string) string {
 	all := strings.Split(strings.TrimSpace(lines), "\n")
 	if all[0] == "" {
@@ -102,8 +102,8 @@ func keyLine(a *area, number int) string {
 	return fmt.Sprintf(sayKeyIs, number, shown) + set
 }
 
-// alone writes a small file beside the recording, with the calls that show why a key is refused. It returns the part of the
-// message that names this file.
+// alone writes a small file beside the recording: calls on one key that no order explains. It returns the part of the message
+// that names this file.
 func (r *recording) alone(by *judgeFound, key string) string {
 	if by.command == nil {
 		return ""
@@ -125,7 +125,7 @@ func (r *recording) close() {
 
 // ---- the judge
 
-// judgeFound is the judge of a test: its name, its statement about its proof, and how to call it.
+// judgeFound is the judge of a test: its name, what it states about its own proof, and how to call it.
 type judgeFound struct {
 	name, proof string
 	answer      func(recording *os.File) (status int, said string)

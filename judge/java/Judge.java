@@ -44,7 +44,7 @@ import java.util.stream.Stream;
  * <pre>{@code @Test void isLinearizable() { System.out.println(Judge.judge(MySet::new)); }}</pre>
  *
  * <p>MySet is a {@code Set<Integer>}; any other set is called through three method references. Threads call new sets,
- * and the begin and the end of each call are recorded. {@code listset judge FILE} decides whether some order of the
+ * and the start and the end of each call are recorded. {@code listset judge FILE} decides whether some order of the
  * calls explains their replies.
  *
  * <p>The environment variable LISTSET names this program; if it is not set, {@code listset} in PATH is used. LISTSET
@@ -60,8 +60,8 @@ public final class Judge {
 
     /**
      * The sizes of a run: the number of threads, of new sets used one after another, of calls per thread and set, and
-     * of keys. The keys are the multiples of {@code times}. Threads wait for each other after every MEET calls, or only at
-     * the beginning.
+     * of keys. The keys are the multiples of {@code times}. Threads wait for each other after every MEET calls or, if
+     * {@code meetsOnce}, only at the beginning.
      */
     private record Shape(String name, int threads, int sets, int calls, int keys, int times, boolean meetsOnce) {
         Shape(String name, int threads, int sets, int calls, int keys, int times) { this(name, threads, sets, calls, keys, times, false); }
@@ -111,8 +111,9 @@ public final class Judge {
     private Judge() { }
 
     /**
-     * Options of a test. All of them are checked before the first set is created. A {@code with} method returns a
-     * changed copy and leaves the original options unchanged.
+     * Options of a test. All of them are checked before the first set is created. The runs of a test cycle through seven
+     * presets, which are built-in numbers of threads, calls and keys. A {@code with} method returns a changed copy and
+     * leaves the original options unchanged.
      */
     public static final class Options implements Serializable, Cloneable {
         private static final long serialVersionUID = 1;
@@ -126,8 +127,8 @@ public final class Judge {
 
         /**
          * Sets the number of calls of each thread: at least 1, and at most 1,000,000,000 for all threads together. 0
-         * selects the preset's number. After every 20,000 calls of all threads together, the calls are written to the
-         * file while the threads wait.
+         * selects the preset's number. After every 20,000 calls of all threads together, the threads wait until these
+         * calls are written to the file.
          */
         public Options withCalls(int it) { return with(made -> made.calls = it); }
 
@@ -159,8 +160,8 @@ public final class Judge {
         public Options withWithin(int it) { return with(made -> made.within = it); }
 
         /**
-         * Sets the percentage of calls that must overlap a change of their key. If there are fewer, the test fails with
-         * {@link TooFew}.
+         * Sets the percentage of calls that must overlap a call that adds or removes the same key. If fewer calls do, the
+         * test fails with {@link TooFew}.
          */
         public Options withAtLeast(int it) { return with(made -> made.atLeast = it); }
 
@@ -235,9 +236,9 @@ public final class Judge {
     }
 
     /**
-     * The result of a successful test: some order explains each run. It has the number of calls, the number of calls that
-     * overlapped a change of their key (as counted by the judge), and the judge with its statement about its proof. {@code
-     * toString} formats it.
+     * The result of a successful test: some order explains each run. {@code overlapped} is the number of calls that
+     * overlapped a call that added or removed the same key, as counted by the judge. {@code judge} is the judge's name,
+     * and what the judge states about its own proof. {@code toString} formats the result.
      */
     public record Verdict(long calls, long overlapped, String judge) {
         @Override public String toString() {
@@ -248,7 +249,7 @@ public final class Judge {
     /** Returns whether so few calls overlapped that the verdict {@code ok} means little. */
     private static boolean isFew(long overlapped, long calls) { return overlapped * 100 < calls * ENOUGH; }
 
-    /** A failed run: the judge's output, and the file with the recording. */
+    /** A failed run, with its seed, the judge's output, and the file with the recording. */
     public static class Failed extends AssertionError {
         private static final long serialVersionUID = 1;
         public final long seed;
@@ -417,8 +418,8 @@ public final class Judge {
         }
 
         /**
-         * Writes a small file beside the recording, with the calls that show why a key is refused. Returns the part of the
-         * message that names this file.
+         * Writes a small file beside the recording: calls on one key that no order explains. Returns the part of the message
+         * that names this file.
          */
         private String alone(Path file, String key) throws IOException {
             Answer answer = program.answer("judge", "--only", key, file.toString());
@@ -444,8 +445,8 @@ public final class Judge {
         private static final int NO = 0, YES = 1, UNKNOWN = 2;
 
         /**
-         * Converts a number to a key. Each call creates a new object. Without a function for keys, the key is a
-         * multiple of the number.
+         * Converts a number to a key. Each call creates a new object. If the test has no function for keys, the key is the
+         * number times {@code times}.
          */
         @SuppressWarnings("unchecked")
         K key(int number, int times) { return keys == null ? (K) Integer.valueOf(number * times) : keys.apply(number); }
@@ -470,9 +471,9 @@ public final class Judge {
     /** The memory of a run, which JVMs can share. It contains the calls that have not been saved in the file yet. */
     private record Area(Options how, ByteBuffer memory) {
         private static final VarHandle INT = MethodHandles.byteBufferViewVarHandle(int[].class, ByteOrder.nativeOrder());
-        // Offsets in the memory. IS_HERE: whether the child JVM has started. SAVES: two records about the calls that are
-        // saved in the file, each with the length of the file as a long and a moment; the file contains all calls that began
-        // up to this moment. SAVE: the index of the valid record. SHAPE: six numbers. WHY and FILE: texts.
+        // Offsets in the memory. IS_HERE: whether the child JVM has started. SAVES: two records about the last save, each with
+        // the length of the file as a long and the value of TICKETS then; the file contains all calls that had begun by then.
+        // SAVE: the index of the valid record. SHAPE: the six numbers of a Shape. WHY and FILE: texts.
         private static final int TICKETS = 0, THERE = 4, DONE = 8, BEGUN = 12, AT = 16, STOPPING = 20, IS_HERE = 24, IS_BUSY = 28, SEED = 32, SAVE = 40,
             SAVES = 48, SAVED = 16, MOMENT = 8, SHAPE = SAVES + 2 * SAVED, WHY = SHAPE + 24, FILE = WHY + 4 + 240, SLOTS = FILE + 4 + 1024;
         private static final int BEGIN = 0, END = 4, CALL = 8, KEY = 12, REPLY = 16, THREAD = 20, SLOT = 24; // offsets in a call; the calls of one thread are adjacent in the memory
@@ -493,7 +494,7 @@ public final class Judge {
             return new Shape("", get(SHAPE), get(SHAPE + 4), get(SHAPE + 8), get(SHAPE + 12), get(SHAPE + 16), get(SHAPE + 20) == 1);
         }
 
-        /** Prepares the memory for the run with this seed, and starts the run. Its calls are written to the file. */
+        /** Prepares the memory for the run with this seed, and starts the run, which writes its calls to the file. */
         void begin(long seed, Shape of, Path file) {
             for (int at = 0; at < SIZE; at += 4) if (at != IS_HERE) memory.putInt(at, 0);
             memory.putLong(SEED, seed);
@@ -909,8 +910,8 @@ public final class Judge {
     private record Answer(String said, int status) { }
 
     /**
-     * The program that judges: its name, the command and its first arguments, and its statement about its proof.
-     * {@code toString} returns the name and this statement.
+     * The program that judges: its name, the command with its first arguments, and what the program states about its own
+     * proof. {@code toString} returns the name and this statement.
      */
     private record Program(String name, List<String> command, String proof) {
         private static final Pattern OVERLAPPED = Pattern.compile("ok [0-9]+ calls\n([0-9]+) of them");

@@ -3,7 +3,7 @@
     def test_is_linearizable():
         print(listset_judge.judge(MySet))
 
-MySet() has `add` and `remove`, which return True or False, and `contains` or `in`. Threads call new sets, and the begin
+MySet() has `add` and `remove`, which return True or False, and `contains` or `in`. Threads call new sets, and the start
 and the end of each call are recorded. A judge decides whether some order of the calls explains their replies.
 
 The judge is the module `listset` if it can be imported. Otherwise it is the program named by the environment variable
@@ -103,9 +103,9 @@ NUMBER = "the variable %s is %s, but must be a number from %s to %s"
 
 @dataclasses.dataclass(frozen=True)
 class Verdict:
-    """The result of a successful test: some order explains each run. It has the number of calls, the number of calls that
-    overlapped a change of their key (as counted by the judge), and the judge with its statement about its proof. str()
-    formats it.
+    """The result of a successful test: some order explains each run. `overlapped` is the number of calls that overlapped a
+    call that added or removed the same key, as counted by the judge. `judge` is the judge's name, and what the judge states
+    about its own proof. str() formats the result.
     """
 
     calls: int
@@ -231,7 +231,7 @@ def judge(make: Callable[[], Any], *, threads: int | None = None, calls: int | N
     seed -- the random seed for the calls, keys and pauses of the first run; each later run uses the next seed
     seconds -- if no call begins or ends for this many seconds, a run is considered hung and is cut short: 1 to 3,600
     within -- after this many seconds, the test begins no new run: 1 to 604,800
-    at_least -- raises TooFew if less than this percentage of the calls overlap a change of their key
+    at_least -- raises TooFew if less than this percentage of the calls overlap a call that adds or removes the same key
     adds, removes, finds -- the relative frequencies of add, remove and contains
     own_process -- if False, sets are called in this process, which crashes or hangs with them; useful for debuggers
                    and coverage
@@ -320,8 +320,8 @@ class Tester:
         return KEY_IS % (number, key) + (IN_SET % (one + 1) if shape.sets > 1 else "")
 
     def alone(self, file: pathlib.Path, key: str) -> str:
-        """Writes a small file beside the recording, with the calls that show why a key is refused. Returns the part of the
-        message that names this file.
+        """Writes a small file beside the recording: calls on one key that no order explains. Returns the part of the message
+        that names this file.
         """
         text = self.by.only(file, key) if key else ""
         if not text:
@@ -361,7 +361,8 @@ class Run:
     run continues.
     """
 
-    # SLOT is a call: begin, end (or 0), thread, key, operation, reply. COUNT is a thread's progress.
+    # SLOT is the format of a call: begin, end (0 while it is pending), thread, key, operation, reply. COUNT is the format of a
+    # counter for the progress of a thread.
     SLOT, COUNT = struct.Struct("=IIIIBB"), struct.Struct("=Q")
     SAVED = struct.Struct("=QI")  # the length of the file, and the moment when the last call in the file began
     AT = 240  # the offset of the run's progress in the memory; the error precedes it
@@ -386,7 +387,7 @@ class Run:
         return self.SAVED.unpack_from(self.slots, self.at_saved)
 
     def fail(self, said, at=GOING):
-        """Stores an error. Only the first error is kept."""
+        """Stores an error and the progress `at`. Only the first error is kept."""
         if not self.slots[0]:
             said = said.encode()[: self.AT]
             self.slots[: len(said)] = said
@@ -520,7 +521,7 @@ class Run:
             self.there.abort()
 
     def save(self, file, lines, last):
-        """Appends lines to the file, and marks all calls that began up to the moment `last` as saved."""
+        """Appends lines to the file, and marks all calls with a begin of at most `last` as saved."""
         text = "".join(lines).encode()
         file.write(text)
         # (if the process ends before this step, its last calls are only in memory)
@@ -642,7 +643,7 @@ def pausing(pauses, draw, before):
 
 
 class Judge:
-    """A judge: the library or a program. str() returns its name and its statement about its proof."""
+    """A judge: the library or a program. str() returns its name, and what it states about its own proof."""
 
     def __init__(self):
         try:

@@ -4,7 +4,7 @@ per thread.
     def test_redis_is_linearizable():
         print(listset_judge.judge(lambda: listset_servers.Redis(6379), pauses=0))
 
-Use `pauses=0`: pauses are for sets in Python. In a client, they hide most errors of a replica.
+Use `pauses=0`: pauses are for sets in Python. In a client of a server, pauses hide most errors of a replica.
 
 If a reply does not arrive in time, or is lost with its connection, the outcome is unknown: the call returns None, and
 the thread opens a new connection for its next call. `listset_servers.Redis(6379, read_at=6380)` writes to one address

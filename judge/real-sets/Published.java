@@ -49,7 +49,7 @@ final class Published {
         judge(name, make, (map, key) -> map.putIfAbsent(key, true) == null, (map, key) -> map.remove(key) != null, Map::containsKey);
     }
 
-    /** Judges the keys of a map that has no atomic call to add a key except {@code put}. */
+    /** Judges the keys of a map whose only atomic call that adds a key is {@code put}. */
     private static void judgePuts(String name, Judge.Make<Map<Integer, Boolean>> make) {
         judge(name, make, (map, key) -> map.put(key, true) == null, (map, key) -> map.remove(key) != null, Map::containsKey);
     }

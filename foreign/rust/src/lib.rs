@@ -28,11 +28,11 @@ pub use shared::Shared;
 
 use calls::{of_room, of_text, of_two_texts};
 
-/// The error of the program `listset`.
+/// The error that the program `listset` would report.
 #[derive(Clone, Debug, PartialEq, Eq)]
 pub struct Wrong {
     /// The text that the program would print: the line about the error, the first error of an order, or the trace up to
-    /// an event that is not enabled.
+    /// the first event that cannot happen.
     pub text: String,
     /// The exit status: 1 for a wrong text, 2 for a wrong argument, 3 if memory ran out.
     pub status: u8,

@@ -52,7 +52,7 @@ struct Place {
     part: Mutex<Part>,
 }
 
-/// The data of one place: its seat, and numbers for the next renewal. (A place belongs to one thread at a time.)
+/// The part of a place that its lock protects: the seat, and counts for the next renewal.
 #[derive(Debug)]
 struct Part {
     seat: Seat,
@@ -196,13 +196,13 @@ impl RenewedSet {
         Ok(keys)
     }
 
-    /// Locks `lock`. The holder of `lock` can be in a `ceiling` on a lock-free list, which may retry until another call
-    /// unlinks a marked node. So the waiting thread calls `add` with the seat in `helper`, if this seat has used up its
-    /// quota: the `add` unlinks the node, and changes no key.
+    /// Locks `lock`. The holder of `lock` can be in a `ceiling` on a lock-free list, which can retry until another call
+    /// unlinks a marked node. If the seat in `helper` has used up its quota, the waiting thread therefore calls `add` with
+    /// this seat: the `add` unlinks the node, but cannot add a key.
     ///
     /// `helper` is the caller's own place (its seat with the seat's lock) if the caller is locking all places, otherwise
-    /// `None`. If such a caller has waited for 5 ms, new calls of other threads wait for the caller, unless such a call could
-    /// be needed to unlink the node.
+    /// `None`. After a caller with a `helper` has waited for 5 ms, new calls of other threads wait too, unless one of these
+    /// calls could be needed to unlink the node.
     fn taken<'a, T>(&self, lock: &'a Mutex<T>, mut helper: Option<&mut Part>) -> Result<MutexGuard<'a, T>, Fault> {
         let begun = Instant::now();
         loop {
@@ -261,7 +261,8 @@ impl RenewedSet {
     }
 
     /// Adds a key with the seat at index `place`, after an `add` returned `Full`. Renews the set if an earlier renewal
-    /// failed, or if `add` returns `Full` again, unless no renewal can help (the quota is 0, or the set has too many keys).
+    /// failed, or if `add` returns `Full` again. Does not renew the set if that cannot help (the quota is 0, or the set has
+    /// too many keys).
     fn add_renewed(&self, place: usize, key: u32) -> Result<Added, Fault> {
         let mut all = self.all(place)?;
         if all.stage() == Stage::Open {

@@ -93,15 +93,15 @@ mod tests {
 
     use super::*;
 
-    /// Executes one call of each operation in a thread. Returns the replies, or `None` if they do not arrive.
+    /// Calls each operation once, in a new thread. Returns the replies, or `None` if they do not arrive in time.
     fn calls_in_a_thread(set: &Arc<Shared>) -> Option<(Added, bool, Option<u32>, bool)> {
         let (set, (told, heard)) = (Arc::clone(set), mpsc::channel());
         std::thread::spawn(move || told.send((set.add(7), set.contains(7), set.ceiling(0), set.remove(7))));
         heard.recv_timeout(Duration::from_secs(20)).ok()
     }
 
-    /// Tests calls while only one seat is free. Two threads run one after the other, and at most one of them begins its
-    /// search at the free seat.
+    /// Tests calls while only one seat is free. Two threads call the set one after the other, so at least one of them finds
+    /// its first seat occupied.
     #[test]
     fn a_call_takes_a_seat_that_no_other_uses() {
         for (seats, free) in [2, 3, 8].into_iter().flat_map(|seats| (0..seats).map(move |free| (seats, free))) {

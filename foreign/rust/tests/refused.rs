@@ -34,8 +34,8 @@ unsafe impl GlobalAlloc for Own {
 #[global_allocator]
 static OWN: Own = Own;
 
-// For each thread: the number of its allocations so far, the number of the allocation that fails (0: none), and the number of
-// its blocks.
+// For each thread: the number of its allocations so far, which allocation fails (0: none), and the number of its blocks that
+// are not freed yet.
 thread_local! {
     static ASKED: Cell<usize> = const { Cell::new(0) };
     static REFUSED: Cell<usize> = const { Cell::new(0) };
@@ -69,7 +69,7 @@ unsafe extern "C" fn free(block: *mut c_void) {
     __libc_free(block)
 }
 
-/// The step that failed while a set was used.
+/// The first step that failed while a set was opened, used and closed.
 #[derive(PartialEq)]
 enum Told {
     Open,
@@ -77,7 +77,7 @@ enum Told {
     Nothing,
 }
 
-/// Opens, uses and closes a set with three seats. The allocation with the number `refused` fails.
+/// Opens, uses and closes a set with three seats. Allocation number `refused` fails.
 fn life(list: List, refused: usize) -> Told {
     ASKED.with(|it| it.set(0));
     BLOCKS.with(|it| it.set(0));

@@ -12,7 +12,7 @@ template <class K> struct Right {
     bool remove(const K &key) { std::lock_guard held(lock); return keys.erase(key) > 0; }
     bool contains(const K &key) { std::lock_guard held(lock); return keys.count(key) > 0; }
 };
-// A set with the names of the standard library, but without a removal.
+// A set with the method names of the standard library, but without `erase`.
 struct AddsOnly {
     std::set<unsigned> keys;
     std::mutex lock;

@@ -86,7 +86,7 @@ final class Sets {
         }
     }
 
-    /** A set with the three calls. Its subclasses inherit them. */
+    /** A set whose subclasses inherit add, remove and contains. */
     abstract static class Inherited {
         final Set<Integer> keys = new ConcurrentSkipListSet<>();
 

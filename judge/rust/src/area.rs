@@ -1,4 +1,7 @@
 //! Performs a run, and records its calls in memory that can be shared with the set's own process.
+//!
+//! A call is recorded with two moments, its begin and its end. A moment is a value of the counter `Tickets`, which grows
+//! at each begin and each end of a call.
 use std::any::Any;
 use std::fs::File;
 use std::io::{self, Seek, SeekFrom, Write};
@@ -23,8 +26,8 @@ const OVER: u32 = 2;
 const FAILED: u32 = 3;
 const UNMADE: u32 = 4;
 
-/// The positions of a run's numbers in memory: the counter of moments, the progress, the index of the valid record in
-/// `SAVES`, and others.
+/// The positions of a run's numbers in memory. `Tickets` is the counter of moments, `Phase` the progress, and `Save` the
+/// index of the valid record in `SAVES`.
 #[derive(Clone, Copy)]
 enum At {
     Tickets,
@@ -90,7 +93,7 @@ impl Row {
 }
 
 impl Area {
-    /// The size of an area, as a number of `u32`s.
+    /// The number of `u32`s in an area.
     pub const SIZE: usize = SIZE;
 
     /// Creates an area in memory for `Area::SIZE` numbers.
@@ -189,7 +192,7 @@ impl Area {
         self.set(At::IsStopping, 1);
     }
 
-    /// Returns the current moment.
+    /// Returns the current value of the counter `Tickets`.
     pub fn moment(&self) -> u32 {
         self.get(At::Tickets)
     }

@@ -7,7 +7,7 @@ use std::process::{Command, Stdio};
 use crate::words::*;
 use crate::{no_verdict, Failure};
 
-/// A judge, and its statement about its proof.
+/// A judge. `proof` is what the judge states about its own proof.
 pub struct Judge {
     name: String,
     proof: String,
@@ -17,13 +17,13 @@ pub struct Judge {
 
 /// The verdict on a recording.
 pub enum Judged {
-    /// Some order explains the calls. `overlapped` is the number of calls that overlapped a change of their key.
+    /// Some order explains the calls. `overlapped` is the number of calls that overlapped a call that changed the same key.
     Ok { overlapped: u64 },
     /// No order explains the calls. Contains the judge's output.
     Refused(String),
 }
 
-/// The exit status, if there is one, and the output.
+/// The exit status (`None` if a signal ended the program) and the output.
 type Answer = (Option<i32>, String);
 
 impl fmt::Display for Judge {

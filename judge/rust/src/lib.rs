@@ -8,7 +8,7 @@
 //! ```
 //!
 //! `MySet` has `new`, `add`, `remove` and `contains`; for any other set, pass closures to [`judge`]. Threads call new
-//! sets, and the begin and the end of each call are recorded. A judge decides whether some order of the calls explains
+//! sets, and the start and the end of each call are recorded. A judge decides whether some order of the calls explains
 //! their replies.
 //!
 //! The judge is `liblistset` if `build.rs` finds it. Otherwise it is the program named by the environment variable
@@ -38,14 +38,15 @@ use judges::Judge;
 use recording::Recording;
 use words::*;
 
-/// Options of a test. All of them are checked before the first set is created.
+/// Options of a test. All of them are checked before the first set is created. The runs of a test cycle through seven
+/// presets, which are built-in numbers of threads, calls and keys.
 #[derive(Clone, Debug)]
 pub struct Options {
     /// The number of threads that call a set at the same time: 1 to 64. 0 selects the preset's number.
     pub threads: u32,
-    /// The number of calls of each thread: at least 1, and at most 1,000,000,000 for all threads together. 0 cycles
-    /// through the presets. After every 20,000 calls of all threads together, the calls are written to the file while
-    /// the threads wait.
+    /// The number of calls of each thread: at least 1, and at most 1,000,000,000 for all threads together. 0 selects the
+    /// preset's number. After every 20,000 calls of all threads together, the threads wait until these calls are written
+    /// to the file.
     pub calls: u32,
     /// The number of keys: 1 to 1,048,576. 0 selects the preset's number. With more than eight keys, half of the calls
     /// use the first four.
@@ -62,7 +63,8 @@ pub struct Options {
     pub seconds: u32,
     /// After this many seconds, the test begins no new run: 1 to 604,800.
     pub within: u32,
-    /// The test fails with `TooFew` if less than this percentage of the calls overlap a change of their key.
+    /// The test fails with `TooFew` if less than this percentage of the calls overlap a call that adds or removes the same
+    /// key.
     pub at_least: u32,
     /// The relative frequencies of `add`, `remove` and `contains`.
     pub shares: [u32; 3],
@@ -103,8 +105,8 @@ pub(crate) struct Range {
 }
 
 /// The sizes of a run: the number of threads, of new sets used one after another, of calls per thread and set, and of
-/// keys. The keys are the multiples of `times`. Threads wait for each other after every `MEET` calls, or only at the
-/// beginning.
+/// keys. The keys are the multiples of `times`. Threads wait for each other after every `MEET` calls or, if
+/// `meets_once`, only at the beginning.
 #[derive(Clone, Copy)]
 pub(crate) struct Shape {
     name: &'static str,
@@ -196,9 +198,9 @@ impl Options {
 #[non_exhaustive]
 pub struct Verdict {
     pub calls: u64,
-    /// The number of calls that overlapped a change of their key, as counted by the judge.
+    /// The number of calls that overlapped a call that added or removed the same key, as counted by the judge.
     pub overlapped: u64,
-    /// The name of the judge, and its statement about its proof.
+    /// The name of the judge, and what the judge states about its own proof.
     pub judge: String,
 }
 
@@ -304,12 +306,12 @@ macro_rules! judge {
     };
 }
 
-/// How a test creates its sets, and how it calls them: each key has a number, and a call receives the number of its key.
+/// How a test creates sets and calls them. `reply` calls a set with the number of a key; `shown` formats the key.
 struct Source<'a, S> {
     make: &'a dyn Fn() -> S,
     reply: Replies<'a, S>,
     shown: &'a dyn Fn(u32) -> String,
-    /// Whether the test has a function that converts numbers to keys.
+    /// Whether the test has its own function that converts numbers to keys.
     has_keys: bool,
 }
 

@@ -1,4 +1,4 @@
-//! The memory of a run.
+//! The memory of a run: numbers that the test and its child process can share.
 use std::fs::File;
 use std::io;
 use std::ops::Deref;

@@ -69,8 +69,8 @@ impl<'a> Recording<'a> {
         }
     }
 
-    /// Writes a small file beside the recording, with the calls that show why a key is refused. Returns the part of the
-    /// message that names this file.
+    /// Writes a small file beside the recording: calls on one key that no order explains. Returns the part of the message
+    /// that names this file.
     fn alone(&self, key: u32) -> String {
         let stem = self.path.file_stem().unwrap_or_default().to_string_lossy();
         let small = self.path.with_file_name(format!("{stem}-key-{key}.calls"));
@@ -86,7 +86,7 @@ fn key_in(refused: &str) -> Option<u32> {
     refused.split("of key ").nth(1)?.split(' ').next()?.parse().ok()
 }
 
-/// Returns the first of several lines of calls, and the number of further lines.
+/// Returns the first line of `lines`, and how many more lines there are.
 fn first_of(lines: &str) -> String {
     match lines.lines().count() {
         0 => "no call".to_string(),
