@@ -3,8 +3,9 @@
 //! PROTOCOL is `listset`, or `redis` with a set named `s`. Each client has its own thread and connection and sends
 //! REQUESTS requests, which are prepared before the first one is sent: one third each of add, remove and contains, on
 //! KEYS keys. A client sends AT_ONCE requests in one write, waits for their answers, and then sends the next AT_ONCE
-//! requests. Prints the requests per second, from the first write to the last answer of all clients, and the median and
-//! the 99th percentile of the microseconds from a write to the last of its answers. Each read ends within ten seconds.
+//! requests. Prints three numbers: the requests per second, from the first write to the last answer of all clients; and the
+//! median and the 99th percentile of the microseconds from a write to the last of its answers. A read fails after ten
+//! seconds.
 
 use std::io::{Read, Write};
 use std::net::TcpStream;
@@ -36,7 +37,7 @@ impl Protocol {
         }
     }
 
-    /// Returns `true` if an answer can begin with this byte. listset answers TRUE or FALSE, redis a number.
+    /// Returns `true` if an answer can begin with this byte. listset answers TRUE or FALSE, redis a colon and a number.
     fn begins(self, byte: u8) -> bool {
         match self {
             Protocol::Listset => b"TF".contains(&byte),

@@ -3,9 +3,9 @@
 //!   peer each KIND THREADS QUOTA CALLS KEYS SEED     times each call, like `bench_calls KIND each ..`
 //!   peer whole KIND ..                               times rounds of all calls, like `bench_calls KIND whole ..`; here KIND can also be
 //!                                                    `mutex-tree`, which has no quota
-//! The times are printed on standard error. `each` prints, for each operation, the nanoseconds of all threads, and the number
-//! of calls that are left out because they lasted longer than `LONGEST`, for example because the thread was preempted.
-//! `whole` prints the elapsed nanoseconds. The output is the number of calls.
+//! The times are printed on standard error. `each` prints two numbers for each operation: the nanoseconds of all threads, and
+//! how many calls were left out because they lasted longer than `LONGEST`, for example because the thread was preempted.
+//! `whole` prints the elapsed nanoseconds. Standard output has the number of calls.
 
 mod lists;
 
@@ -16,7 +16,7 @@ use std::sync::Mutex;
 use std::time::{Duration, Instant};
 
 const LONGEST: u64 = 200_000;
-/// The minimum time of all rounds together. Rounds are repeated until they have lasted this long.
+/// Rounds are repeated until all of them together have lasted this long.
 const ENOUGH: Duration = Duration::from_millis(100);
 const OPS: [(Op, &str); 3] = [(Op::Add, "add"), (Op::Remove, "remove"), (Op::Contains, "contains")];
 
@@ -100,7 +100,7 @@ fn at_once<T: Send>(programs: &[Vec<Call>], run: impl Fn(u64, &[Call]) -> T + Sy
     })
 }
 
-/// Runs each thread's program with `run`. No thread makes a call before all threads have started.
+/// Runs each thread's program with `run`. No thread calls the set before all threads have started.
 fn together<T: Send>(programs: &[Vec<Call>], run: impl Fn(u64, &[Call]) -> T + Sync) -> Vec<T> {
     let there = AtomicUsize::new(0);
     at_once(programs, |thread, calls| {

@@ -8,7 +8,7 @@ from crates_txt import TOP, lines_of
 
 
 class List:
-    """The names of a list: its name in files (such as lock-free), its step table, its Kind, its crate and its type."""
+    """The names of a list: in texts (such as lock-free), of its step table, in the enum Kind, of its crate and of its type."""
 
     def __init__(self, word):
         self.word, self.table = word, word.replace("-", "_")
@@ -16,7 +16,7 @@ class List:
         self.crate, self.type = f"lset_{self.table}", f"{self.kind}List"
 
     def has_reads(self, root=TOP):
-        """Returns whether `contains` and `ceiling` of the list use no lock and have rows of their own in its step table."""
+        """Returns whether `contains` and `ceiling` of the list use no lock. Its table of atomic steps then has rows for them."""
         return f"impl OpenReads for {self.type}" in (root / "crates" / self.crate / "src/lib.rt").read_text()
 
 
@@ -26,7 +26,7 @@ def lists(root=TOP):
     return [List(it.removeprefix("lset_").replace("_", "-")) for it in found]
 
 
-# The files of code that must name each list, and the lines or items that contain the name. build/new_list writes them.
+# The source files that must name each list, and the lines or items that contain the name. build/new_list writes them.
 CODE = {
     "crates/lset_words/src/lib.rt": ["    {kind},"],
     "crates/lset_text/src/words.rt": ['Kind::{kind} => "{word}"', "is_word_of(piece, Kind::{kind})"],

@@ -80,7 +80,7 @@ def quoted(text):
 
 
 def entry(name, text):
-    """Returns an entry of a list in roff, with a name and its text. Further lines can follow."""
+    """Returns an entry of a list in roff: a name and the first line of its text."""
     return [".TP", f"\\fB{quoted(name)}\\fR", *([quoted(text)] if text else [])]
 
 

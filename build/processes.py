@@ -1,4 +1,4 @@
-"""Starts processes that end when the script ends, for whatever reason."""
+"""Starts processes that end when the script ends, even if the script is killed."""
 
 import contextlib
 import os
@@ -50,7 +50,7 @@ def _group():
 
 
 def guarded():
-    """Returns a prefix for a command. If this process ends, for whatever reason, the command and all its child processes are
+    """Returns a prefix for a command. When this process ends, even if it is killed, the command and all its child processes are
     killed.
     """
     with _lock:
@@ -80,7 +80,7 @@ def room(kind):
     try:
         yield pathlib.Path(folder)
     finally:
-        # (processes that have just been killed may still be writing to the folder)
+        # (processes that have just been killed can still be writing to the folder)
         for _ in range(20):
             shutil.rmtree(folder, ignore_errors=True)
             if not os.path.exists(folder):

@@ -1,5 +1,5 @@
-"""The text of a program or a library about its version, in four lines for scripts: the version; the kit and the logic; the
-commit, 0 if the build is not from a commit; and whether it is proved (`PROOFS`).
+"""The version text of a program or a library: four lines that scripts can read. They state the version; the kit and the
+logic; the commit (zeros if the build is not from a commit); and whether the build is proved.
 """
 
 import pathlib

@@ -1,5 +1,5 @@
-"""Checks docs/BELIEVE.md and believed.txt. Reports missing names, and names that do not exist: files of definitions that
-public contracts reach, the names of these definitions, and functions with their clauses.
+"""Checks docs/BELIEVE.md and believed.txt, which list the definitions that a reader of the public contracts must believe.
+Reports definitions and files that are missing there, and names of definitions, functions and clauses that do not exist.
 
 The search begins with the names in the signature and the clauses of each public function, and in the statements of
 public types and traits. It follows definitions by name. It does not follow lemmas, which the prover checks, or
@@ -20,7 +20,7 @@ USE = re.compile(r"^\s*(?:ghost )?(?:pub )?use Rattle\.([^\s{;]+?)(?:\.\{([^}]*)
 KINDS = {"abbrev", "unfoldable", "opaque", "record", "data"}
 IMPORT = re.compile(r"(?:pub )?(?:use|mod|infixl|infixr|infix|syntax)\b")
 HEAD = re.compile(rf"((?:(?:pub|{'|'.join(KINDS)}) )*)({NAME})((?: [({{].*?[)}}])* :)?")
-# Matches functions in a cell of a table, followed by clauses in parentheses
+# Matches functions in a cell of a table, followed by clauses in parentheses.
 SAID_BY = re.compile(r"((?:`[a-z]\w+::[\w:{}, ]+`,? ?)+)(?:\(((?:`\w+`,? ?)+)\))?")
 IN_BRACKETS = re.compile(r"(?<!\w)\[([A-Z][a-z ][^][]*)\](?!\()")
 

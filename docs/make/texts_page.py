@@ -4,7 +4,7 @@ faults`). Also reports differences between the sources and docs/TEXTS.md or docs
 
 import re
 
-# The kinds of files with lines that can be refused, each with its name in `listset faults`.
+# The kinds of files that can contain a wrong line, each with its name in `listset faults`.
 FILES = {"schedule": "a schedule", "draft": "a draft", "report": "a report", "recording": "recorded calls", "keys": "the keys"}
 
 

@@ -2,7 +2,7 @@
 //
 //     cc -O2 by_key.c -o by_key && ./by_key PART .. < RECORDING
 //
-// A PART is a file or a pipe. A pipe that nobody reads any more receives no further lines.
+// A PART is a file or a pipe. Once the reader of a pipe has closed it, the pipe receives no further lines.
 #define _GNU_SOURCE
 #include <errno.h>
 #include <fcntl.h>

@@ -73,7 +73,7 @@ function beginSides(turns = []) {
 
 const takeTurns = () => setScene({ text: addressOfSides(), at: shown.sides.turns.length });
 
-// Drops the turns after the current one, and makes a turn of this thread.
+// Removes the turns after the current one, and adds a turn of this thread.
 function turnOf(thread) {
   const { turns } = shown.sides;
   if (now.scene.at < turns.length) beginSides(turns.slice(0, now.scene.at));

@@ -1,4 +1,4 @@
-// Reads courses of lessons. The head of book.course describes the format. Each error names its line.
+// Reads courses of lessons. The first lines of book.course describe the format. Each error names its line.
 import { LACKING } from "../../made/classics.js";
 import { bytesOf, passed } from "../engine/engine.js";
 import { AddressFault, LONGEST_ADDRESS } from "../run/address.js";

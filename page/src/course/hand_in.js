@@ -33,7 +33,7 @@ export function handInText(course, student, solutions, otherLines, assignment = 
   return [HAND_IN_TITLE, `course ${course}`, ...title, `student ${student}`, ...lines, ...otherLines, "end", ""].join("\n");
 }
 
-// Decodes a file: UTF-8, UTF-16 (some editors), or else Windows-1252.
+// Decodes the bytes of a file: UTF-16 if they begin with its mark (some editors write it), else UTF-8, or Windows-1252 if they are not UTF-8.
 export function textOfBytes(bytes) {
   const coding = { 0xfeff: "utf-16be", 0xfffe: "utf-16le" }[(bytes[0] << 8) | bytes[1]] ?? "utf-8";
   try {
@@ -77,8 +77,8 @@ export function textsIn(text) {
   return found;
 }
 
-// A mail program can wrap a line at a space or within a word. A part is a line as it was before. Each part is collected with its
-// line breaks; then `unwrapped` replaces a break between two words by a space, and deletes a break within a word.
+// A mail program can wrap a line at a space or within a word. A part is one line of the hand-in, with the line breaks of the mail. `unwrapped` replaces a
+// break between two words by a space, and deletes a break within a word.
 const broken = (word) => [...word].join("\\n?");
 const JUDGE = new RegExp(`^(judge)[ \\n]+(\\S[^]*?)[ \\n]+(${Object.keys(LEVELS).map(broken).join("|")})[ \\n]+([^]+)$`);
 const BREAK = new RegExp(`^(break)[ \\n]+([a-z0-9\\n-]+?)[ \\n]+((?:<?https?:[^#]+)?#[^]*?)(?:[ \\n]+(${broken(NAMED)}))?$`);

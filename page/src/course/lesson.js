@@ -1,4 +1,4 @@
-// Judges schedules by a lesson. A lesson is checked when it is read: its start must not reach its goal, and its answer must reach it.
+// Judges schedules by the goal of a lesson. A lesson is checked when it is read: its start must not reach the goal, and its answer must.
 import { readFault, sentenceOn } from "../engine/answers.js";
 import { askList, TO_BREAK, verdictOnLacking } from "../run/broken.js";
 import { eventsAsked, scheduleOfDraft, scheduleText, versionOf } from "../run/schedule_text.js";

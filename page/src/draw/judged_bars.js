@@ -88,7 +88,7 @@ function drawOwnPoint(call, at, y, scale) {
   return tag("g", { class: `point own ${colourOf(call.thread)}` }, stem, tag("circle", { cx: x, cy: y, r: 8 }), drawWhen(call, at, y, scale));
 }
 
-// Labels a point with its moment if the bar has room. Beyond the bar, the label could seem to belong to another call.
+// Labels a point with its moment, if the label fits on the bar. Outside of the bar, it could seem to belong to another call.
 function drawWhen(call, at, y, scale) {
   const x = scale.x(at);
   const isRoomy = (room) => room >= SLOT_WIDTH;
@@ -105,7 +105,7 @@ export function drawJudged(judged) {
   return tag("svg", frame, ...lanes, count === 0 ? "" : tag("line", line), ...calls);
 }
 
-// Writes the reader's order. The calls without a moment follow in a pale colour, so that the line keeps its size.
+// Draws the reader's order as a line of calls. Calls that are not placed yet follow in a pale colour, so that the line keeps its size.
 export function drawOwnOrder(answer) {
   const { calls } = answer.exercise;
   const placed = answer.order().map(({ call, at, reply }) => {

@@ -1,4 +1,4 @@
-// Draws the proved code of the pending calls, and marks the current line of each thread. A call without its own loop is shown by the rows of the table.
+// Draws the proved code of the pending calls, and marks the current line of each thread. For a call without its own code, shows the rows of the step table.
 import { LISTS } from "../../made/rows.js";
 import { more } from "../engine/more.js";
 import { callText, chipOf, escaped, tag } from "../run/markup.js";
@@ -13,7 +13,7 @@ export function codeOf(kind, { operation }) {
   return file === undefined ? null : { file, functions: more.CODE[file] };
 }
 
-// Returns the current line of a thread. If several lines make the row of the thread, the progress of the call decides.
+// Returns the current line of a thread. If several lines execute the thread's row of the step table, the progress of its call decides.
 export function stepOf(functions, held) {
   let found = stepsAt(functions, held.pc);
   const came = stepsAt(functions, held.came).map(({ code }) => code.name);

@@ -13,9 +13,9 @@ const NARROWEST = 60; // smallest width of a node
 const BESIDE_HANDS = 2; // distance of two hands in a row, so that their edges meet
 const MOST_POINTING = 6; // threads that get hands
 
-// A form has the least pixels of a unit (so that every label is large enough to read), the heights of a node's two parts (its key and its lock), the
-// room of a node with its gap, the gap as a share of a node, and the measures of a hand. `below` lists how far below the chain other nodes can be
-// drawn, the roomiest first; 0 draws them in the gaps of the chain.
+// The measures of a drawing, in units. `least` is the smallest number of pixels of a unit at which labels can be read. `key` and `lock` are the heights of
+// a node's two parts. `slot` is the width of a node with its gap, and `gap` is the gap as a share of it. `below` lists how far below the chain other nodes
+// can be drawn, the roomiest first; 0 draws them in the gaps of the chain.
 const HANDS = { height: 30, over: 9, left: 28, letter: 10.4, right: 12 };
 const SMALL_HANDS = { height: 26, over: 8, left: 21, letter: 9.8, right: 5 };
 const WIDE = { least: 0.9, key: 56, lock: 32, slot: 100, gap: 0.5, hand: HANDS, kind: "", below: [54, 30, 0] };
@@ -36,7 +36,7 @@ function pointersOf(state, event) {
   });
 }
 
-// Decides whether a register is drawn. A register that has the head can be unset, so only `pred` of a walk that has begun is drawn there.
+// Decides whether a register is drawn. A register that refers to the head can be unset. So at the head, only `pred` is drawn, after the walk has begun.
 export const isPointing = (held, name) => held[name] !== "head" || (name === "pred" && held.curr !== "head");
 
 function importantNodes(state, event, pointers) {
@@ -48,7 +48,7 @@ function importantNodes(state, event, pointers) {
   return important;
 }
 
-// Returns the chain as items: single nodes, and folded groups if the stage has no room for all.
+// Returns the chain as items to draw: single nodes, and groups of nodes if the stage has no room for all.
 function foldedChain(chain, important, most) {
   if (chain.length <= most) return chain.map((name) => ({ name, names: [name] }));
   const items = [];
@@ -61,7 +61,7 @@ function foldedChain(chain, important, most) {
   return items.map((item) => (item.names.length === 1 ? { name: item.names[0], names: item.names } : item));
 }
 
-// Returns the largest unit and heights that fit the stage. These depend on the run and not on the current step, so nothing jumps.
+// Returns the largest unit and heights that fit the stage. They depend on the run and not on the current step, so that nothing jumps between two steps.
 function unitsOf(state, room, slots, isFlat) {
   const form = formOf(room);
   const least = Math.max(form.least, room.least ?? 0);
@@ -195,9 +195,9 @@ function freeHand(own, placed, { x, y, width: node }, { height, over }, width) {
 }
 
 /**
- * `room` has the pixels of the stage (`wide`, `high`) and the `least` of a unit, the most nodes of the chain (`slots`), where a `lock` is shown
- * ("list", "nodes" or ""), whether every node stays in the chain (`flat`), how `tight` the last drawing was, the pixels left free at both `ends`,
- * and the registers whose hands are not drawn (`hides`).
+ * The space for a drawing, and what to draw: the pixels of the stage (`wide`, `high`) and the minimum of a unit (`least`); the maximum number of nodes in the
+ * chain (`slots`); where a lock is shown (`lock` is "list", "nodes" or ""); whether every node stays in the chain (`flat`); how tight the last drawing was
+ * (`tight`); the pixels left free at both ends (`ends`); and the registers without a hand (`hides`).
  * @typedef {{ wide: number, high: number, least?: number, slots: number, lock: string, flat?: boolean, tight?: number, ends?: number[], hides: string[], names?: boolean, isWhole?: boolean }} Room
  */
 export function arranged(state, event, room) {

@@ -56,7 +56,7 @@ export function readFault(text) {
   return { line: line === null ? null : Number(line), cause, says };
 }
 
-// Reads the record of a verdict. Its kind is the verdict's word, or `fault` with the engine's line about the text.
+// Parses the engine's record of a verdict. `kind` is the verdict in one word, or `fault` if the engine refused the text.
 export function readVerdict({ text }) {
   const lines = linesIn(text);
   const find = (word) => lines.find((line) => line.startsWith(`${word} `)) ?? null;
@@ -69,7 +69,8 @@ export function readVerdict({ text }) {
   const why = {
     key: key === null ? null : Number(key),
     moment, // the calls until this moment have no order; null: the calls have one, but no order leaves the key as recorded
-    // two contradicting calls, and whether the first leaves the key present. A call is null if the opening or the final key contradicts the other call
+    // Two calls that contradict each other, and whether the first one leaves the key present. A missing first call (null) means the start of the recording,
+    // a missing second call the end.
     clash: was === null ? null : { isPresent: was === "true", first: callBehind("first"), second: callBehind("second") },
     noSuchReply: reply === null ? null : Number(reply), // the number of a call with a reply that no set can return, or null
   };
@@ -77,7 +78,7 @@ export function readVerdict({ text }) {
   return { kind, ...ofCalls, order: orderIn(valuesOf("order"), valuesOf("set")), why: kind === "none" ? why : null };
 }
 
-// The values in the record of each error of an order. Errors that are not listed have one value, the call.
+// The names of the values that the record of an order has for each error. An error that is not listed has one value, the call.
 const FAULT_VALUES = {
   HistoryReply: ["call", "reply"],
   SetReply: ["call", "reply", "place", "answer"],
@@ -90,8 +91,8 @@ function orderIn([fault, ...values], keys) {
   return { fault, set: `{${keys.join(", ")}}`, ...Object.fromEntries((FAULT_VALUES[fault] ?? ["call"]).map((name, at) => [name, values[at]])) };
 }
 
-// Returns the first sentence of `listset faults` on a cause in a text of one of these kinds ("a schedule", "recorded calls"), to be read after a
-// colon. Returns null if there is no cause or no sentence.
+// Returns the first sentence of `listset faults` about the cause of an error in a text of one of these kinds ("a schedule", "recorded calls"). It is
+// shown after a colon. Returns null if there is no cause or no sentence.
 export function sentenceOn(ask, cause, ...kinds) {
   if (!cause) return null;
   const causes = ask("listset_faults").text;

@@ -4,7 +4,7 @@ const FIRST_ROOM = 1 << 22; // bytes of the first buffer for an answer of the en
 const LARGE_MEMORY = 1 << 28; // bytes; an instance with a larger memory is not used again
 
 export class Engine {
-  // `read` copies bytes of a host input to the start of `room`, and returns how many, or -1.
+  // The module calls `read` to read a file: `read` copies the file's next bytes to the start of `room`, and returns how many, or -1 after an error.
   /** @param {(input: bigint, room: Uint8Array) => number} read */
   constructor(module, read = () => -1) {
     this.module = module;
@@ -26,12 +26,12 @@ export class Engine {
     return this.answered((exports) => answerOf(exports, name, given));
   }
 
-  // Judges a recording of any length, read from an input in pieces.
+  // Judges a recording of any length, which the module reads piece by piece.
   judgeFrom(input) {
     return this.answered((exports) => answerInRoom(exports, "listset_judge_from", [[input]], FIRST_ROOM));
   }
 
-  // Returns the diagnosis that the program adds to a refusal of `used` lines. Reads the recording again from an input.
+  // Returns the diagnosis that the program prints below a refusal, which has `used` lines. The module reads the recording again for the diagnosis.
   whyFrom(input, used) {
     return this.answered((exports) => answerInRoom(exports, "listset_why_from", [[input, BigInt(used)]], FIRST_ROOM));
   }
@@ -58,8 +58,8 @@ function answerOf(engine, name, given) {
   return { status: answer.status, text: new TextDecoder().decode(answer.bytes), bytes: answer.bytes };
 }
 
-// Copies the texts into memory, and returns blocks and lengths. The last three parameters are the block and the length of the answer's buffer, and the
-// status.
+// Copies the texts into the module's memory, and returns the block and the length of each text. They are the first arguments of a function with
+// `parameters` parameters. The last three parameters are the block and the length of the answer's buffer, and the status.
 function textsOf(engine, parameters, given) {
   return Array.from({ length: (parameters - 3) / 2 }, (_, at) => {
     const text = given[at] ?? new Uint8Array(0);

@@ -1,4 +1,4 @@
-// The handlers of the bench's buttons, slider and schedule box.
+// Handles the buttons, the slider and the schedule box of the bench (the part of the page that runs any schedule).
 import { CLASSICS } from "../../made/classics.js";
 import { inLetters } from "../run/markup.js";
 import { byId } from "./dom.js";

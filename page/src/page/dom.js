@@ -3,7 +3,8 @@
 /** @type {(id: string) => any} */
 export const byId = (id) => document.getElementById(id);
 
-// Redraws a box. The focused element keeps the focus, else the first button gets it (no field, and not Undo or Start over).
+// Redraws a box. If the focused element is drawn again, it keeps the focus. Otherwise the first button gets the focus (no field, and not Undo or Start
+// over).
 export function redraw(box, html) {
   /** @type {any} */
   const before = box.contains(document.activeElement) ? document.activeElement : null;
@@ -26,13 +27,13 @@ export function setHidden(part, isHidden, other) {
   part.hidden = isHidden;
 }
 
-// Scrolls `box` so that `line` is visible, at least `above` from the upper edge and `below` from the lower edge.
+// Scrolls `box` so that `line` is visible, at least `above` pixels below the upper edge and `below` pixels above the lower edge.
 export function scrollToLine(box, line, above, below) {
   const y = line.offsetTop - box.offsetTop;
   if (y < box.scrollTop + above || y > box.scrollTop + box.clientHeight - below) box.scrollTop = y - box.clientHeight / 2;
 }
 
-// Replaces the HTML of a box. Returns whether it differs from the last one.
+// Replaces the HTML of a box. Returns whether the HTML has changed.
 export function setHtml(box, html) {
   if (texts.get(box) === html) return false;
   texts.set(box, html);

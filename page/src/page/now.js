@@ -40,7 +40,7 @@ export function goTo(count) {
   dispatch("count", { count });
 }
 
-// Shows one line about the last action, until the next event is shown. A line that is already there is not announced again.
+// Shows one line about the last action, until the next event is shown. If the line is already shown, screen readers do not announce it again.
 export function say(text) {
   if (last.text === text && byId("said").innerHTML === last.html) return;
   byId("said").innerHTML = text;

@@ -1,4 +1,4 @@
-// Plays the events until the end or a pause. Plays slowly if the system asks for less motion.
+// Plays the events of a run until its end or a pause. Plays slowly if the system asks for less motion.
 import { wantsStill } from "../draw/glide.js";
 import { byId } from "./dom.js";
 import { goTo, isLecture, now, show } from "./now.js";

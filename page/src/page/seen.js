@@ -1,4 +1,4 @@
-// Decides for each part of the page whether the state shows it. Parts that are not listed are visible if their parent is visible.
+// Decides which parts of the page are visible in a state. A part that is not listed is visible if its parent is.
 import { byId, setHidden } from "./dom.js";
 import { change } from "./now.js";
 

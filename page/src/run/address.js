@@ -1,5 +1,5 @@
 // Reads and writes addresses; page/README.md lists their forms. An address names a broken list by its number, since the name would reveal the missing
-// check. Whether the text of an address is a schedule is decided by the engine.
+// check. The engine decides whether the text of an address is a schedule.
 import { LACKING } from "../../made/classics.js";
 import { LISTS } from "../../made/rows.js";
 import { scheduleText, versionOf } from "./schedule_text.js";
@@ -128,7 +128,7 @@ export function partsOfSeed(seed) {
   return { kind, threads, calls, keys, number };
 }
 
-// Returns the schedule of a seed: of the schedules that the engine generates for the seed, the first that is worth a look.
+// Returns the schedule of a seed: the first interesting schedule of those that the engine generates for the seed.
 export function scheduleOfSeed(ask, seed) {
   const { kind, threads, calls, keys, number } = partsOfSeed(seed);
   const tries = calls > MOST_TRIED_CALLS ? 1 : TRIES;
@@ -144,7 +144,8 @@ export function scheduleOfSeed(ask, seed) {
   return joined(text);
 }
 
-// Decides whether a schedule is worth a look: a key is added and removed, and either a contains or a false reply overlaps a call of the other thread.
+// Decides whether a run is interesting: a key is added and a key is removed, and a contains or a call with the reply false overlaps a call of another
+// thread.
 function isWorthIt({ calls, changes, total }) {
   const puts = changes.some(({ put }) => put !== undefined) && changes.some(({ took }) => took !== undefined);
   const isBeside = (one, other) => one.thread !== other.thread && one.begun < other.ended && other.begun < one.ended;

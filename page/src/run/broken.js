@@ -1,5 +1,5 @@
-// Broken lists, each without one check. One proved function judges the order by the linearization points, another all other orders: if the first
-// order is refused, another one can still explain the calls.
+// Broken lists, each without one check. A run is judged by two proved functions. One checks the order of the linearization points. If this order is
+// refused, the other decides whether some other order explains the calls. A run is broken if none does.
 import { LACKING } from "../../made/classics.js";
 import { readReport, readVerdict } from "../engine/answers.js";
 import { nameOfCall } from "./judged.js";
@@ -13,7 +13,7 @@ const UNKNOWN = "Whether another order explains these replies is not known.";
 const UNEXPLAINED = "No order of these calls explains that (proved).";
 export const TO_BREAK = "No order explains the calls and the keys left (proved)."; // the condition of a lesson about a broken list
 
-// LazyList's `contains` without the mark. No run of it is known that no order explains, so it is no task.
+// The LazyList with a `contains` that ignores marks. In every known run of this list, some order explains the calls, so the list is no task of Break.
 export const NO_TASK = "mark-in-contains";
 export const isTaskDone = (lacks, { kind }) => kind === "broken" && lacks !== NO_TASK;
 
@@ -22,7 +22,8 @@ export const askList = (ask, name, lacks, text) =>
 
 export const startOfLacking = (name) => scheduleText({ list: LACKING[name], threads: 2, quota: 2, opening: [3, 7] });
 
-// Returns the verdict on a schedule's run: `broken`; `points`, if only the order of the run's own points is refused; `explained`; or `refused`.
+// Judges the run of a schedule. The verdict is `explained` if the order of the linearization points explains the calls, `points` if that order is refused
+// and another order explains the calls or could explain them, `broken` if no order does, and `refused` if the schedule cannot be run.
 export function verdictOnLacking(ask, lacks, schedule) {
   const { status, text } = askList(ask, "listset_replay", lacks, schedule);
   if (status !== 0) return { kind: "refused", says: `The schedule is refused: ${text.trim()}`, report: null };
@@ -57,7 +58,8 @@ function isLost({ calls, opening, keys }, key) {
   return count("add") === 1 && count("remove") === 0 && !isThere;
 }
 
-// Returns the report's call for a call of a refusal. The judge reads a ceiling, and an add that returned full, as a look at a key.
+// Describes a call that the judge names. The name and the reply come from the report, since the judge treats a ceiling, and an add that returned full, as
+// a contains.
 function callInWords({ calls }, { thread, begun }) {
   const call = calls.find((one) => one.thread === thread && one.begun === Number(begun));
   return `${nameOfCall(call)} ${call.ended === null ? "is pending" : `answers ${call.reply}`}`;

@@ -53,7 +53,7 @@ export class OwnAnswer {
     this.replies.set(call.id, reply);
   }
 
-  // Returns the reply of a call in the order. A pending call has none in the run, but is in the order if it has changed the set.
+  // Returns the reply of a call for the reader's order. A pending call has no reply, but is in the order if it has changed the set.
   replyOf(call) {
     if (call.ended === null) return openReply;
     return this.exercise.level === "replies" ? (this.replies.get(call.id) ?? null) : call.reply;
@@ -112,11 +112,12 @@ function faultInWords(answer, { fault, call, place, reply, set, answer: due, beg
   return `This is not an order of the calls of this run (${fault}).`;
 }
 
-// Returns the last word of a line to hand in, as in `judge read-in-anothers-step replies 0-true,2-true,1-false,3-true`, or "".
+// Returns an answer as the last word of a line to hand in, such as `judge read-in-anothers-step replies 0-true,2-true,1-false,3-true`. Returns "" if no
+// call is placed.
 export const wordOfAnswer = (answer) => answer.order().map(({ call, reply }) => `${call.id}-${reply}`).join();
 
-// Reads the last word of such a line. Each call is placed at the earliest moment of its bar that keeps the order. Returns null if the text is no such
-// word.
+// Reads an answer that `wordOfAnswer` has written. Each call is placed at the earliest moment of its bar that keeps the order. Returns null for any other
+// text.
 export function answerOfWord(exercise, word) {
   const answer = new OwnAnswer(exercise);
   let at = 0;

@@ -1,4 +1,4 @@
-// The effects of an event, as parts of its sentence.
+// Writes the effects of an event. They follow the step in the sentence about the event.
 import { LISTS } from "../../made/rows.js";
 import { chipOf, keyText, valueText } from "./markup.js";
 import { keyNumber, linkTarget, ownerOf } from "./state.js";
@@ -13,7 +13,7 @@ const isLinkOf = (event) => event.word?.endsWith(".link");
 const lockNames = (words) => `the lock${words.length > 1 ? "s" : ""} of ${words.map(ownerIn).join(" and ")}`;
 export const setsMark = (event) => isLinkOf(event) && event.to?.endsWith("*") === true;
 
-// Returns for each marked node the event that marked it. A mark is never removed.
+// Returns the event that marked each marked node. A mark is never removed.
 function marksOf(trace) {
   if (trace.marks !== undefined) return trace.marks;
   trace.marks = new Map();
@@ -65,7 +65,7 @@ export const OUTCOMES = {
     return `<b>The validation fails:</b> ${reason}. It will unlock both nodes and start again.`;
   },
 
-  // Only the last row of a validation decides.
+  // A validation has several steps. Only the last one decides whether it succeeds.
   valid({ held, row }) {
     if (row?.invalid === undefined || !row.then.includes("decide on")) return "";
     return held.pc === row.invalid && held.reply === "none" ? "" : "The validation succeeds.";

@@ -37,7 +37,7 @@ function remarksOn({ count, overlapped, isCutOff }) {
 
 const stateInWords = (isPresent) => (isPresent ? "present" : "absent");
 
-// Decides whether two contradicting calls overlap: then they contradict each other in both orders.
+// Decides whether two calls that contradict each other overlap. Then they contradict each other in both orders.
 const overlap = (first, second) => first !== null && second !== null && BigInt(second.begun) < BigInt(first.ended);
 
 function clashInWords(key, { isPresent, first, second }) {

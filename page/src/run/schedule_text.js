@@ -1,4 +1,5 @@
-// The texts of schedules, and drafts of them. A draft can have lines `go T out` and `go T to ROW`.
+// Reads and writes schedules and drafts. A draft can have lines `go T out` (thread T runs until its call returns) and `go T to ROW` (until it reaches the
+// row of the step table).
 import { HEADER_LINES, isTrace, Trace } from "./trace.js";
 
 // Returns the text of a schedule or draft with these lines. Initial keys and ceilings need version 2.
@@ -56,7 +57,7 @@ export function scheduleOfDraft(ask, text, lacks = null) {
   return made.status === 0 ? { text: made.text, fault: null } : { text: null, fault: made.text.trim() };
 }
 
-// Returns how many steps the thread needs to end its call or to reach `row`, or why no number of steps does.
+// Returns how many steps a thread of a broken list needs to reach `row`, or to end its call if `row` is undefined. Returns an error if it never does.
 function stepsOfLacking(ask, lacks, lines, thread, row) {
   const fault = (cause) => ({ count: null, fault: `listset: line ${lines.length + 1}: ${cause}` });
   const { text } = ask("listset_lacking", lacks, `${[...lines, `go ${thread} ${MOST_TRIED}`].join("\n")}\n`, "trace");

@@ -94,12 +94,13 @@ function openingNodes(trace) {
   return nodes;
 }
 
-// A slot at the start. A node is `reached` once a reached node has pointed to it. Before, only its own thread sees the node.
+// A thread's node before its first use. `reached` becomes true when a reached node points to the node. Until then, only its own thread sees the node.
 const newNode = () => ({ key: "-inf", link: "head", lock: "free", reached: false });
 export const isWritten = (node) => node.key !== "-inf" || node.link !== "head" || node.lock !== "free";
 export const ownerOf = (trace, name) => Math.floor((Number(name.slice(1)) - 2) / trace.quota);
 
-// Returns the contents of the set from event `first` to `last`: the keys in increasing order, with the first and last event of each content.
+// Returns what the set contains from event `first` to event `last`, as a list of parts. A part has the keys in increasing order, the event after which the
+// set has exactly these keys, and the event that ends this.
 export function contentsIn(trace, first, last) {
   const keys = new Set(trace.opening);
   const part = (from) => ({ from, to: last + 1, keys: [...keys].sort((one, other) => one - other) });

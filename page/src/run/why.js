@@ -1,8 +1,8 @@
-// Reads the program's diagnosis of a refused recording from its record.
+// Parses the diagnosis of a refused recording, which the engine returns as a record.
 import { callOfRecording } from "../engine/answers.js";
 
 /**
- * A call of the key that shows the bug has a mark: the expected answer, the state that the call leaves, or a note that either answer was allowed.
+ * A call on the key that shows the bug. `mark` is a note: the expected answer, the state that the call leaves, or that either answer was allowed.
  * @typedef {ReturnType<typeof callOfRecording> & { mark: string }} CallOfBug
  * @typedef {{ headline: string, calls: CallOfBug[], also: CallOfBug[], facts: string[], likely: string | null, because: string | null }} Diagnosis
  */

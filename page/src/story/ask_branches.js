@@ -23,7 +23,7 @@ export function takeBranch({ lines, opening, lacks = null, isFree = false }) {
   }));
 }
 
-// Returns the operations to show the code of. A slide shows the code of pending calls only, in larger type.
+// Returns the operations whose code is shown. A slide shows only the code of pending calls, in larger type.
 function operationsIn({ lines, rest }) {
   const isOver = (line, at) => isLecture() && lines.slice(at).includes(`go ${line.split(" ")[1]} out`);
   const shown = [...lines.filter((line, at) => !isOver(line, at)), ...rest];
@@ -36,7 +36,7 @@ function freshBox() {
   return box;
 }
 
-// ---- What if: the reader can continue a run differently from any event. Each such branch is kept.
+// ---- What if: from any event, the reader can continue a run differently. Each of these branches is kept.
 function takeOwnBranch(branch) {
   const figure = takeBranch({ ...branch, isFree: true });
   Object.assign(figure, { onFork: fork, onStep: grow });

@@ -48,7 +48,7 @@ function seedTask(seed) {
   return { id: `judge ${seed}`, kind: "Judge", title: `Run ${number}, ${LISTS[kind].name}`, says, href: `#seed=${seed}&judge`, seed };
 }
 
-// Returns the assignment opened last if the place, or the run judged there, is one of its tasks, else null.
+// Returns the last opened assignment if the place is one of its tasks. On the bench, the judged run must be one of its tasks. Returns null otherwise.
 export function homeworkOf({ activity, id }, task = { kind: "", id: "" }) {
   const { homework } = keptStory();
   const isRun = activity === "judge" && task.kind === "seed";
@@ -56,7 +56,7 @@ export function homeworkOf({ activity, id }, task = { kind: "", id: "" }) {
   return wordsIn(homework.given[activity], isRun ? "," : ".").includes(isRun ? task.id : id) ? homework : null;
 }
 
-// Returns the link to the next place. A task of the assignment leads to the next task, and the last task to the assignment.
+// Returns the link to the next place: after a task of the assignment, the next task, or the assignment after its last task. Elsewhere, the link is `own`.
 export function wayOn({ activity, id }, own) {
   const homework = homeworkOf({ activity, id });
   if (homework === null) return own;

@@ -1,12 +1,13 @@
-// The algorithm beside the list. Each line is a button that steps a thread. `plain` leaves out the lines about the lock.
+// Draws the algorithm beside the list. Each line is a button that steps a thread. `plain` leaves out the lines about the lock.
 import { chipOf, colourOf, escaped, letterOf, tag } from "../run/markup.js";
 
 const WORDS = /\b(while|if|else|return|start again|loop|until|unlock|lock|find|validate|CAS|new)\b/g;
 
 /**
- * Shows the lines of the calls `operations`, without the rows `hides`, and with `instead` in place of a row's text. `fresh` rows are new in this
- * list (0: the lines without a row); of a `struck` row one part is struck out. `next` has the rows that threads make next, `made` the last row made;
- * a press on a line without a thread lets thread `active` run to this line.
+ * The code to show: the lines of the calls `operations`. A line executes rows of the list's step table. Lines of the rows in `hides` are left out, and
+ * `instead` replaces the text of a row. Rows in `fresh` are marked as new in this list (0 stands for lines without a row). A part of a `struck` row is
+ * struck out. `next` has the next row of each thread, and `made` the last executed row. A press on a line lets a thread at this line execute it; if no
+ * thread is there, thread `active` runs to the line.
  * @typedef {{ thread: number, row: number }} At
  * @typedef {{ list: string, operations: string[], plain?: boolean, fresh?: number[], hides?: number[], instead?: Record<number, string>,
  *   struck?: { row: number, part: string }[], next: At[], made: At | null, canStep: boolean, active: number }} CodeSpec
@@ -62,7 +63,7 @@ export const drawOwnCode = (spec) => tag("ol", { class: "steps" }, ...linesShown
 
 const CHANGES = ["add", "remove"];
 
-// Returns the lines of add and remove that write, for a list with locks. The rows of `mark` are made before the node is unlinked.
+// Returns the lines of add and remove that write, for a list with locks. The arguments are rows. The rows of `mark` are executed before `unlink`.
 const writes = (make, link, unlink, mark = []) => [
   { of: ["add"], text: "add, if curr.key ≠ key:" },
   { of: ["add"], text: "    node = new Node(key, next = curr)", rows: make },

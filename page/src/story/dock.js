@@ -117,7 +117,7 @@ export function pressed(figure, event) {
   else if (begin !== undefined) beginOwn(figure, Number(begin));
 }
 
-// Handles a press on a line of code. A thread at this line makes the step; otherwise the active thread runs to the line.
+// Handles a press on a line of code. If a thread is at this line, it executes the line; otherwise the active thread runs to the line.
 function pressLine(figure, button) {
   if (figure.isBusy || !figure.canStep) return;
   const rows = button.closest("[data-rows]").dataset.rows.split(" ").map(Number);

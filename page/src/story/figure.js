@@ -1,4 +1,4 @@
-// A live figure: the list, a sentence, the code, and a button for each thread that makes its next steps.
+// A live figure: the list, a sentence, the code, and a button for each thread, which executes the thread's next steps.
 import { fallTime, wantsStill } from "../draw/glide.js";
 import { momentAt } from "../run/sentences.js";
 import { drawFigure, frameOf, markLostNodes } from "./figure_parts.js";
@@ -12,7 +12,7 @@ const sleep = (time) => new Promise((done) => setTimeout(done, time));
 const made = { count: 0 };
 const markBusy = (isBusy) => (document.body.dataset.busy = isBusy ? "yes" : "no");
 
-// A spec describes a run, the `calls` of each thread, the threads with a button (`shown`), and the parts beside the list.
+// A spec describes a figure: a run, the `calls` of each thread, the threads with a button (`shown`), and the parts beside the list.
 export const STILL = { dock: false, names: true, strip: true, prompt: false, again: false }; // the spec of a figure that shows a run made elsewhere
 
 export class Figure {
@@ -88,13 +88,13 @@ export class Figure {
     return own.slice(this.run.trace.calls.filter((call) => call.thread === thread).length);
   }
 
-  // Records the lines before a change, for undo.
+  // Stores the lines of the schedule before a change, for Undo.
   leaves() {
     this.onFork?.(this);
     this.past.push([...this.run.lines]);
   }
 
-  // Makes the next steps of a thread. An idle thread begins its call first. If earlier steps are still being shown, waits until all of them were seen.
+  // Executes the next steps of a thread. An idle thread begins its call first. If earlier steps are still being shown, waits until all of them were seen.
   async step(thread) {
     while (this.isOpen && this.isBusy && !this.isEnded) await this.hurry();
     if (!this.isOpen || this.isEnded) return;
@@ -107,7 +107,7 @@ export class Figure {
     await this.play(thread, next.steps, before);
   }
 
-  // Handles the key of a thread: it steps, or begins the call in its fields.
+  // Handles the key of a thread: the thread steps, or begins the call that is entered in its fields.
   press(thread) {
     if (!this.canStep || !this.shown.includes(thread)) return;
     const isFree = this.run.isIdle(thread) && this.left(thread).length === 0 && this.spec.free;
@@ -123,14 +123,14 @@ export class Figure {
     if (!this.isEnded) this.onStep?.(this);
   }
 
-  // Shows the remaining steps quickly, each for QUICK, or only the last one. Returns a promise that resolves after the last step.
+  // Shows the remaining steps quickly, each for QUICK milliseconds, or only the last one if `isSkipped`. Returns a promise that resolves after the last step.
   hurry(isSkipped = false) {
     Object.assign(this, { isHurried: true, isSkipped });
     this.wake();
     return this.playing;
   }
 
-  // Waits between two steps. Another press ends the wait, but not before QUICK is over.
+  // Waits between two steps. Another press ends the wait, but not before QUICK milliseconds.
   async wait(time) {
     this.isBusy = true;
     const quick = sleep(Math.min(time, QUICK));

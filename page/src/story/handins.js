@@ -116,11 +116,11 @@ function notesOnNames(row, rows) {
   return notes.filter(([some]) => some.length > 1).map(([, note]) => note);
 }
 
-// Returns the steps of a schedule, one on each line, so that differently grouped texts compare equal.
+// Returns a schedule with one step on each line, so that schedules with the same steps are equal as texts.
 const oneByOne = (schedule) => schedule.replace(/^go (\d+) (\d+)$/gm, (_, thread, count) => Array(Number(count)).fill(`go ${thread}`).join("\n"));
 
-// Adds to each row the students who have the same schedules, step by step: { count, of, isListed, rows }. A schedule that many students have is no
-// sign of copying, and is returned with them. A single shared schedule can be chance, so it is listed only if the student has no other rare one.
+// Adds to each row the students with the same schedules: { count, of, isListed, rows }. A schedule that many students have is no sign of copying; these
+// schedules are returned. A single shared schedule can be chance, so it is listed only if the student has no other rare schedule.
 function noteCopies(rows) {
   const byText = new Map();
   const own = new Map(rows.map((row) => [row, [...row.solved].filter(([, schedule]) => schedule !== null).map((entry) => entry.join("\n"))]));

@@ -96,8 +96,8 @@ export class LiveRun extends ShownRun {
     this.state.moveTo(this.count);
   }
 
-  // Returns the next press of a thread after the shown event: the number of its steps, its phase, and, if the thread waits for a lock, the holder of
-  // this lock. A thread waits once it has tried to take the lock and failed.
+  // Returns what the next press of a thread does after the shown event: the number of steps, their phase, and the holder of the lock if the thread waits for
+  // a lock. A thread waits once it has tried to take the lock and failed.
   nextOf(thread, call = null) {
     return (this.nexts[[this.count, thread, call].join()] ??= this.newNextOf(thread, call));
   }
@@ -135,7 +135,7 @@ export class LiveRun extends ShownRun {
     return { steps, phase: phase === "unlock" && last?.answer === undefined ? "restart" : phase, waits: false, last };
   }
 
-  // Returns the last event of the press that is made after event `count`.
+  // Returns the number of the last event that belongs to the same press as event `count + 1`.
   endOfBit(count) {
     this.moveTo(count);
     const { thread, deed, changes } = this.trace.event(count + 1);
@@ -143,7 +143,7 @@ export class LiveRun extends ShownRun {
     return begun + this.chunk(this.trace, begun, row).steps;
   }
 
-  // Returns how many steps a thread makes until `isThere` holds, its call returns, or it waits for a lock.
+  // Returns how many steps a thread executes until `isThere` holds, its call returns, or it waits for a lock.
   stepsUntil(thread, isThere) {
     const { total } = this.trace;
     const trace = this.traceOf([...this.lines, `go ${thread} ${MOST_STEPS}`]);
@@ -181,8 +181,8 @@ function placeOf({ state: { nodes, lock, threads }, trace }) {
 }
 
 /**
- * Returns the fewest presses that continue a run to a broken one, as thread numbers, or null if no presses do. `calls` has the calls of each thread.
- * Returns undefined if `most` states are not enough to know it.
+ * Searches for the shortest way to break a run. Returns the thread of each press, null if the run cannot be broken any more, or undefined if the search
+ * ended after `most` states. `calls` has the calls of each thread.
  * @param {RunSpec} spec @param {string[]} lines @param {Record<number, any[]>} calls @returns {number[] | null | undefined}
  */
 export function waysOn(spec, lines, calls, most = Infinity) {

@@ -58,7 +58,7 @@ export function drawBar(stage, number, words = number === SCREENS.length ? "And 
   drawOn(isDone, isLecture() ? "Next slide →" : words); // (the slides do not have all screens of the path)
 }
 
-// Turns the stretches of the row "set" into buttons.
+// Turns the parts of the row "set" into buttons. A part shows what the set contains between two changes.
 export function openContents(figure, press) {
   figure.part("strip").querySelectorAll(".content").forEach((stretch, index) => {
     const contents = stretch.querySelector("title").textContent;

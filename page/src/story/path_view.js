@@ -67,7 +67,7 @@ function draw(state) {
   byId("scene").dataset.stage = state.stage;
 }
 
-// Draws the table for the shown event. An unchanged table stays, so that it is not read out again.
+// Draws the table for the shown event. An unchanged table is not drawn again, so that a screen reader does not read it again.
 function redrawLedger() {
   const ledger = part(".ledger");
   const { run } = scene.figure;
@@ -150,7 +150,7 @@ function focusOn() {
   if (!isLecture() && document.activeElement.closest("button, a, input, [tabindex='0']") === null) part("#go-on").focus({ preventScroll: true });
 }
 
-// Returns the thread to press next to complete the task: found by a search if the task can fail, else taken from the screen's `help`.
+// Returns the thread to press next to complete the task. If the task can fail, a search finds the thread; otherwise the screen's `help` lists the presses.
 function nextPress(figure, { help, ledger }) {
   if (ledger) return waysFrom(figure, Infinity)?.[0];
   const isOver = (thread) => figure.run.isIdle(thread) && figure.left(thread).length === 0;

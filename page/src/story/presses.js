@@ -1,4 +1,4 @@
-// Groups the rows of the step tables into phases: a press on a thread's button makes the steps of one phase. Names each press.
+// Groups the rows of the step tables into phases: a press on a thread's button executes the steps of one phase. Also names each press.
 
 const walkers = (...rows) => Object.fromEntries(rows.map((row) => [row, "walk"]));
 
@@ -23,7 +23,7 @@ const PHASES = {
 };
 
 export const phaseAt = (list, row, plain) => PHASES[plain ? "plain" : list][row] ?? "answer";
-// Returns the rows that always belong to the press before them.
+// Returns the rows that are always executed by the press before them, whatever their phase.
 export const joinedRows = (list, plain) => (plain ? [10] : list === "lock-free" || list === "lazy" ? [22, 25] : []);
 
 const WORDS = {

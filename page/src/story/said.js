@@ -45,7 +45,7 @@ function lockSaid(event, who, plain, waits) {
   return `wants ${what}, but ${chipOf(event.saw.slice(1))} holds it. ${bold(waits ? "It waits." : "It continues all the same.")}`;
 }
 
-// Decides whether the key belongs just before a node of the chain: other threads can have changed the list since the walk passed.
+// Decides whether the key belongs just before the node `owner` of the chain. Other threads can have changed the list since the walk passed.
 function isPlaceOf(state, key, owner) {
   const chain = state.chain();
   const at = chain.indexOf(owner);
@@ -94,14 +94,15 @@ function linkSaid(moment, owner, who, phase) {
   return owner === "head" ? `starts at the head: curr is at ${to}.` : `moves on: curr is at ${to}.`;
 }
 
-// Writes the sentence about the last read of a contains or ceiling. Only in a broken list is the reply true at a mark, or a removed node without a mark.
+// Writes the sentence about the last read of a contains or ceiling. Only in a broken list can the reply be true at a marked node, or can a removed node have
+// no mark.
 function lookSaid(state, { answer }, owner, who, isMarked) {
   if (isMarked && /^(true|at-)/.test(answer ?? "")) return `takes ${who} to be in the set: ${bold("it does not look at the mark.")}`;
   if (isMarked) return `sees the mark: ${bold(`this ${who} has been removed.`)}`;
   return `sees no mark${state.chain().includes(owner) ? `: ${who} is in the set` : ` on ${who}`}.`;
 }
 
-// Only a broken list uses a node twice.
+// Writes the sentence about a write to a thread's own node. Only a broken list uses a node twice.
 function nodeSaid({ state, event }, owner, key) {
   const isUsed = state.nodes[owner].reached;
   if (event.word.endsWith(".key")) return isUsed ? `writes ${key} into a node that was used before.` : `makes a node for ${key}. No other thread sees it yet.`;

@@ -1,4 +1,4 @@
-// The scenes of the page. Each has a view. A button with `data-do` runs the deed of that name in the view.
+// The scenes of the page. Each scene has a view. A button with `data-do` calls the function of that name in the view's `deeds`.
 import { change, dispatch, now } from "../page/now.js";
 import { byId, setHtml } from "../page/dom.js";
 import { copied } from "../page/visit.js";
@@ -9,8 +9,8 @@ import { NARROW } from "./figure_parts.js";
 
 /**
  * A view has the CSS class of its place (`kind`) and its HTML. `fault` returns the reason why a place does not exist, or null. `begin` makes the figure
- * after the parts are in the page, `draw` shows the progress, `end` is called before the parts are removed. Buttons run `deeds`, a key calls
- * `press`. `goes` moves on or back on a slide, and returns whether it did.
+ * after the HTML is in the page, `draw` shows the progress, and `end` is called before the HTML is removed. Buttons call `deeds`, and a key calls `press`.
+ * `goes` moves forward or back on a slide, and returns whether it did.
  * @typedef {import("../page/reducer.js").Place} Place
  * @typedef {{ kind: string, title: (place: Place) => string, html: (place: Place) => string, fault?: (place: Place) => string | null,
  *   begin?: (place: Place) => void, draw?: (scene: import("../page/reducer.js").Scene) => void, end?: () => void,
@@ -147,8 +147,7 @@ export function threadOfKey({ key, ctrlKey, metaKey, altKey, repeat }) {
   return key.charCodeAt(0) - "a".charCodeAt(0);
 }
 
-// Handles the key of a thread: the thread makes steps, or begins its first call. Later calls are begun by a button, so that a press too many begins
-// nothing.
+// Handles the key of a thread: the thread steps, or begins its first call. Only a button begins later calls, so that one press too many begins no call.
 export function pressThread(event) {
   const thread = threadOfKey(event);
   const { figure } = scene;

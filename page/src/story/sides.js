@@ -1,5 +1,5 @@
-// Two lists side by side run the same program of calls. A turn makes the next step of a thread in both lists. If the thread's call has returned in one
-// list only, that list waits.
+// Two lists side by side run the same calls. A turn executes the next step of a thread in both lists. If the thread's call has returned in one list only,
+// that list waits.
 import { letterOf } from "../run/markup.js";
 import { MOST_NUMBER } from "../run/trace.js";
 import { LiveRun, RunFault } from "./live_run.js";
@@ -35,7 +35,7 @@ export class Sides {
     this.sides = kinds.map((list) => ({ run: new LiveRun({ list, threads: program.length, quota, opening }), counts: [0] }));
   }
 
-  // Returns the schedule line that a turn makes in each list, or null for a list that waits. Returns null if both lists are done.
+  // Returns the schedule line that a turn of the thread adds in each list, or null for a list that waits. Returns null if the thread is done in both lists.
   linesOf(thread) {
     if (thread >= this.program.length) return null;
     const isIdle = this.sides.map(({ run }) => run.isIdle(thread));

@@ -8,7 +8,7 @@ import { scene, setScene } from "./scene.js";
 const queue = { last: Promise.resolve(), waiting: 0 };
 const hurry = () => scene.figure?.isBusy && scene.figure.hurry();
 
-// Handles the keys one after the other. If a key is waiting, steps of earlier keys are shown quickly.
+// Handles keys one after the other. While a key is waiting, the steps of earlier keys are shown quickly.
 function inTurn(deed) {
   queue.waiting++;
   hurry();
