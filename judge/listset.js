@@ -114,7 +114,7 @@ var init_engine = __esm({
     FIRST_ROOM = 1 << 22;
     LARGE_MEMORY = 1 << 28;
     Engine = class {
-      // `read` copies bytes of a host input to the start of `room`, and returns how many, or -1.
+      // The module calls `read` to read a file: `read` copies the file's next bytes to the start of `room`, and returns how many, or -1 after an error.
       /** @param {(input: bigint, room: Uint8Array) => number} read */
       constructor(module2, read = () => -1) {
         this.module = module2;
@@ -131,11 +131,11 @@ var init_engine = __esm({
       askBytes(name, ...given) {
         return this.answered((exports) => answerOf(exports, name, given));
       }
-      // Judges a recording of any length, read from an input in pieces.
+      // Judges a recording of any length, which the module reads piece by piece.
       judgeFrom(input) {
         return this.answered((exports) => answerInRoom(exports, "listset_judge_from", [[input]], FIRST_ROOM));
       }
-      // Returns the diagnosis that the program adds to a refusal of `used` lines. Reads the recording again from an input.
+      // Returns the diagnosis that the program prints below a refusal, which has `used` lines. The module reads the recording again for the diagnosis.
       whyFrom(input, used) {
         return this.answered((exports) => answerInRoom(exports, "listset_why_from", [[input, BigInt(used)]], FIRST_ROOM));
       }

@@ -1,7 +1,7 @@
-// The teacher's tool, in node:
+// Checks the solutions that students hand in, and the courses of a teacher, in node:
 //
 //     node page/check_lessons.js FILE|FOLDER ..        checks the hand-ins of one student or of a class; - is the standard input
-//         --assignment LINK                            counts the tasks of this assignment; else all tasks that anybody handed in
+//         --assignment LINK                            counts the tasks of this assignment; by default, all tasks that anybody handed in
 //         --csv FILE                                   also writes a table for a spreadsheet
 //     node page/check_lessons.js COURSE FILE ..        counts the lessons of the teacher's own courses
 //     node page/check_lessons.js COURSE                checks a course: each lesson is read and tried

@@ -1,4 +1,4 @@
-// The page in node, for tools and tests without a browser: the exports of its modules, and the engine.
+// Runs the page's modules and its engine in node, for tools and for tests without a browser.
 "use strict";
 
 const fs = require("fs");

@@ -1,4 +1,4 @@
-// The words of ./listset that need no proof and no toolchain, in node: the proved replayer as the module of this folder.
+// The commands of ./listset that need neither a proof nor the toolchain, in node. The engine is the proved replayer, as the module listset.wasm.
 //
 //     node page/listset.js replay [FILE]            node page/listset.js trace [--chain] [FILE]
 //     node page/listset.js judge [--brief] [--only KEY] [FILE]  node page/listset.js show [--svg] [--from M] [--to M] [--width N] [FILE]
@@ -7,9 +7,9 @@
 //     node page/listset.js explain [FILE]           node page/listset.js faults [CAUSE]
 //     node page/listset.js help [COMMAND]           and of replay, trace and show [--lacks NAME]; --help, --version
 //
-// FILE may be -, the word for the standard input. Output, line about an error and exit status are the program's (docs/TEXTS.md). At a
-// terminal a line below an error says what helps. If node does not run the module, or for run and serve, the script says so and ends with
-// status 70, before it reads anything; with LISTSET_ENGINE=other it ends so, and silently, wherever it would need the module.
+// FILE can be -, which means standard input. The output, the line about an error and the exit status are those of the program (docs/TEXTS.md).
+// At a terminal, a hint follows below an error. If node cannot run the module, and for run and serve, the script reads nothing, prints an error
+// and exits with status 70. With LISTSET_ENGINE=other it exits with status 70, without an error, whenever it would need the module.
 "use strict";
 
 const fs = require("fs");
@@ -26,8 +26,8 @@ const HELP = require("./help.json");
 
 const ORIGIN = `commit ${"0".repeat(40)}\nproof unknown\n`; // as of a program of which neither is known
 
-// For each command: its flag and options, the engine's function without and with the flag (or that the judge reads the input in pieces), whether
-// its argument is a file, and the maximum number of arguments.
+// For each command: its flag and its options; the engine's functions without and with the flag, or a mark for a command with code of its own;
+// whether its argument is a file; and the maximum number of arguments.
 const COMMANDS = {
   replay: { options: ["--lacks"], functions: ["listset_replay"], isOfFile: true },
   judge: { flag: "--brief", options: ["--only"], isJudge: true, isOfFile: true },
@@ -76,7 +76,7 @@ function parts() {
   }
 }
 
-// Parses the arguments: the command, whether its flag is set, its options by name without hyphens, and its values. A `--` can precede the
+// Parses the arguments. Returns the command, whether its flag is set, its options by name without hyphens, and its values. A `--` can precede the
 // values.
 function asked([name = "replay", ...words]) {
   answerFirst(name, words);
@@ -107,7 +107,7 @@ function unknownCommand(word) {
   return wrongWords(`unrecognized subcommand '${word}'`, "listset [COMMAND]", alike.length > 0 ? tip : undefined);
 }
 
-// Returns the edit distance of two words: letters changed, inserted, deleted or swapped with the next one.
+// Returns the edit distance of two words: how many letters must be changed, inserted, deleted or swapped with the next letter.
 function distance(one, other) {
   const rows = Array.from({ length: one.length + 1 }, (_, at) => [at]);
   for (let to = 1; to <= other.length; to += 1) rows[0][to] = to;
@@ -183,7 +183,7 @@ function bytesOf(input) {
   return Buffer.concat(pieces).subarray(0, LONGEST + 1);
 }
 
-// Waits for an input that has no data yet, such as a terminal.
+// Reads bytes of an input. If an input such as a terminal has no data yet, waits for it.
 function readSome(input, piece) {
   for (;;) {
     try {
@@ -195,7 +195,7 @@ function readSome(input, piece) {
   }
 }
 
-// Reads for the engine, which reports read errors itself.
+// Reads bytes for the engine. Returns -1 after an error, which the engine then reports.
 function readForEngine(input, piece) {
   try {
     return readSome(input, piece);
@@ -204,7 +204,7 @@ function readForEngine(input, piece) {
   }
 }
 
-// Returns the few calls of one key of a recording that show its refusal.
+// Answers `judge --only KEY`: returns the recording of one key or, if no order explains it, the few calls that show why.
 function keyed(engine, only, file) {
   const bad = { status: WRONG, bytes: Buffer.from("listset: bad KEY\n") };
   if (!isKey(only)) return bad;
@@ -220,7 +220,7 @@ const REFUSED = "not linearizable\n";
 const OF_A_FILE = "\nlistset judge FILE, with a file, also says what is wrong\n";
 const NOT_TOLD = "\nno explanation: memory ran out, or the file has changed since it was judged\n";
 
-// Returns the lines of a verdict without the advice and without the contradiction.
+// Matches the lines of a verdict that `judge --brief` prints: no advice, and no calls that contradict each other.
 const BRIEF = /^(ok |\d+ of them |the recording was cut off|not linearizable|no order explains )/;
 
 function briefly(verdict) {
@@ -229,8 +229,8 @@ function briefly(verdict) {
   return { ...verdict, bytes: Buffer.from(lines.filter((line) => line === "" || BRIEF.test(line)).join("\n")) };
 }
 
-// Returns the verdict on a recording, or the calls of one key. After a refusal it also returns what is wrong: a file is read again for that, a
-// pipe is not.
+// Returns the verdict on a recording, or the calls of the key `only`. After a refusal of a file, also returns a diagnosis, for which the file is read
+// again.
 function judged(engine, isBrief, only, file = "-") {
   if (only !== undefined) return keyed(engine, only, file);
   const verdict = engine.judgeFrom(opened(file));
@@ -240,13 +240,13 @@ function judged(engine, isBrief, only, file = "-") {
   return { ...verdict, bytes: Buffer.concat([verdict.bytes, more]) };
 }
 
-// Returns what is wrong in the recording in a file, or one line if that fails. The verdict has `used` lines.
+// Returns the diagnosis of the recording in a file, or a line that there is none. The verdict has `used` lines.
 function whatIsWrong(engine, file, used) {
   try {
     const { status, bytes } = engine.whyFrom(opened(file), used);
     if (status === 1) return bytes;
   } catch {
-    // (the line below says so)
+    // (NOT_TOLD reports this)
   }
   return Buffer.from(NOT_TOLD);
 }
@@ -266,7 +266,7 @@ function answerTo(engine, { name, functions, isJudge, isExplain, isOn, texts: { 
   return tried.status === WRONG ? tried : ask(bytesOf(opened(values[0])));
 }
 
-// Returns what explain prints about a file, also about an unreadable one. `name` is how the file is called in a text of it.
+// Returns what explain prints about a file, or about an unreadable file. `name` is the name of the file in this text.
 function explained(engine, file = "-", name = file === "-" ? "FILE" : file) {
   try {
     return engine.askBytes("listset_explain", Buffer.from(name), bytesOf(opened(file)));
@@ -296,8 +296,8 @@ function answerOrTrouble(engine, words) {
   }
 }
 
-// Decides whether standard output was closed. Node then opens /dev/null in its place, for reading and writing, which no shell's > does; Python's
-// DEVNULL and Node's own "ignore" do, and look the same. Only Linux shows how a file is open.
+// Decides whether standard output was closed. Node then opens /dev/null in its place, for reading and writing. A shell's `>` opens it for writing only,
+// but Python's DEVNULL and Node's own "ignore" look like a closed output. Only Linux shows how a file was opened.
 function isOutputClosed() {
   try {
     const [, flags] = /^flags:\s*(\d+)/m.exec(fs.readFileSync("/proc/self/fdinfo/1", "latin1"));
@@ -352,7 +352,7 @@ function hintOf(engine, { name, isOfFile, texts, values }, said) {
   return /cannot read/.test(said) ? `Standard input could not be read. Name a file: listset ${name} FILE` : "";
 }
 
-// The kinds of texts, by the first words of line 1, and the commands that read them.
+// The kinds of texts, each with the start of its first line and the commands that read it.
 const KINDS = [
   ["listset-schedule", "is a schedule", "For its report: listset replay FILE; for its picture: listset show FILE"],
   ["listset-draft", "is a draft", "For its schedule: listset draft FILE"],
@@ -412,7 +412,7 @@ function lineOf(file, number) {
   return line.slice(0, 100).replace(/[^ -~]/g, (byte) => `\\x${byte.charCodeAt(0).toString(16).padStart(2, "0")}`);
 }
 
-// Returns what is wrong in a file, and what to do.
+// Returns a hint for an error in a file: what is wrong, and what to do.
 function fileHint(engine, { name, texts, file, number, cause }) {
   const isLong = fs.existsSync(file) && fs.statSync(file).size > LONGEST;
   if (isLong && name === "judge" && cause) return longHint(engine, file, number, cause);
@@ -444,7 +444,7 @@ function isOutput(file) {
   return one.ino === other.ino && one.dev === other.dev;
 }
 
-// Returns a hint for an error that the engine's explanation of the file does not have: a broken list takes other steps.
+// Returns a hint for an error that the engine's explanation of the file does not have. With --lacks, calls can execute other steps.
 function otherHint(lacks, file, cause) {
   if (lacks === undefined) return `listset faults ${cause} explains this error`;
   return `On the list that lacks ${lacks}, calls can take other steps than on the whole list. For each step above this line: listset trace --lacks ${lacks} ${quoted(file)}; for the cause: listset faults ${cause}`;
@@ -464,7 +464,7 @@ function lacksHint(engine, lacks, file) {
   return `${lacks} is a check of the ${of} list, and line 2 is of another list. All checks: ${BROKEN_LISTS}`;
 }
 
-// Explains why the output could not be written: standard output is closed, a pipe whose reader has ended, or a file or device.
+// Explains why the output could not be written. Standard output is closed, or is a pipe whose reader has ended, or is a file or device.
 function unwrittenHint(name) {
   if (isOutputClosed()) return `Standard output is closed. To see the output, leave out '>&-'; to keep it: listset ${name} .. > FILE`;
   if (fs.fstatSync(1).isFIFO()) return "The command after the pipe ended before it had read all of the output, as head does. If it should read all, look there for an error";
@@ -490,7 +490,7 @@ function tooLongHint(name) {
   return `Standard input has more than ${LONGEST} bytes, and only judge reads more. ${shortened}`;
 }
 
-// Returns what a name means that is no file's: the command help, an example, or the only file with this name and an ending.
+// Returns a hint for the name of a missing file, if it is `help`, an example, or the name of a single file without its ending.
 function meant(engine, name, file) {
   if (file === "help") return `To read about this command: listset help ${name}`;
   if (file.startsWith("~")) return "A shell replaces ~ by your folder only outside of quotes";
@@ -522,7 +522,7 @@ function isEndLong(file) {
   return count === 129 && !piece.includes(10);
 }
 
-// Returns the refused line of a recording that is too long for explain, and its cause.
+// Returns a hint for a recording that is too long for the command explain: the refused line, and the cause.
 function longHint(engine, file, number, cause) {
   const [, part] = engine.ask("listset_fault", cause).text.split(", in recorded calls; exit status 1\n");
   const [why] = part.split("\n\n");
@@ -550,7 +550,7 @@ function brokenExamples(engine) {
   return namesOfExamples(engine).filter((it) => engine.ask("listset_broken_example", it).status === 0).sort();
 }
 
-// Returns how a number is spelled, as a sentence after a range, if a value is not spelled so; or the kind of list that a misspelled one means.
+// Returns a sentence about a misspelled value, shown after the value's range: how a number is spelled, or which kind of list is probably meant.
 function spelling(range, value) {
   if (/[0-9] to |: the first/.test(range)) return /^(0|[1-9][0-9]*)$/.test(value) ? "" : ". A number has decimal digits alone, and no leading zero";
   const plain = value.toLowerCase().replace(/[^a-z]/g, "").replace(/list$/, "");
@@ -558,7 +558,7 @@ function spelling(range, value) {
   return kind ? `. Perhaps you mean ${kind}` : "";
 }
 
-// Returns the range of an argument or option, from the help of its command.
+// Returns a hint for a wrong value of an argument or option: its range, from the help of its command.
 function valueHint(engine, { name, texts, values }, value) {
   const help = HELP[name] ?? "";
   const given = texts[value.toLowerCase()];
@@ -604,7 +604,7 @@ function ofThisFile(engine, { texts, values: [file = "-"] }, value) {
   return all || drawn ? `; of this file, 1 to ${all ?? drawn}` : "";
 }
 
-// Returns a hint with the words that start this script in place of the program's name.
+// Returns a hint in which each command begins with the way this script was called, in place of `listset`.
 function asCalled(hint) {
   const [from, whole] = [path.relative("", process.argv[1]), process.argv[1]];
   const called = `node ${quoted(from.length < whole.length ? from : whole)}`;
@@ -674,7 +674,7 @@ function optionHint(given, word) {
   return name.startsWith("-") ? "listset --help lists the commands" : `listset help ${name} lists its arguments and options`;
 }
 
-// Returns a hint for a number below 0: the range of the option or argument that it is given for.
+// Returns a hint for a negative number: the range of its option or argument.
 function negativeHint([name, ...words], word) {
   const at = words.findIndex((it) => it.startsWith(word));
   const option = Object.keys(VALUE_NAMES).find((it) => it === words[at - 1]);
@@ -686,7 +686,7 @@ function negativeHint([name, ...words], word) {
   return range ? `${value} '${word}' is wrong. ${range}` : `listset help ${name} lists its arguments and options`;
 }
 
-// At a terminal, prints what the command reads from it, and how to end the input. (The script ./listset prints that itself.)
+// If the command reads from a terminal, prints what the command reads and how to end the input. (The script ./listset prints this itself.)
 function tellWhatIsRead({ name, isOfFile, values: [file = "-"] }) {
   if (!isOfFile || file !== "-" || process.env.LISTSET_ENGINE !== undefined || !isatty(0) || !isatty(2)) return;
   process.stderr.write(`listset: ${asCalled(`reading ${READS[name] ?? "a text"} from the terminal, up to Ctrl-D (see listset help ${name})`)}\n`);

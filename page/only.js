@@ -4,8 +4,8 @@
 const ENOUGH = 16; // if a part of the calls is enough, the most that are printed
 const MOST_TRIED = 64; // the most calls that are tried as the first of a part
 
-// A part of a key's calls, from the one at `first` to the one before `behind`; and whether the key is in the set before and after the part,
-// `null` if the recording was cut off.
+// A part of a key's calls: those with the indices from `first` to `behind - 1`. `opening` and `left` state whether the set has the key before and after
+// the part; `left` is null if the recording was cut off.
 /** @typedef {{ first: number, behind: number, opening: boolean, left: boolean | null }} Part */
 
 // Returns the recording of a key, given the text of all keys; `null` if no call uses the key. `verdictOn` is the judge.
@@ -46,7 +46,7 @@ function partOf(calls, all, moment, refusal) {
   return part;
 }
 
-// Returns the places of the calls that begin while no call is pending.
+// Returns the indices of the calls that begin while no call is pending.
 function restsOf(calls) {
   const rests = [];
   let latest = 0n;

@@ -1,4 +1,4 @@
-// Checks the code beside the list: each row of a list belongs to one of its lines, and the calls of a line make its rows.
+// Checks the code that the page shows beside a list: each row of the list's step table belongs to a line, and the calls of a line execute its rows.
 "use strict";
 
 const { inPage } = require("../in_node.js");

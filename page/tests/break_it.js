@@ -60,8 +60,8 @@ function checkDeparture(ask, name) {
   check(`${name}: up to event ${event} they agree`, agree === event - 1 && common.total === event - 1);
 }
 
-// Checks the row of the set in the history: its label must state that the set follows from the linearization points. (The chain can have other
-// keys.)
+// Checks the row "set" of the history. Its label must state that the row shows the keys that follow from the linearization points. (The chain of a broken
+// list can have other keys.)
 function checkContents(trace) {
   for (let count = 0; count <= trace.total; count++) {
     const drawn = inPage("drawContents")(trace, inPage("scaleOf")(trace, count, 860, true));
@@ -86,7 +86,7 @@ function checkFile(ask, name) {
   }
 }
 
-// Checks that the page shows an answer unchanged if it is neither a verdict nor a trace.
+// Checks that the page shows the engine's answer unchanged if the answer is neither a verdict nor a trace.
 function checkTroubles(ask) {
   const stopped = (name) => (one, ...texts) => (one === name ? { status: 1, text: "the engine stopped: unreachable" } : ask(one, ...texts));
   const unchecked = verdictOnLacking(stopped("listset_check_record"), "lock", scheduleOf("lock"));
@@ -96,7 +96,7 @@ function checkTroubles(ask) {
   check("no trace of the whole list", departureOf(stopped("listset_trace"), trace) === null);
 }
 
-// Checks that the page names only the calls that no order explains, even if other calls follow.
+// Checks that a sentence about a broken run names only the calls that no order explains, even if other calls follow.
 function checkReasons(ask) {
   const { text } = inPage("scheduleOfDraft")(ask, `${scheduleOf("mark-at-key")}begin 1 add 7\ngo 1 out\n`, "mark-at-key");
   const later = verdictOnLacking(ask, "mark-at-key", text).says;
@@ -121,8 +121,8 @@ function checkDrafts(ask) {
   }
 }
 
-// Checks that a hand-in is judged on the broken list that its line names. If only the order by linearization points is refused, the run is no
-// solution.
+// Checks that a hand-in is judged on the broken list that its line names. A run is no solution if another order than that of the linearization points
+// explains its calls.
 function checkHandedIn(ask) {
   const judge = (line) => inPage("judgedPart")(ask, [], line);
   for (const name of NAMES) {

@@ -52,7 +52,7 @@ function coloursIn(part) {
   return colours;
 }
 
-// Returns each pair with its contrast and the required minimum.
+// Returns each pair of colours with its contrast and the required minimum.
 function contrastsOf(sheet) {
   const [light, dark] = sheet.split("@media (prefers-color-scheme: dark)").slice(0, 2);
   const schemes = { light: coloursIn(light), dark: coloursIn(dark.split("\n}")[0]) };

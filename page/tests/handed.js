@@ -36,7 +36,7 @@ const wrappedAtSigns = (text, width) =>
   text.replace(/^.+$/gm, (line) => (isShort(line) ? line : line.replace(new RegExp(`(.{1,${width - 1}}[ ,&-]|.{${width}})(?=.)`, "g"), "$1\n").replace(/ \n/g, "\n")));
 const coded = (text) => text.replaceAll("=", "=3D").replace(/(.{60}[^=]{3})(?=.)/g, "$1=\n");
 
-// Changes of a text by mail, such as quoting, wrapping, and adding lines around it.
+// What mail programs do to a text: quoting, wrapping, encoding, and adding lines around it.
 const MAILED = {
   "as it is": (text) => text,
   "with CRLF": (text) => text.replaceAll("\n", "\r\n"),
@@ -139,8 +139,8 @@ function checkAssignment(course, folder) {
   }
 }
 
-// Checks that copied solutions are found, however their lines are grouped: schedules that two students share. A schedule that many students share,
-// or that is an example, does not count as copied.
+// Checks that copied solutions are found: schedules that two students share, even if their lines are grouped differently. A schedule that many students
+// share, or that is an example, does not count as copied.
 function checkOwn(ask, course, folder) {
   const text = (student, solutions, lines = []) => handInText(NAME, student, solutions, lines);
   const own = ({ name, solution }, from, to) => ({ name, schedule: solution.replace(from, to) });

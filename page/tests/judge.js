@@ -1,5 +1,5 @@
-// node tests/judge.js checks the verdicts on a reader's answers about a run, which the engine's `check` decides, and the view of two lists side
-// by side. Prints as JSON how many checks passed, and which failed.
+// node tests/judge.js checks the verdicts on a reader's order for a run, which the engine's `check` decides, and the view of two lists side by side. Prints
+// as JSON how many checks passed, and which failed.
 "use strict";
 
 const fs = require("fs");
@@ -84,7 +84,7 @@ function checkByHand(ask) {
   check("replies of a ceiling", repliesOf(ceiling, { operation: "ceiling" }).join() === "nothing,at-5,at-9");
 }
 
-// Checks that a pending call must be in the order if it has changed the set, and may be left out otherwise.
+// Checks that the reader's order must contain a pending call that has changed the set, and can leave out any other pending call.
 function checkOpenCalls(ask) {
   const head = "listset-schedule 1\nlist lazy\nthreads 2\nquota 4\nbegin 0 add 5\n";
   const judgedAs = (steps, word) => {
@@ -265,7 +265,7 @@ function checkTroubles(ask) {
   check(`no answer: ${none.says}`, none.isRight === null && none.says === "This order is not judged: the engine stopped: unreachable.");
 }
 
-// Checks two lists side by side. In each turn, both lists make a step, except if the call has already returned in one of them.
+// Checks two lists side by side. In each turn, the thread executes a step in both lists, except in a list in which its call has already returned.
 function checkSides(ask) {
   const [Sides, readProgram, programText] = ["Sides", "readProgram", "programText"].map(inPage);
   const program = readProgram("0: add 5, remove 5\n t1 : contains 5\n");

@@ -1,10 +1,10 @@
-// Kinds of random recordings for verdicts.js: dense calls of one key, three keys, one operation alone, many keys with a short run each, changes of
-// other keys all the time, long gaps and large moments, sets with several bugs, and opening and final keys that are never called.
+// Kinds of random recordings for verdicts.js: many overlapping calls on one key, three keys, a single operation, many keys with a few calls each, other
+// keys that change all the time, long gaps and large moments, sets with several bugs, and opening and final keys that no call uses.
 "use strict";
 
-// Returns the kinds: functions that draw a recording. The arguments are the random numbers and the sequential set of verdicts.js.
+// Returns the kinds: functions that generate a random recording. The arguments are functions of verdicts.js: the random numbers and the sequential set.
 module.exports = ({ draw, pick, replyOf, keysAfter, paddingAfter }) => {
-  // Makes calls of some keys with a sequential set, some of them with a fault.
+  // Generates calls on some keys with the replies of a sequential set, a few of them wrong.
   function simulated({ keys, threads, count, opening, faults, rate, pending, operations, gap, start, thread0 }) {
     const calls = [];
     let set = [...opening];

@@ -89,7 +89,7 @@ function checkTries(ask, { lessons }) {
   for (const one of lessons) check(`${one.name}: a solution is no dead end`, judged(ask, one, one.solution).deadEnd === null);
 }
 
-// Checks that some schedules are not judged, and that the reason is given.
+// Checks that some schedules are not judged, and that the page states the reason.
 function checkReasons(ask, [lesson]) {
   const answer = lesson.solution;
   const reasons = [
@@ -110,7 +110,7 @@ function checkReasons(ask, [lesson]) {
   );
 }
 
-// Changes of a text: the part to replace, its replacement, a part of the line that the error names, and the error.
+// Changes that make the text of a course wrong: the part to replace, its replacement, a part of the line that the error must name, and the error.
 const BROKEN = [
   ["listset-course 1", "listset-course 2", "listset-course 2", 'expected "listset-course 1" here'],
   [/^course .*$/m, "", "listset-course 1", 'expected the line "course NAME"'],

@@ -1,5 +1,5 @@
-"""Compares page/listset.js in node with the program on random arguments: both outputs and the exit status. For wrong arguments the statuses agree,
-standard output is empty, and both print the same first line and the usage of the same command. page/test compares the engine itself on many texts.
+"""Compares page/listset.js in node with the program on random arguments: both outputs and the exit status must be equal. For wrong arguments, standard
+output must be empty, and the status, the first line of the error and the command in the usage must be equal. page/test compares the engine itself.
 """
 
 import os

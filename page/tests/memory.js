@@ -1,5 +1,5 @@
-// node page/tests/memory.js checks the heap of the module (wasm/heap.c) until an allocation is refused. Blocks do not overlap and are inside the
-// memory, which ends 16 MiB below 4 GiB (page/build). A refused allocation leaves the heap unchanged.
+// node page/tests/memory.js checks the heap of the module (wasm/heap.c) until an allocation fails. Blocks must not overlap and must be inside the memory,
+// which has at most 4 GiB minus 16 MiB (page/build). A failed allocation must leave the heap unchanged.
 "use strict";
 
 const fs = require("fs");
@@ -18,7 +18,7 @@ function check(what, is) {
   else failed.push(what);
 }
 
-// Fills the memory with blocks of a size. Checks the places of the blocks, that a small block still fits, and that a freed block can be allocated
+// Fills the memory with blocks of one size. Checks the addresses of the blocks, that a small block still fits, and that a freed block can be allocated
 // again.
 function fill(size) {
   const { memory, page_alloc: alloc, page_free: free } = new WebAssembly.Instance(built, { env: { read: () => -1n } }).exports;

@@ -1,6 +1,6 @@
-// Checks `judge --only KEY` on random recordings. It must return the recording of the key alone. If no order explains the key's calls, it must
-// return a part of them that the judge refuses with the same two lines, and the part's opening state must be the only state that the earlier
-// calls can leave.
+// Checks `judge --only KEY` on random recordings. If some order explains the key's calls, it must return the recording of this key. Otherwise it must
+// return a part of the calls that the judge refuses with the same two lines. The part must begin with the only state in which the earlier calls can leave
+// the key.
 "use strict";
 
 const { startedEngine } = require("../in_node.js");

@@ -1,4 +1,4 @@
-// node tests/parts.js checks those parts of the page that need no browser, with the committed module: some sentences, addresses, and stored data.
+// node tests/parts.js checks parts of the page that need no browser, with the committed module: some sentences, addresses, and stored data.
 "use strict";
 
 const { createHash } = require("crypto");
@@ -256,7 +256,7 @@ function checkStage(engine, texts) {
   check(`a long chain is folded: ${items.length}, ${units.width}`, items.length <= 14 && units.width * units.scale <= 1281 && items.some(({ names }) => names.length > 20));
 }
 
-// Returns a schedule of each list: five threads make calls, and alternate after one to three steps.
+// Returns a schedule of each list, in which five threads have calls and take turns of one to three steps.
 function crowded(engine) {
   const calls = ["add 5", "remove 5", "add 7", "contains 7", "remove 7"].map((call, thread) => `begin ${thread} ${call}`);
   const turns = Array.from({ length: 60 }, (_, turn) => `go ${(turn * 3) % 5} ${1 + (turn % 3)}`);
@@ -272,8 +272,8 @@ function longerBy(engine, text, line) {
   return engine.ask("listset_trace", longer).text.includes("\nrefused ") ? text : longer;
 }
 
-// Checks the line of the proved code that the page shows for each thread in a call. Before the call's first step, it is a line that begins a
-// call; before the last step, a line that can end one; if `find` restarts its walk, a line of `find`. Each line that makes rows must occur.
+// Checks the line of the proved code that the page shows for each thread in a call. Before the call's first step, the line must begin a call. Before the
+// last step, it must be able to end one. If `find` restarts its walk, the line must be in `find`. Each line that executes rows must occur.
 function checkListing(engine, texts) {
   const met = new Set();
   const wrong = texts.flatMap((text) => {
@@ -290,7 +290,7 @@ function checkListing(engine, texts) {
   check(`lines at which no thread stood: ${lines.filter((line) => !met.has(line))}`, lines.every((line) => met.has(line)));
 }
 
-// Returns the errors in the line of the thread that makes this event next, as an array. (The ceilings of two lists have no code.)
+// Returns an array of the errors in the shown line of a thread whose next event is `event`. (The ceilings of two lists have no code.)
 function wrongLine(trace, event, held, met) {
   const { kind } = trace;
   const found = inPage("codeOf")(kind, held.call);
@@ -308,7 +308,7 @@ function wrongLine(trace, event, held, met) {
   return isGood ? [] : [`${kind}, event ${event.number}: row ${held.pc} at ${found.file}:${line}`];
 }
 
-// Checks that after each event of a run the next press of a thread equals the next press in a run that ends with this event.
+// Checks that the next press of a thread after an event does not depend on the later events of the run.
 function checkPresses(engine) {
   inPage("held").engine = engine;
   const LiveRun = inPage("LiveRun");

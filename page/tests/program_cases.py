@@ -1,6 +1,6 @@
-"""Makes test cases for the page's engine from the program's answers. Each function of a text gets each example,
-generated schedules, drafts, recorded calls, reports, and broken texts. Other cases are pictures with options, broken
-lists, values for gen, and names.
+"""Makes test cases for the page's engine from the program's answers. Each function that reads a text is called with each
+example, with generated schedules, drafts, recorded calls and reports, and with damaged texts. Other cases are pictures
+with options, broken lists, values for gen, and names.
 """
 
 import base64

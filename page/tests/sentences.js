@@ -1,6 +1,6 @@
-// node tests/sentences.js checks that no sentence about a generated run is false. There are runs of each list and of each broken list. The check
-// reads each sentence and compares its statements with the run: keys that are compared, whether a key is present, whether the step adds, removes,
-// unlinks or marks what the sentence says, who holds a lock, and what the thread does and returns next.
+// node tests/sentences.js checks that no sentence about a generated run is false, for each list and each broken list. It parses each sentence and compares
+// its statements with the run: which keys are compared, whether a key is present, what the step adds, removes, unlinks or marks, who holds a lock, and
+// what the thread does and returns next.
 "use strict";
 
 const fs = require("fs");
@@ -15,8 +15,8 @@ const numberOf = (key) => ({ "−∞": -Infinity, "+∞": Infinity, "-inf": -Inf
 
 const isMarkOf = (event, node, thread) => event.word === `${node}.link` && event.to.endsWith("*") && thread === inPage("letterOf")(event.thread);
 
-// The patterns of sentences. Each has a test that returns true if a matching sentence is false. The test gets the words in brackets and the facts:
-// the event, the next step of its thread, and the chain, keys and locks after the event.
+// The patterns of sentences. Each has a test that returns true if a matching sentence is false. The test receives the matched groups and the facts: the
+// event, the next step of its thread, and the chain, keys and locks after the event.
 const CLAIMS = [
   [/key: (\S+)\. .*above (\d+)/, ([saw, key]) => numberOf(saw) <= numberOf(key)],
   [/key: (\S+)\. .*is below (\d+)/, ([saw, key]) => numberOf(saw) >= numberOf(key)],
@@ -121,7 +121,7 @@ function falseIn(claims, sentence, facts) {
 }
 const seen = new Set(); // the claims that some sentence has made
 
-// Returns the sentences of a run, each with the patterns that it matches although the statement is false.
+// Returns the sentences of a run, each with the patterns of the false statements in it.
 function readRun(trace) {
   const state = new (inPage("State"))(trace);
   const events = trace.events();
@@ -164,8 +164,8 @@ function tracedOf(engine, lacks, text) {
   return made.text.startsWith("listset-trace") ? new (inPage("Trace"))(made.text, inPage("versionOf")(text)) : null;
 }
 
-// Returns the events of a run of a correct list at which a ring is drawn wrongly. The legend says that a ring is the earliest moment at which the
-// answer of a call without changes is correct.
+// Returns the events of a run of a correct list at which a ring is drawn wrongly. For a call that changes nothing, the ring must be at the earliest moment
+// at which its reply is correct.
 function ringsWrong(trace) {
   const keysAt = [new Set(trace.opening)];
   for (const { put, took } of trace.events()) {

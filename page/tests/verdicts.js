@@ -1,6 +1,6 @@
-// node tests/verdicts.js [CASES] checks that what the page says of random recordings, of runs of broken lists and of the reader's own orders is true.
-// Each sentence is a property that a search of all orders decides; the sentences of a diagnosis are checked too. Prints as JSON how many checks
-// passed, and which failed.
+// node tests/verdicts.js [CASES] checks that the page's sentences about random recordings, about runs of broken lists and about the reader's own orders are
+// true. A search of all orders decides each sentence. The sentences of a diagnosis are checked too. Prints as JSON how many checks passed, and which
+// failed.
 "use strict";
 
 const fs = require("fs");
@@ -15,7 +15,7 @@ const [verdictOnCalls, verdictOnLacking, verdictOn] = ["verdictOnCalls", "verdic
 const [OwnAnswer, exerciseOf, readReport, LACKING] = ["OwnAnswer", "exerciseOf", "readReport", "LACKING"].map(inPage);
 const LAST = Infinity;
 
-// ---- Random numbers, the same in each run.
+// ---- Random numbers, which are the same each time this script runs.
 
 let seed = 1;
 function draw(most) {
@@ -26,7 +26,8 @@ function draw(most) {
 }
 const pick = (some) => some[draw(some.length)];
 
-// ---- A search of all orders. A call has a thread, an operation, a key, begun, ended and a reply; the last two are null while it is pending.
+// ---- A search of all orders. A call has a thread, an operation, a key, the moments `begun` and `ended`, and a reply. A pending call has no end and no reply
+// (null).
 
 function replyOf({ operation, key }, keys, hasRoom) {
   if (operation === "ceiling") {
@@ -44,7 +45,7 @@ function keysAfter({ operation, key }, keys) {
   return operation === "add" && !keys.includes(key) ? [...keys, key].sort((one, other) => one - other) : keys;
 }
 
-// Returns the sets that the explaining orders can leave, as texts.
+// Returns the final sets, as texts, of all orders that explain the calls.
 function leftByOrders(all, opening, quota = Infinity) {
   const calls = all.filter((call) => call.ended !== null || mayChange(call));
   const isBefore = (one, other) => one.ended !== null && one.ended < other.begun;
@@ -66,7 +67,7 @@ function leftByOrders(all, opening, quota = Infinity) {
   return left;
 }
 
-// Returns a call as the judge reads it: a ceiling, and an add that answered full, look at a key.
+// Converts a call as the judge does: a ceiling, and an add that returned full, become a contains.
 function asLook(call) {
   if (call.reply === "full") return { ...call, operation: "contains", reply: "false" };
   if (call.operation !== "ceiling" || call.reply === null) return call;
@@ -74,8 +75,8 @@ function asLook(call) {
   return { ...call, operation: "contains", key: Number(found ?? call.key), reply: String(found !== undefined) };
 }
 
-// Returns the states in which the calls of a key can leave it, starting from a given state. A node is the key's state and the pending calls that
-// have taken effect. A call that changes nothing takes effect as soon as it can.
+// Returns the states in which the calls on a key can leave the key if it starts in a given state. The search has nodes: a state of the key, and the pending
+// calls that have taken effect. A call that changes nothing takes effect as soon as it can.
 function waysLeft(calls, key, isThere) {
   const ofKey = calls.map(asLook).filter((call) => call.key === key && (call.ended !== null || mayChange(call)));
   const events = ofKey.flatMap((call) => [[call.begun, call, true], ...(call.ended === null ? [] : [[call.ended, call, false]])]).sort(([one], [other]) => one - other);
@@ -112,7 +113,7 @@ const quotaIn = (report) => Number(/^quota (\d+)$/m.exec(report)[1]);
 
 // ---- The judged cases, and the properties of the sentences.
 
-// A case has the calls, the opening keys, the final keys (null if unknown), and the quota.
+// Returns whether some order explains a case. A case has the calls, the opening keys, the final keys (null if unknown), and the quota.
 const isExplained = ({ calls, opening, keys, quota }) => {
   const left = leftByOrders(calls, opening, quota);
   return keys === null ? left.size > 0 : left.has(keys.join());
@@ -182,7 +183,7 @@ function isSecond(it, said, text) {
   return said.second !== undefined && needs(said.second) === (need === "present") && said.isPresent !== (need === "present");
 }
 
-// Returns whether no call that brings the key into this state, and returned true or is pending, overlaps a period.
+// Returns whether no call that can have changed the key by this operation overlaps a period. Such a call returned true or is pending.
 function isNoneBetween(it, key, operation, since, until) {
   return !it.calls.some((call) => call.key === key && call.operation === operation && mayChange(call) && call.begun < until && since < (call.ended ?? LAST));
 }
@@ -192,7 +193,7 @@ function checkSentences(properties, it, sentences) {
   for (const sentence of sentences) checkSentence(properties, it, sentence, said);
 }
 
-// `said` has the facts of the earlier sentences, `line` the other parts of this sentence's line.
+// Checks a sentence. `said` has the facts from earlier sentences, and `line` the other parts of the sentence's line.
 function checkSentence(properties, it, sentence, said, line) {
   const [pattern, holds] = properties.find(([one]) => one.test(sentence)) ?? [null, () => false];
   met.add(pattern);
@@ -239,7 +240,7 @@ function textOf(calls, opening, left) {
   return ["listset-calls 1", ...opening.map((key) => `opening ${key}`), ...lines, ...ends, ""].join("\n");
 }
 
-// Returns right calls of other keys, one after another. A diagnosis of few calls has no likely cause.
+// Returns correct calls on other keys, one after another. (Without them, a recording has too few calls for a likely cause in its diagnosis.)
 function paddingAfter(last) {
   const made = [["contains", "false"], ["add", "true"], ["add", "false"], ["contains", "true"], ["remove", "true"], ["remove", "false"]];
   const ofKeys = [11, 13, 15].flatMap((key) => [...made, ...made, ...made, ...made].map(([operation, reply]) => ({ thread: 3, operation, key, reply })));
@@ -322,7 +323,7 @@ const needsKey = (call) => (call.reply === "true") === (call.operation !== "add"
 const ofKey = (it, key) => it.calls.filter((call) => call.key === key);
 const opens = (it, key) => it.opening.includes(key);
 
-// Decides whether calls of a key have an order from a given state of the key, and to a final state if one is given.
+// Decides whether some order explains calls on a key that starts in a given state and, if `left` is given, ends in the state `left`.
 function hasOrder(calls, key, isThere, left = null) {
   const ways = waysLeft(calls, key, isThere);
   return left === null ? ways.length > 0 : ways.includes(left);
@@ -330,16 +331,16 @@ function hasOrder(calls, key, isThere, left = null) {
 const leftOf = (it, key) => (it.keys === null ? null : it.keys.includes(key));
 const hasOrderOf = (it, key) => hasOrder(ofKey(it, key), key, opens(it, key), leftOf(it, key));
 
-// Returns what is known about the calls at a moment: a change that ends later may have taken effect, and any other
-// later call is left out.
+// Returns the calls as far as they are known at a moment. A change that ends later becomes a pending call, since it can
+// have taken effect. Any other call that ends later is left out.
 const knownBy = (calls, moment) => calls.flatMap((call) => {
   if (call.begun > moment) return [];
   if (call.ended !== null && call.ended <= moment) return [call];
   return isChange(call) ? [{ ...call, ended: null, reply: null }] : [];
 });
 
-// Returns the moments from which a key's calls can be judged by themselves, each with the key's state: the first moment, and each one at which no
-// change is pending and the earlier calls or changes leave only one state.
+// Returns the moments from which the later calls on a key can be judged without the earlier ones, each with the key's state: the first moment, and each
+// moment at which no change is pending and the earlier calls or changes leave only one state.
 function startsOf(calls, key, isThere) {
   const changes = calls.filter(isChange);
   const found = [[0, isThere]];
@@ -358,8 +359,8 @@ function startsOf(calls, key, isThere) {
   return found;
 }
 
-// Yields the stretches of calls around a call: the state before them, the calls, and the final state if the stretch
-// reaches the end.
+// Yields parts of the recording that contain a call: the key's state before the part, the calls of the part, and the final
+// state if the part reaches the end of the recording.
 function* around(it, key, call) {
   const calls = ofKey(it, key);
   it.starts ??= new Map();
@@ -373,8 +374,8 @@ function* around(it, key, call) {
   }
 }
 
-// Returns whether the calls around a call are linearizable exactly if it has the opposite reply, considering only the
-// key's changes or all calls.
+// Returns whether the calls around a call are linearizable only if the call has the opposite reply. It is enough if this holds
+// for the changes of the key alone.
 function isExpected(it, call) {
   const changes = knownBy(ofKey(it, call.key).filter((one) => isChange(one) && one !== call), call.ended);
   const fits = (one, others, isThere, left) => hasOrder([...others, one], call.key, isThere, left);
@@ -394,8 +395,8 @@ function isGone(it, key, wasThere, call) {
     [0, ...part.flatMap(({ begun, ended }) => [begun, ended ?? begun])].some((moment) => hasOrder([...part, change(moment)], key, isThere, left)));
 }
 
-// Returns the answers of an operation that cannot be explained together with the other operations, each answer tried by
-// itself. Returns null if the other operations alone are not linearizable.
+// Returns the wrong answers of an operation: those that no order explains together with the calls of the other operations. Each
+// answer is tried by itself. Returns null if the other operations alone are not linearizable.
 function wrongAnswers(it, operation, isAside) {
   const wrong = [];
   let count = 0;
@@ -407,7 +408,7 @@ function wrongAnswers(it, operation, isAside) {
     count += answers.length;
     wrong.push(...answers.filter((call) => !hasOrder([...others, call], key, opens(it, key), left)));
   }
-  // whether the calls of each key have an order without these answers
+  // Whether some order explains the calls without the wrong answers.
   const isAll = keysOf(it).every((key) => hasOrder(ofKey(it, key).filter((call) => !wrong.includes(call)), key, opens(it, key), isAside ? null : leftOf(it, key)));
   return { wrong, count, isAll };
 }
@@ -454,11 +455,11 @@ function isWrongAlone(it) {
   });
 }
 
-// Decides whether a contains or remove that returned false contradicts an earlier call that left the key, and is one of a kind.
+// Decides whether a contains or remove that returned false contradicts an earlier call of a kind that left the key present.
 const isMissed = (it, isOfKind) => it.calls.some((call) => call.operation !== "add" && call.reply === "false"
   && ofKey(it, call.key).some((first) => first.ended !== null && first.ended < call.begun && leaves(first) && isOfKind(first) && isNoneBetween(it, call.key, "remove", first.begun, call.ended)));
 
-// Decides whether a call that changes nothing finds a key although an earlier remove contradicts it.
+// Decides whether a call that changes nothing found a key that an earlier remove had removed.
 const isFoundAgain = (it) => it.calls.some((call) => call.ended !== null && !isChange(call) && needsKey(call)
   && ofKey(it, call.key).some((first) => first.operation === "remove" && first.reply === "true" && first.ended < call.begun && isNoneBetween(it, call.key, "add", first.begun, call.ended)));
 
@@ -469,7 +470,8 @@ const KINDS = {
   "where a key was lost": "lost", "where a key came back": "came back", "with two adds that both returned true": "two adds true",
   "with two removes that both returned true": "two removes true", "with one wrong answer": "one wrong answer", "of no such kind": "none of these",
 };
-// Returns for each completed change by an operation whether the next call of the key sees it. Leaves out changes that an opposite one can have undone.
+// Returns, for each completed change by an operation, whether the next call on the key sees the change. Leaves out a change that an opposite change can have
+// undone.
 function nextCallsSee(calls, operation) {
   const state = operation === "add";
   const isOpposite = (call) => isChange(call) && (call.operation === "add") !== state;
@@ -481,7 +483,7 @@ function nextCallsSee(calls, operation) {
   });
 }
 
-// Returns the next completed call of an operation on the key of an answer, if no change of the key ran between the two.
+// Returns the next completed call of an operation on the key of `answer`, if no change of the key ran between these two calls.
 function nextCall(it, answer, operation) {
   const next = ofKey(it, answer.key).filter((call) => call.operation === operation && call.ended !== null && call.begun > answer.ended).sort((one, other) => one.begun - other.begun)[0];
   if (next === undefined) return undefined;
@@ -489,7 +491,7 @@ function nextCall(it, answer, operation) {
   return ofKey(it, answer.key).some((call) => call !== answer && isChange(call) && inTime(call, answer.begun, until)) ? undefined : next;
 }
 
-// Decides whether a contradiction of a short list is one: the calls of the key that had begun by its end have no order.
+// Decides whether a contradiction in the short list of a diagnosis is true: no order explains the calls on the key that had begun by its end.
 function isListed(it, told) {
   const [, key, symptom, since, until] = /^key (\d+) (lost|came back|added twice|removed twice|missed|found, though absent,|contradictory) (?:by the end|from (\d+) to (?:(\d+)|the end))$/.exec(told) ?? [];
   if (key === undefined) return false;
@@ -593,7 +595,7 @@ const OF_WHY = [
     return told.isAll && next.filter((isWrong) => !isWrong).length === Number(right) && next.filter((isWrong) => isWrong).length === Number(wrong);
   }],
   [/^fact headline and picture are of another contradiction than the verdict$/, (it, found, why) => {
-    // the first moment up to which the calls of a key have no order
+    // The first moment up to which no order explains the calls on some key.
     const moments = keysOf(it).flatMap((key) => ofKey(it, key).flatMap(({ ended }) => ended ?? [])).sort((one, other) => one - other);
     const first = moments.find((moment) => keysOf(it).some((key) => !hasOrder(knownBy(ofKey(it, key), moment), key, opens(it, key)))) ?? LAST;
     const isOfFirst = ({ call }) => hasOrder(knownBy(ofKey(it, call.key), first), call.key, opens(it, call.key));
@@ -754,7 +756,7 @@ const OF_LACKING = [
   [/^Broken: (.*), which leaves (\d+) (there|not there), and (.*)\.$/, (it, [first, key, state, second]) => isToldSo(it, Number(key), [first, state === "there"], second)],
 ];
 
-// Returns whether the judge can decide a report: each call returned true or false, and no thread can exceed the quota.
+// Returns whether the judge can decide a report: each call returned true or false or is pending, and no thread can exceed the quota.
 function isDecided({ calls, quota }) {
   const adds = [0, 1, 2].map((thread) => calls.filter((call) => call.thread === thread && call.operation === "add" && mayChange(call)).length);
   return calls.every(({ reply }) => reply === null || /^(true|false)$/.test(reply)) && Math.max(...adds) <= quota;
@@ -765,8 +767,8 @@ function isLost({ calls, opening, keys }, key) {
   return made("add") === 1 && made("remove") === 0 && !opening.includes(key) && !keys.includes(key);
 }
 
-// Returns whether two calls, or a call and the opening or final state of the key, contradict each other, and no other
-// call could have changed that. The calls are given by name.
+// Returns whether two calls, or a call and the opening or final state of the key, contradict each other, and no other call can
+// have changed the key between them. `first` and `second` are descriptions of calls.
 function isToldSo(it, key, first, second) {
   const looks = it.calls.map((call) => ({ ...asLook(call), told: `${nameIn(call)} ${call.ended === null ? "is pending" : `answers ${call.reply}`}` }));
   const named = (told) => looks.filter((call) => call.key === key && call.told === told);
@@ -778,7 +780,8 @@ function isToldSo(it, key, first, second) {
   return firsts.some((one) => seconds.some((other) => isNoneBetween(ofKey, key, isPresent ? "remove" : "add", one?.begun ?? 0, other?.ended ?? LAST)));
 }
 
-// Draws a run of a broken list, from its start or after the schedule that breaks the list. Each line is tried, and kept if the list accepts it.
+// Generates a random run of a broken list. It begins with no step, or with the schedule that breaks the list. Random lines are added if the list accepts
+// them.
 function drawnRun(ask, name) {
   const breaking = path.join(__dirname, "..", "..", "examples", "schedules", "lacks", `${name}.schedule`);
   const opening = [3, 7].filter(() => draw(3) > 0);
@@ -831,7 +834,7 @@ const OF_OWN = [
 
 const nameIn = (call) => `${call.operation}(${call.key}) of ${"ABCD"[call.thread]}`;
 
-// Returns the places of the reader's order: each call with the call before it, the set before and after it, its given answer and the due one.
+// Returns the steps of the reader's order: each call with the call before it, the set before and after it, the reader's reply and the correct reply.
 function stepsOf(it) {
   let [keys, before] = [it.opening, null];
   const steps = [{ after: keys }];

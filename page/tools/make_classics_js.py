@@ -1,5 +1,5 @@
-"""Makes made/classics.js from docs/CLASSIC.md: for each example its question, the answer, the events that decide it, what goes wrong without the check,
-and the lists of its kind that lack the check; also the kind of each broken list.
+"""Makes made/classics.js from docs/CLASSIC.md. For each example, it contains the question, the answer, the deciding events, what goes wrong without the
+check, and the broken lists that lack the check. It also contains the kind of each broken list.
 """
 import json
 import re

@@ -1,6 +1,6 @@
-"""Makes made/code.js from the plain loops of the proved crates: the source of the functions that make the steps of calls, with the table rows that each
-line makes. Comments at these lines name the rows ('// row 3', '// rows 5, 6, 7'). The page uses them to show each thread at its line. The interpreter
-makes the rows of a ceiling in the lists that mark.
+"""Makes made/code.js from the plain loops of the proved crates: the source of the functions that execute the steps of calls, with the rows of the step
+table that each line executes. Comments at these lines name the rows ('// row 3', '// rows 5, 6, 7'). The page uses the rows to show each thread at its
+line. On lists with marks, a ceiling has no loop of its own: the interpreter of the step tables executes it.
 """
 
 import json
@@ -39,8 +39,8 @@ def is_last(lines, number):
 
 
 def steps_of(found, lines):
-    """Yields the steps of a file. If several steps make one row, each of them states whether calls begin at its line,
-    and whether they return there."""
+    """Yields the steps of a file. If several steps execute the same row, each of them states whether calls begin at its
+    line, and whether they return there."""
     rows = [row for *_, made in found for row in made]
     for number, step, made in found:
         told = {"line": number, "rows": made}
@@ -50,7 +50,7 @@ def steps_of(found, lines):
 
 
 def code_of(file):
-    """Returns the functions of a file that make steps: each with its lines, its steps, and the lines at which it calls
+    """Returns the functions of a file that execute steps: each with its lines, its steps, and the lines at which it calls
     other functions of the file.
     """
     source = rattle_sources.Source((TOP / "crates" / file).read_text(encoding="utf-8"))

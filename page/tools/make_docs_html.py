@@ -1,5 +1,5 @@
-"""Makes HTML of pages in docs/, in the frame of page/index.html. Each picture links to its run, moment by moment, and each line of a trace to its event.
-Each row of a table links to an event of an example that makes the row (traces.js), if there is one. Each broken list links to the schedule that
+"""Converts pages of docs/ to HTML, in the frame of page/index.html. Each moment of a picture and each line of a trace links to the event of the run. Each
+row of a step table links to an event of an example that executes the row (traces.js), if there is one. Each broken list links to the schedule that
 breaks it (examples/schedules/lacks).
 
 Python-Markdown makes the HTML; this script changes its output. Text for the terminal is left out: in a block of code the lines that begin with `$`,
@@ -55,8 +55,8 @@ def frame(index):
 
 
 class Runs:
-    """The runs of the classic examples, by their traces: each example's list, the lines of its events, and for each row
-    the first event that makes this row."""
+    """The runs of the classic examples, read from their traces: the lines of each example's events, and for each row of a
+    step table the first event that executes the row."""
 
     def __init__(self, text):
         self.events, self.rows = {}, {kind: {} for kind in KINDS.values()}
@@ -111,7 +111,7 @@ class Document:
         return made
 
     def table(self, made):
-        """Returns a table with links in its first column: from the number of a row to an event that makes this row, or
+        """Returns a table with links in its first column: from the number of a row to an event that executes this row, or
         from the number of an event to the event.
         """
         kind = re.search("<th>(.*?)</th>", made)[1]

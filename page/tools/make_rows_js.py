@@ -1,5 +1,5 @@
-"""Makes made/rows.js from docs/TABLES.md. It contains the texts that the page shows beside a thread's row, and the
-properties of rows on which the page's sentences depend.
+"""Makes made/rows.js from docs/TABLES.md, the step tables of the lists. It contains the texts that the page shows for a
+thread's row, and the properties of rows on which the page's sentences depend.
 """
 import json
 import re
@@ -22,7 +22,7 @@ def plain(text):
 
 
 def leads_of(then):
-    """Returns the rows that can follow by the column "Then", by the reason."""
+    """Returns the rows that can follow a row, by the reason of the jump, as its column "Then" states them."""
     found = {name: re.search(pattern, then) for name, pattern in LEADS.items()}
     return {name: int(next(filter(None, match.groups()))) for name, match in found.items() if match}
 
@@ -61,7 +61,7 @@ def registers_in(rows):
 
 
 def calls_of(section, reads):
-    """Returns the numbers of the rows that each call can make, and the registers that these rows set."""
+    """Returns the numbers of the rows that each call can execute, and the registers that these rows set."""
     rows = rows_of(section)
     adds, removes, leaves = deciding_rows(section)
     left_out = {"add": range(removes, leaves), "remove": range(adds, removes)}

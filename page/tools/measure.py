@@ -1,5 +1,5 @@
 #!/usr/bin/python3
-"""Measures the page in a browser: the bytes that the path loads, the first picture, and a step chosen on the slider.
+"""Measures the page in a browser: the bytes that the path loads, and the times until the first picture and until a step chosen on the slider is shown.
 
     page/tools/measure.py [--browser chromium] [--calls 12]
 

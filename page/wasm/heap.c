@@ -1,9 +1,9 @@
-// The heap of the module: the three functions of a Rattle program's heap, for WebAssembly with 64-bit addresses, and two for the
-// page itself. No proof covers this file.
+// The heap of the module: the three heap functions of a Rattle program, for WebAssembly with 64-bit addresses, and two functions
+// for the page. No proof covers this file.
 //
-// Blocks have 2^k bytes, k from 5 to 32; the 16 bytes before what is handed out hold k. A freed block goes to the list of its
-// size. A new one is cut from the end of the memory, which grows by whole pages; where it cannot grow, memory is refused. It ends
-// 16 MiB below 4 GiB (../build).
+// A block has 2^k bytes, with k from 5 to 32. Its first 16 bytes contain k; the allocation is after them. Freed blocks are in a
+// list for each size. A new block is taken from the end of the memory, which grows by whole pages. If the memory cannot grow, the
+// allocation fails. The memory has at most 4 GiB minus 16 MiB (../build).
 typedef unsigned long long u64;
 typedef struct { u64 ok; char *block; } Tried;
 
@@ -24,7 +24,7 @@ static int class_of(u64 count) {
 // 2^32 - 1.)
 static int has_grown(u64 pages) { return (unsigned)__builtin_wasm_memory_grow(0, pages) != ~0U; }
 
-// Adds at least `bytes` at the end of the memory, by more pages than needed if the memory can grow so far.
+// Grows the memory by at least `bytes` bytes. If possible, grows by PAGES_AT_ONCE pages even if fewer are needed.
 static int grow(u64 bytes) {
     u64 needed = (bytes + PAGE - 1) / PAGE;
     u64 wanted = needed < PAGES_AT_ONCE ? PAGES_AT_ONCE : needed;

@@ -56,7 +56,7 @@ export function homeworkOf({ activity, id }, task = { kind: "", id: "" }) {
   return wordsIn(homework.given[activity], isRun ? "," : ".").includes(isRun ? task.id : id) ? homework : null;
 }
 
-// Returns the link to the next place: after a task of the assignment, the next task, or the assignment after its last task. Elsewhere, the link is `own`.
+// Returns the link forward: from a task of the assignment to the next task, and from the last task to the assignment. From any other place, returns `own`.
 export function wayOn({ activity, id }, own) {
   const homework = homeworkOf({ activity, id });
   if (homework === null) return own;

@@ -170,7 +170,7 @@ def place(request):
 
 
 class Turns:
-    """Provides browsers of one kind, one at a time. Replaces a browser after some scenarios, or if it has died."""
+    """Provides browsers of one kind, one at a time. Replaces a browser after some scenarios, or if it has crashed."""
 
     def __init__(self, name, place):
         self.name, self.place, self.one, self.left = name, place, None, 0

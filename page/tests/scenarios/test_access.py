@@ -71,8 +71,8 @@ def go(visitor, address):
 
 
 def next_stop(visitor, stops):
-    """Presses Tab and returns the focused element. A second press is allowed: in Firefox the focus is in the browser's own buttons
-    after a page was left by Tab, and one more press is needed at the next page's end.
+    """Presses Tab and returns the focused element. Presses Tab a second time if necessary: in Firefox, the focus can be in the
+    browser's own buttons, after the last element of a page.
     """
     for _ in range(2):
         visitor.press("Tab")

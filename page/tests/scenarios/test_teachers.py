@@ -88,7 +88,7 @@ BROKEN = "break lock #list=coarse&threads=2&quota=2&opening=3.7&s=b0.add.5,b1.ad
 
 
 def marked(number):
-    """Returns a solution that no other number has: A looks for other keys first."""
+    """Returns a different solution for each number: A first looks for other keys."""
     return MARKED.format("".join(f"b0.contains.{1 + int(digit)},g0.2," for digit in f"{number:05b}"))
 
 
