@@ -25,7 +25,7 @@ try {
   };
 }
 
-// Returns the value of a name that a module of the page exports, or of an expression of such names.
+// Evaluates an expression, in which all names can be used that the page's modules export. Often the expression is a single name.
 function inPage(words) {
   const textOf = (name) => fs.readFileSync(path.join(__dirname, name), "utf8");
   bundle.names ??= vm.runInThisContext(`${textOf("page.js")}\n${textOf("more.js")}\nObject.assign(listsets.more, MORE), listsets`, { filename: "page.js" });

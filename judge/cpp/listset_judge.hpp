@@ -147,7 +147,8 @@ struct range {
     uint64_t least, most;
 };
 
-// made of words.json by judge/make_words: `longest` in looks at the counter, `part` and `meet` in calls, `patience` in seconds, `soon` in nanoseconds
+// LONGEST is a number of polls, PART and MEET are numbers of calls, PATIENCE is in seconds, and SOON in nanoseconds.
+// The lines below are made of words.json by judge/make_words.
 constexpr shape PRESETS[] = {{"few keys", 4, 1, 5000, 4, 1}, {"fresh sets", 4, 40, 10, 4, 1}, {"multiples of 64", 4, 1, 5000, 8, 64}, {"one key", 3, 1, 5000, 1, 1}, {"sets that grow", 4, 20, 125, 64, 1}, {"many keys", 4, 1, 2500, 1000, 1}, {"multiples of 1,000", 8, 1, 2500, 8, 1000}};
 constexpr range RANGES[] = {{"threads", 1, 64}, {"threads times calls", 1, 1000000000}, {"keys", 1, 1048576}, {"pauses", 0, 100}, {"runs", 1, 1000000}, {"seconds", 1, 3600}, {"within", 1, 604800}, {"at_least", 0, 100}, {"the sum of shares", 1, 1000000}};
 constexpr unsigned PART = 20000, LONGEST = 100, HOT = 4, ENOUGH = 5, HARDER = 2, PATIENCE = 10, MEET = 250, AWAKE = 300000, WITHIN = 60, STOPS = 32, PATIENT = 40, MANY = 40, SOON = 4000;

@@ -63,7 +63,7 @@ type head struct {
 	tickets, there, done, begun uint32
 	at, isStopping, isBusy      uint32
 	isHere                      uint32 // whether a child process has reached the test's Check
-	file, why                   text   // why the run failed
+	file, why                   text   // the path of the recording, and why the run failed
 }
 
 // area is the memory of a run, which processes can share. It contains the calls that have not been saved in the file

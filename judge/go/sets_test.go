@@ -95,7 +95,7 @@ func (s *set) called(call func(uint32) bool, key uint32) bool {
 	return call(key)
 }
 
-// stop hangs in a remove while holding the lock.
+// stop hangs, crashes, exits, panics or naps in a late remove, as the variable SET names it, while holding the lock.
 func (s *set) stop() {
 	s.lock.Lock()
 	defer s.lock.Unlock()

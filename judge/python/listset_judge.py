@@ -51,7 +51,8 @@ Call = collections.namedtuple("Call", "begin end thread call key reply")
 # keys. The keys are the multiples of `times`.
 Shape = collections.namedtuple("Shape", "name threads sets calls keys times")
 
-# made of words.json by judge/make_words: PART and MEET in calls, PATIENCE in seconds
+# PART and MEET are numbers of calls, and PATIENCE is in seconds.
+# The lines below are made of words.json by judge/make_words.
 PRESETS = (
     Shape("few keys", 4, 1, 5000, 4, 1),
     Shape("fresh sets", 4, 40, 10, 4, 1),

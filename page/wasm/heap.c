@@ -78,6 +78,6 @@ Tried rattle_realloc(char *block, u64 kept, u64 count, u64 alignment) {
     return tried;
 }
 
-// Allocates blocks for the page, for its inputs and outputs; returns 0 if an allocation fails.
+// Allocates a block for an input or an output of the page. Returns 0 if the allocation fails.
 char *page_alloc(u64 count) { return rattle_alloc(count, HEAD).block; }
 void page_free(char *block) { if (block) rattle_dealloc(block); }

@@ -55,7 +55,7 @@ final class Sets {
             return call.getAsBoolean();
         }
 
-        /** Hangs in a remove. */
+        /** Hangs, ends the JVM, throws or naps in a late remove, as the variable SET names it. */
         private synchronized void stop() {
             int due = is.equals("crashes late") ? 10_000 : 30;
             if (calls.incrementAndGet() != due) return;

@@ -74,7 +74,7 @@ class Named(Right):
         return call(key) if self.name == "again" else None
 
     def stop(self):
-        """Hangs in a `remove` while holding the lock."""
+        """Fails in a late `remove` while holding the lock. STOPS has what happens, by the name of the set."""
         self.calls += 1
         if self.calls >= (10_000 if self.name == "crashes late" else 30):  # (>= because two threads can count at the same time)
             with self.lock:

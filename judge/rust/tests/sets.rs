@@ -74,8 +74,8 @@ impl Set {
         }
     }
 
-    /// Hangs in a `remove` while holding the lock. If it panics instead, the lock is poisoned, and other threads that attempt
-    /// to acquire the lock panic too.
+    /// Hangs, crashes, exits, panics or naps in a late `remove`, as the variable SET names it, while holding the lock. A panic
+    /// happens without the lock, since other threads would also panic at a poisoned lock.
     fn stop(&self) {
         let _held = (self.is != "throws").then(|| self.keys.0.lock().unwrap());
         match (&*self.is, self.calls.fetch_add(1, SeqCst)) {

@@ -115,7 +115,8 @@ function placesOfChain(items, room, units, slots) {
   return places;
 }
 
-// Returns the nodes outside the chain to draw: important ones, the threads' own, and the last unlinked ones.
+// Chooses which nodes outside the chain are drawn (`shown`): first the important nodes, then those that only their thread sees, then unlinked ones. `more` is
+// the number of the others.
 function nodesAside(state, chain, important, most) {
   const inChain = new Set(chain);
   const aside = Object.keys(state.nodes).filter((name) => !inChain.has(name) && isWritten(state.nodes[name]));

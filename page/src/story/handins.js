@@ -52,7 +52,7 @@ export async function checkAll(files, assignment, sayProgress = (_at, _of) => {}
   return { rows, columns, empty, common: common.map(({ task, rows: same }) => `${titleOf(task, courses)} (${counted(same.length, "student")}: ${fewNames(same)})`) };
 }
 
-// Groups the texts by number and name. A text without a number gets a row of its own.
+// Adds a text to the row of its student, who is found by number and name. A text without a student's number gets a row of its own.
 function takeText(students, text, courses, assignment) {
   const read = readHandIn(text);
   const who = studentOf(read.student, text.file);

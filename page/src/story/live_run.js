@@ -143,7 +143,7 @@ export class LiveRun extends ShownRun {
     return begun + this.chunk(this.trace, begun, row).steps;
   }
 
-  // Returns how many steps a thread executes until `isThere` holds, its call returns, or it waits for a lock.
+  // Returns how many steps a thread executes until `isThere` holds, its call returns, or it waits for a lock. Returns 1 if it executes too many.
   stepsUntil(thread, isThere) {
     const { total } = this.trace;
     const trace = this.traceOf([...this.lines, `go ${thread} ${MOST_STEPS}`]);
