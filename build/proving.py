@@ -125,8 +125,8 @@ def prove_below(room, names, tell):
 
 
 def take_program(name, room, began):
-    """Copies a proved program to this repository and stamps it with its commit. Its modification time is the start of its
-    build.
+    """Copies a proved program to this repository and stamps it with its commit. Sets its modification time to the start of
+    the build.
     """
     made, program = room / "crates" / name / "out" / name, crates_txt.TOP / "crates" / name / "out" / name
     program.parent.mkdir(exist_ok=True)

@@ -717,8 +717,8 @@ class RenewedSet:
 
 
 class OwnSeat:
-    """A thread's seat in a `RenewedSet`, as returned by `RenewedSet.split`. A call from it renews the set if the seat has
-    used up its quota. A call can raise `TimedOut` if the set has a `patience`.
+    """A thread's seat in a `RenewedSet`, as returned by `RenewedSet.split`. An `add` renews the set if the seat has used up
+    its quota. A call can raise `TimedOut` if the set has a `patience`.
     """
 
     def __init__(self, of, place):

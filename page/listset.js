@@ -17,14 +17,14 @@ const path = require("path");
 const { isatty } = require("tty");
 const { NO_ENGINE, NOT_RUN, onlyKey, startedEngine } = parts();
 
-const LONGEST = 67108864; // bytes of an input that is no recording; what is longer is not read to its end
-const WRONG = 2; // the status of wrong words, and of a wrong value
+const LONGEST = 67108864; // the maximum number of bytes of an input that is no recording; a longer input is not read to its end
+const WRONG = 2; // the exit status for wrong arguments
 const MORE = "For more information, try '--help'.";
 
 // The program's help and version texts, by --help, --version and command.
 const HELP = require("./help.json");
 
-const ORIGIN = `commit ${"0".repeat(40)}\nproof unknown\n`; // as of a program of which neither is known
+const ORIGIN = `commit ${"0".repeat(40)}\nproof unknown\n`; // the lines of a program without a known commit and proof
 
 // For each command: its flag and its options; the engine's functions without and with the flag, or a mark for a command with code of its own;
 // whether its argument is a file; and the maximum number of arguments.
@@ -134,7 +134,7 @@ const unexpected = (name, word) => wrongWords(`unexpected argument '${word}' fou
 
 const VALUE_NAMES = { "--lacks": "NAME", "--only": "KEY", "--from": "M", "--to": "M", "--width": "N" };
 
-// Removes the first argument, and the value of an option with it.
+// Parses the first argument and removes it from `words`, with its value if it is an option. Adds the result to `found`.
 function take(found, words) {
   const word = words.shift();
   const [name, ...behind] = word.split("=");

@@ -1,8 +1,8 @@
 // `judge --only KEY`: prints the recording of one key's calls. If no order explains them, prints the few calls that show why.
 "use strict";
 
-const ENOUGH = 16; // if a part of the calls is enough, the most that are printed
-const MOST_TRIED = 64; // the most calls that are tried as the first of a part
+const ENOUGH = 16; // the number of last calls in which the beginning of a part is searched first
+const MOST_TRIED = 64; // the maximum number of calls that are tried as the first call of a part
 
 // A part of a key's calls: those with the indices from `first` to `behind - 1`. `opening` and `left` state whether the set has the key before and after
 // the part; `left` is null if the recording was cut off.
@@ -31,8 +31,8 @@ function textOf(calls, key, { first, behind, opening, left }) {
   return ["listset-calls 1", ...(opening ? [`opening ${key}`] : []), ...made, ...ends, ""].join("\n");
 }
 
-// Returns the part that shows a refusal up to a moment, or to the end. The part begins with the last call that begins while no call is pending and
-// the state of the key is known, or with an earlier one if few calls are between.
+// Returns a part of the calls that shows why the calls up to a moment, or all calls, are refused. The part begins with a call at which no other call is
+// pending and the state of the key is known: the first such call among the last ENOUGH calls or, if there is none, the last one before them.
 function partOf(calls, all, moment, refusal) {
   const behind = moment === undefined ? all.behind : calls.filter(({ begin }) => begin <= BigInt(moment)).length;
   const part = moment === undefined ? all : { ...all, behind, left: null };

@@ -491,7 +491,7 @@ template <class Make, class K> struct maker {
         if (how.ends) how.ends();
     }
 
-    // How often `contains` is called for a key at most, at the beginning or at the end of a run, if the outcome stays unknown.
+    // For the opening and the final keys, `contains` is called at most this often for a key, as long as its outcome is unknown.
     static constexpr unsigned MOST_ASKED = 100;
 
     // Calls `contains` for each key, and retries if the outcome is unknown. Returns a line for each key found.

@@ -328,8 +328,7 @@ func (a *area) number(key int) uint32 {
 	return uint32(key * a.times)
 }
 
-// mostAsked limits how often Contains is called for a key, at the beginning or at the end of a run, if the outcome stays
-// unknown.
+// For the opening and the final keys, Contains is called at most mostAsked times for a key, as long as its outcome is unknown.
 const mostAsked = 100
 
 // linesOfKeys calls Contains for each key, and retries if the outcome is unknown. It returns a line for each key found,

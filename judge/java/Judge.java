@@ -578,7 +578,7 @@ public final class Judge {
 
     /** The threads of a run, and the set that they call. */
     private record Play<S, K>(Area area, Calls<S, K> calls, Shape of, AtomicReference<S> set) {
-        // How often contains is called for a key at most, at the beginning or at the end of a run, if the outcome stays unknown.
+        // For the opening and the final keys, contains is called at most this often for a key, as long as its outcome is unknown.
         private static final int MOST_ASKED = 100;
 
         void all(boolean interrupts) {

@@ -39,7 +39,7 @@ from typing import Any, Callable
 __all__ = ["CutShort", "Failed", "NoVerdict", "NotLinearizable", "TooFew", "Verdict", "judge"]
 
 GOING, ENDED, UNMADE = range(3)
-# How often `contains` is called for a key at most, at the beginning or at the end of a run, if the outcome stays unknown.
+# For the opening and the final keys, `contains` is called at most this often for a key, as long as its outcome is unknown.
 MOST_ASKED = 100
 WORDS = ADD, REMOVE, CONTAINS = "add", "remove", "contains"
 NO, YES, UNKNOWN = range(3)
@@ -505,7 +505,7 @@ class Run:
                         self.make_set()
                         if self.how.opens_with_keys:
                             self.save(file, self.opening(one), 0)
-                    self.there.wait()  # no thread makes a call before all threads are ready
+                    self.there.wait()  # no thread calls the set before all threads are ready
                     self.there.wait()
                     if (one + 1) % self.parts == 0:
                         left += self.lines_of_keys("key", one)

@@ -491,7 +491,7 @@ function nextCall(it, answer, operation) {
   return ofKey(it, answer.key).some((call) => call !== answer && isChange(call) && inTime(call, answer.begun, until)) ? undefined : next;
 }
 
-// Decides whether a contradiction in the short list of a diagnosis is true: no order explains the calls on the key that had begun by its end.
+// Decides whether a contradiction in the short list of a diagnosis is true: no order explains the calls on the key up to the end of the contradiction.
 function isListed(it, told) {
   const [, key, symptom, since, until] = /^key (\d+) (lost|came back|added twice|removed twice|missed|found, though absent,|contradictory) (?:by the end|from (\d+) to (?:(\d+)|the end))$/.exec(told) ?? [];
   if (key === undefined) return false;

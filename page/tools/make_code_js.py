@@ -11,7 +11,7 @@ from lists import TOP, lists
 
 READS = "lset_loops/src/reads.rt"
 LOOPS = {it.word: [f"lset_loops/src/{it.table}.rt", *[READS] * it.has_reads()] for it in lists()}
-LISTS = {word: files if (TOP / "crates" / files[0]).is_file() else [] for word, files in LOOPS.items()}  # (of others the interpreter makes the calls)
+LISTS = {word: files if (TOP / "crates" / files[0]).is_file() else [] for word, files in LOOPS.items()}  # (on other lists, the interpreter executes the calls)
 BEGINS = ("begin_at_head", "begin_locked")  # the first step of a call
 STEP = re.compile(r"\bcaller\.(\w+)(?:::<N>)?\(place")
 HEAD = """// The proved loops of the lists as they stand in crates/, with the rows of its list's table that each line makes, by page/build: for

@@ -47,7 +47,8 @@ final class Sets {
             return found;
         }
 
-        /** Executes a call, and loses one reply in fifty: the outcome is then unknown, or the call is repeated. */
+        /** Executes a call. With "not known" or "again", loses one reply in fifty: the outcome is then unknown, or the call is
+         * repeated. */
         private boolean called(BooleanSupplier call) {
             boolean reply = call.getAsBoolean();
             if (!is.equals("not known") && !is.equals("again") || calls.incrementAndGet() % 50 > 0) return reply;

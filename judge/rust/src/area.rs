@@ -307,7 +307,7 @@ impl Area {
     }
 }
 
-/// How often `contains` is called for a key at most, at the beginning or at the end of a run, if the outcome stays unknown.
+/// For the opening and the final keys, `contains` is called at most this often for a key, as long as its outcome is unknown.
 const MOST_ASKED: u32 = 100;
 
 /// The calls on one set.

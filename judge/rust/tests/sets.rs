@@ -63,7 +63,8 @@ impl Set {
         call(&part, &key)
     }
 
-    /// Executes a call, and loses one reply in fifty. After a lost reply, the outcome is unknown, or the call is repeated.
+    /// Executes a call. With "not known" or "again", loses one reply in fifty: the outcome is then unknown, or the call is
+    /// repeated.
     fn called(&self, call: fn(&Right<u32>, &u32) -> bool, key: u32) -> Option<bool> {
         let reply = self.call(call, key);
         let is_lost = ["not known", "again"].contains(&&*self.is) && self.calls.fetch_add(1, SeqCst) % 50 == 49;

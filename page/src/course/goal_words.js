@@ -154,7 +154,8 @@ export class Run {
     return this.moments[call.ended - 1];
   }
 
-  // Returns the pauses of a thread: for each of its steps, the moment of the step and the moments of the other threads' steps until its next step.
+  // Returns the pauses of a thread. A pause begins at a step of the thread (`step`) and ends at its next step. `others` are the steps of other threads in
+  // between.
   restsOf(thread) {
     const steps = this.moments.filter(({ event }) => event.thread === thread);
     return steps.map((step, at) => {

@@ -11,7 +11,7 @@ const BESIDE = 18; // distance of two nodes that are not in the chain
 const AROUND = 10; // distance of two nodes in a gap of the chain
 const NARROWEST = 60; // smallest width of a node
 const BESIDE_HANDS = 2; // distance of two hands in a row, so that their edges meet
-const MOST_POINTING = 6; // threads that get hands
+const MOST_POINTING = 6; // maximum number of threads with hands
 
 // The measures of a drawing, in units. `least` is the smallest number of pixels of a unit at which labels can be read. `key` and `lock` are the heights of
 // a node's two parts. `slot` is the width of a node with its gap, and `gap` is the gap as a share of it. `below` lists how far below the chain other nodes
@@ -21,7 +21,7 @@ const SMALL_HANDS = { height: 26, over: 8, left: 21, letter: 9.8, right: 5 };
 const WIDE = { least: 0.9, key: 56, lock: 32, slot: 100, gap: 0.5, hand: HANDS, kind: "", below: [54, 30, 0] };
 const SMALL = { least: 0.82, key: 44, lock: 28, slot: 62, gap: 0.28, hand: SMALL_HANDS, kind: "small-hands", below: [44, 34] };
 const LEAST_OF_ALL = 0.6; // pixels of a unit, if the stage is too low for a form
-const LOW = 46; // from the upper edge of the chain to the upper edge of the nodes in its gaps
+const LOW = 46; // distance from the upper edge of the chain to the upper edge of the nodes in its gaps
 const formOf = ({ wide }) => (wide < 600 ? SMALL : WIDE);
 
 function pointersOf(state, event) {
