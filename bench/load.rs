@@ -3,9 +3,9 @@
 //! PROTOCOL is `listset`, or `redis` with a set named `s`. Each client has its own thread and connection and sends
 //! REQUESTS requests, which are prepared before the first one is sent: one third each of add, remove and contains, on
 //! KEYS keys. A client sends AT_ONCE requests in one write, waits for their answers, and then sends the next AT_ONCE
-//! requests. Prints three numbers: the requests per second, from the first write to the last answer of all clients; and the
-//! median and the 99th percentile of the microseconds from a write to the last of its answers. A read fails after ten
-//! seconds.
+//! requests. Prints three numbers: the requests per second, from the first write to the last answer of all clients; and
+//! the median and the 99th percentile of the microseconds from a write to the last of its answers. A read fails after
+//! ten seconds.
 
 use std::io::{Read, Write};
 use std::net::TcpStream;

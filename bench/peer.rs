@@ -3,9 +3,9 @@
 //!   peer each KIND THREADS QUOTA CALLS KEYS SEED     times each call, like `bench_calls KIND each ..`
 //!   peer whole KIND ..                               times rounds of all calls, like `bench_calls KIND whole ..`; here KIND can also be
 //!                                                    `mutex-tree`, which has no quota
-//! The times are printed on standard error. `each` prints two numbers for each operation: the nanoseconds of all threads, and
-//! how many calls were left out because they lasted longer than `LONGEST`, for example because the thread was preempted.
-//! `whole` prints the elapsed nanoseconds. Standard output has the number of calls.
+//! The times are printed on standard error. `each` prints two numbers for each operation: the nanoseconds of all
+//! threads, and how many calls were left out because they lasted longer than `LONGEST`, for example because the thread
+//! was preempted. `whole` prints the elapsed nanoseconds. Standard output has the number of calls.
 
 mod lists;
 

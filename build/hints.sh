@@ -122,8 +122,8 @@ explain_in_a_line() {
   fi
 }
 
-# Explains an error that the command `explain` cannot find, because the schedule ran on a broken list (a list without one of its
-# checks): its calls can execute steps that no call on the intact list executes.
+# Explains an error that the command `explain` cannot find, because the schedule ran on a broken list (a list without
+# one of its checks): its calls can execute steps that no call on the intact list executes.
 explain_other() {
   if [ -n "${texts[lacks]-}" ]; then
     echo "On the list that lacks ${texts[lacks]}, calls can take other steps than on the whole list. For each step above this line: listset trace --lacks ${texts[lacks]} $(quoted "$2"); for the cause: listset faults $3"
@@ -137,7 +137,8 @@ is_end_long() {
   [ -n "$(tail -c 1 -- "$1" | tr -d '\0')" ] && [ "$(tail -c 129 -- "$1" | wc -l)" = 0 ]
 }
 
-# Explains a refused line of a recording if the recording is too long for the command `explain`. Prints the line and the cause.
+# Explains a refused line of a recording if the recording is too long for the command `explain`. Prints the line and the
+# cause.
 explain_long() {
   local file=$1 number=$2 cause=$3 line why
   line=$(sed -n "$number{p;q}" "$file" | cut -c1-100 | cat -v)
@@ -302,8 +303,8 @@ print_last_moment() {
   sed -n 's/^moments .* of \([0-9]*\);.*/\1/p; s/^moment .* \([0-9]*\)$/\1/p' <<<"$picture" | head -n 1
 }
 
-# Prints a period and a sentence about a misspelled value: how numbers are spelled, if the range $1 is a range of numbers and
-# the value $2 is not a number; or the list name that was probably meant. Prints nothing for other values.
+# Prints a period and a sentence about a misspelled value: how numbers are spelled, if the range $1 is a range of
+# numbers and the value $2 is not a number; or the list name that was probably meant. Prints nothing for other values.
 explain_spelling() {
   local range=$1 value=$2 it plain
   plain=$(tr -cd a-z <<<"${value,,}")

@@ -17,8 +17,8 @@ import version_stamp
 
 SECONDS_BETWEEN = 60  # the time between two lines about the crates in progress
 MINUTES_OF_A_CRATE = 3  # the average time to prove a crate on one processor
-# Match lines of rt's output. IS_DONE: a crate is done ("is kept" if its proof was stored before). IS_ERROR: something is not
-# proved.
+# Match lines of rt's output. IS_DONE: a crate is done ("is kept" if its proof was stored before). IS_ERROR: something
+# is not proved.
 IS_DONE = re.compile(r"rt: (\w+) (?:proved|is kept: .*)")
 IS_ERROR = re.compile(r"(^|: )error[:[]|it is not proved that|^rt: \w+ NOT PROVED|^rt: .*FAILED")
 

@@ -1,13 +1,13 @@
 // listset.h: sorted-list sets that threads share, and the judge of their calls, for C99.
 //
-// THE JUDGE: each function reads a text, and returns a text and the exit status of the program `listset`. A recording is the
-// text of calls recorded from any set. A schedule is the text of calls on one of the lists, and of the order of the threads'
-// steps. A report is the result of a schedule, with an order that explains its replies. A draft is a schedule that states
-// where threads stop instead of numbers of steps.
+// THE JUDGE: each function reads a text, and returns a text and the exit status of the program `listset`. A recording
+// is the text of calls recorded from any set. A schedule is the text of calls on one of the lists, and of the order of
+// the threads' steps. A report is the result of a schedule, with an order that explains its replies. A draft is a
+// schedule that states where threads stop instead of numbers of steps.
 //
-// A function writes the program's output, or the line about its error, to the start of `room`. It returns the length of this
-// text in bytes and sets `*status`. If the length is greater than `size`, nothing is written to `room`: call again with a
-// buffer of that length, or use `listset_said`, which does so.
+// A function writes the program's output, or the line about its error, to the start of `room`. It returns the length of
+// this text in bytes and sets `*status`. If the length is greater than `size`, nothing is written to `room`: call again
+// with a buffer of that length, or use `listset_said`, which does so.
 //
 //     size_t length;
 //     uint8_t status;
@@ -40,9 +40,9 @@
 // Compare the field `is` of a reply with LISTSET_TRUE: LISTSET_FULL and LISTSET_NO_SEAT are not 0 either. A reply by
 // itself does not compile as a condition. With -Wextra, gcc and clang warn if a reply or a fault is ignored.
 //
-// A refused call changes nothing and returns LISTSET_NO_SEAT or a fault. A call is refused if the seat for the call is empty,
-// if the seat for a result is not empty, if two seats to gather have different lists or numbers, if some seats have not been
-// gathered when the set is to be closed, if sizes or keys are out of range, and if an allocation fails.
+// A refused call changes nothing and returns LISTSET_NO_SEAT or a fault. A call is refused if the seat for the call is
+// empty, if the seat for a result is not empty, if two seats to gather have different lists or numbers, if some seats
+// have not been gathered when the set is to be closed, if sizes or keys are out of range, and if an allocation fails.
 //
 // The caller has three further duties, which no function checks:
 // - A seat is initialized with LISTSET_NONE, written only by these functions, passed by its address, and never copied.
@@ -69,7 +69,8 @@
 extern "C" {
 #endif
 
-/// The exit status of a function of the judge if the function failed. After success, the status is LISTSET_OK, which is 0.
+/// The exit status of a function of the judge if the function failed. After success, the status is LISTSET_OK, which is
+/// 0.
 enum {
   LISTSET_WRONG_TEXT = 1,  ///< An error in the text, an order that is refused, or an event that is not enabled.
   LISTSET_WRONG_VALUE = 2, ///< A value, an option or a name that does not exist.
@@ -161,10 +162,10 @@ typedef struct {
 
 #define LISTSET_NONE {false, NULL}
 
-/// A receipt, or nothing. A seat issues a receipt for its calls so far. In the order of all calls, they precede the later
-/// calls of each seat that accepts the receipt. The receipt also covers the calls of all seats that its seat had gathered,
-/// and the calls that the receipts accepted by its seat cover. A receipt is initialized with LISTSET_NONE, and can be passed to
-/// any thread.
+/// A receipt, or nothing. A seat issues a receipt for its calls so far. In the order of all calls, they precede the
+/// later calls of each seat that accepts the receipt. The receipt also covers the calls of all seats that its seat had
+/// gathered, and the calls that the receipts accepted by its seat cover. A receipt is initialized with LISTSET_NONE,
+/// and can be passed to any thread.
 typedef struct {
   bool full;
   void *at;
@@ -251,8 +252,8 @@ LISTSET_USED listset_fault listset_receipt_of(listset_seat *seat, listset_receip
 /// receipt covers. `given` is empty afterwards.
 LISTSET_USED listset_fault listset_after(listset_seat *seat, listset_receipt *given);
 
-/// Returns how many seats of its set `seat` contains, including itself. Writes the number of all seats of the set to `*all`.
-/// Both numbers are 0 if `seat` is empty or a closed set.
+/// Returns how many seats of its set `seat` contains, including itself. Writes the number of all seats of the set to
+/// `*all`. Both numbers are 0 if `seat` is empty or a closed set.
 uint64_t listset_seats_within(listset_seat *seat, uint32_t *all);
 
 /// Merges `from`, including all seats that it contains, into `into`. `from` is empty afterwards.
@@ -262,8 +263,8 @@ LISTSET_USED listset_fault listset_gather(listset_seat *into, listset_seat *from
 /// set stays open.
 LISTSET_USED listset_fault listset_close(listset_seat *seat);
 
-/// Copies the keys of a closed set to `room` in strictly increasing order, if they fit in the `places` elements of `room`.
-/// Returns the number of keys, or SIZE_MAX if `closed` is not a closed set.
+/// Copies the keys of a closed set to `room` in strictly increasing order, if they fit in the `places` elements of
+/// `room`. Returns the number of keys, or SIZE_MAX if `closed` is not a closed set.
 size_t listset_keys(listset_seat *closed, uint32_t *room, size_t places);
 
 /// Gathers all seats in the array `seats`, which has `places` elements, into its first element, and closes the set. Elements

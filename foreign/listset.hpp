@@ -132,10 +132,10 @@ inline std::vector<uint32_t> keys_of(listset_seat &closed) {
   return keys;
 }
 
-/// A receipt, or nothing. A seat issues a receipt for its calls so far. In the order of all calls, they precede the later
-/// calls of each seat that accepts the receipt. The receipt also covers the calls of all seats that its seat had gathered,
-/// and the calls that the receipts accepted by its seat cover. It can be moved but not copied, and can be passed to any
-/// thread.
+/// A receipt, or nothing. A seat issues a receipt for its calls so far. In the order of all calls, they precede the
+/// later calls of each seat that accepts the receipt. The receipt also covers the calls of all seats that its seat had
+/// gathered, and the calls that the receipts accepted by its seat cover. It can be moved but not copied, and can be
+/// passed to any thread.
 class receipt {
 public:
   receipt() = default;
@@ -156,8 +156,8 @@ private:
 inline uint64_t most_reads(uint32_t seats, uint32_t quota, uint32_t opening) { return listset_most_reads(seats, quota, opening); }
 
 /// A thread's seat in a set (the right to call the set as one thread), or nothing. It can be moved but not copied, and
-/// only one thread at a time may use it. A call throws `fault` if another thread is in a call from the same seat. Seats are
-/// aligned to cache lines, since a call writes to its seat.
+/// only one thread at a time may use it. A call throws `fault` if another thread is in a call from the same seat. Seats
+/// are aligned to cache lines, since a call writes to its seat.
 class alignas(128) seat {
 public:
   seat() = default;
@@ -196,8 +196,8 @@ public:
     return answer == LISTSET_TRUE;
   }
 
-  /// Returns the smallest key of the set that is at least `key`. On a lock-free list, the call can wait until another thread
-  /// adds or removes a key.
+  /// Returns the smallest key of the set that is at least `key`. On a lock-free list, the call can wait until another
+  /// thread adds or removes a key.
   std::optional<uint32_t> ceiling(uint32_t key) {
     use held(*this);
     uint32_t at = 0;
@@ -333,13 +333,13 @@ class renewed_set {
   static constexpr size_t MOST_OPENING = 1 << 20;
   static constexpr std::chrono::milliseconds LONG{5};
 
-  // Locks `lock`. The holder of `lock` can be in a `ceiling` on a lock-free list, which can retry until another call unlinks a
-  // marked node. If the seat in `helper` has used up its quota, the waiting thread therefore calls `add` with this seat: the
-  // `add` unlinks the node, but cannot add a key.
+  // Locks `lock`. The holder of `lock` can be in a `ceiling` on a lock-free list, which can retry until another call
+  // unlinks a marked node. If the seat in `helper` has used up its quota, the waiting thread therefore calls `add` with
+  // this seat: the `add` unlinks the node, but cannot add a key.
   //
-  // `helper` is the caller's own place (its seat with the seat's lock) if the caller is locking all places, otherwise null.
-  // After a caller with a `helper` has waited for 5 ms, new calls of other threads wait too, unless one of these calls could be
-  // needed to unlink the node.
+  // `helper` is the caller's own place (its seat with the seat's lock) if the caller is locking all places, otherwise
+  // null. After a caller with a `helper` has waited for 5 ms, new calls of other threads wait too, unless one of these
+  // calls could be needed to unlink the node.
   held taken(std::mutex &lock, place *helper = nullptr) {
     held it(lock, std::try_to_lock);
     for (const clock::time_point begun = clock::now(); !it; it.try_lock()) {

@@ -24,8 +24,8 @@ typedef struct {
   bool own[OWN];
 } task;
 
-// The number of operations that threads choose from. Several threads on the lock-free list do not call ceiling, because it
-// could wait for a remove that no thread calls.
+// The number of operations that threads choose from. Several threads on the lock-free list do not call ceiling, because
+// it could wait for a remove that no thread calls.
 static uint32_t kinds;
 
 static uint64_t draw(uint64_t *drawn) {
@@ -47,7 +47,8 @@ static void call_shared(task *it, uint32_t kind, uint32_t key) {
   wrong += !may || (reply == LISTSET_FULL && it->adds < QUOTA);
 }
 
-// Calls an operation with a key that only this thread uses: key `k` of the OWN keys from SHARED + t * OWN on, for thread t.
+// Calls an operation with a key that only this thread uses: key `k` of the OWN keys from SHARED + t * OWN on, for
+// thread t.
 static void call_own(task *it, uint32_t kind, uint32_t k) {
   uint32_t base = SHARED + it->number * OWN, at = 0, next = k;
   uint8_t want;

@@ -73,8 +73,8 @@ static bool is_right_shared(list kind) {
   return found == 4000 && set.contains(1) && set.ceiling(3) == 4u && set.close() == due;
 }
 
-// Lets threads add more keys than all quotas together allow. Returns whether the number of adds that return true is the sum of
-// the quotas, and the set then has exactly the added keys.
+// Lets threads add more keys than all quotas together allow. Returns whether the number of adds that return true is the
+// sum of the quotas, and the set then has exactly the added keys.
 static bool is_filled(uint32_t seats, uint32_t quota) {
   listset::shared set(list::lock_free, seats, quota); // This list is lock-free, so a wrong call cannot leave a lock held.
   std::vector<std::vector<uint32_t>> added_by(4);
@@ -91,8 +91,8 @@ static bool is_filled(uint32_t seats, uint32_t quota) {
   return due.size() == seats * quota && set.close() == due;
 }
 
-// Lets four threads add the same keys, exactly as many as all quotas together allow. Returns the number of adds that return
-// full. It must be 0: when all quotas are used up, all keys are present.
+// Lets four threads add the same keys, exactly as many as all quotas together allow. Returns the number of adds that
+// return full. It must be 0: when all quotas are used up, all keys are present.
 static int full_too_soon() {
   const uint32_t many = 1000;
   listset::shared set(list::lazy, 2, many / 2);
@@ -113,8 +113,8 @@ template <auto Places> struct reach {
 };
 template struct reach<&listset::shared::places>;
 
-// Returns whether a thread's calls end while all seats except `free` are occupied. (A call that waits for a seat ends when the
-// seats are released.)
+// Returns whether a thread's calls end while all seats except `free` are occupied. (A call that waits for a seat ends
+// when the seats are released.)
 static bool end_by_one_seat(size_t free, size_t seats) {
   listset::shared set(list::lock_free, static_cast<uint32_t>(seats), 1);
   std::vector<std::unique_lock<std::mutex>> taken;
@@ -127,8 +127,8 @@ static bool end_by_one_seat(size_t free, size_t seats) {
   return made.get() && is_soon;
 }
 
-// Returns whether the calls of two threads, one after the other, find the only free seat. At least one of the threads finds its
-// first seat occupied.
+// Returns whether the calls of two threads, one after the other, find the only free seat. At least one of the threads
+// finds its first seat occupied.
 static bool take_the_free_seat(size_t seats) {
   for (size_t free = 0; free < seats; free++)
     if (!end_by_one_seat(free, seats) || !end_by_one_seat(free, seats)) return false;
@@ -172,7 +172,8 @@ template <typename Set> static void expect_ends(Set set) {
   expect(set.close() == std::vector<uint32_t>({0, most}), "both are left");
 }
 
-// Assigns a seat to a variable that already has a seat. The old set must then be freed, as the address sanitizer checks.
+// Assigns a seat to a variable that already has a seat. The old set must then be freed, as the address sanitizer
+// checks.
 static void expect_assigned(list kind) {
   seat mine = listset::open(kind, 2, 1, {1}), other = listset::open(kind, 1, 1, {2});
   mine = std::move(other);
@@ -182,8 +183,8 @@ static void expect_assigned(list kind) {
   expect(mine.contains(2) && !mine.contains(1) && mine.close() == std::vector<uint32_t>({2}), "the seat that was assigned");
 }
 
-// Checks that a seat never gathers a seat of another set. Half of the sets are opened in another source file and another
-// thread.
+// Checks that a seat never gathers a seat of another set. Half of the sets are opened in another source file and
+// another thread.
 static void expect_apart() {
   seat mine = listset::open(list::lazy, 1, 0);
   const int many = 70000; // more sets than 16 bits can number

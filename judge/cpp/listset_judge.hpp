@@ -70,9 +70,9 @@ inline namespace judged_by_program {
 struct options {
     /// The number of threads that call a set at the same time: 1 to 64. 0 selects the preset's number.
     unsigned threads = 0;
-    /// The number of calls of each thread: at least 1, and at most 1,000,000,000 for all threads together. 0 selects the
-    /// preset's number. After every 20,000 calls of all threads together, the threads wait until these calls are written
-    /// to the file.
+    /// The number of calls of each thread: at least 1, and at most 1,000,000,000 for all threads together. 0 selects
+    /// the preset's number. After every 20,000 calls of all threads together, the threads wait until these calls are
+    /// written to the file.
     unsigned calls = 0;
     /// The number of keys: 1 to 1,048,576. 0 selects the preset's number. With more than eight keys, half of the calls
     /// use the first four.
@@ -134,8 +134,8 @@ struct no_verdict : std::runtime_error {
 namespace judging {
 
 // The sizes of a run: the number of threads, of new sets used one after another, of calls per thread and set, and of
-// keys. The keys are the multiples of `times`. Threads wait for each other after every MEET calls or, if `meets_once`, only at
-// the beginning.
+// keys. The keys are the multiples of `times`. Threads wait for each other after every MEET calls or, if `meets_once`,
+// only at the beginning.
 struct shape {
     const char *name;
     unsigned threads, sets, calls, keys, times;
@@ -266,8 +266,8 @@ struct slot {
     std::atomic<unsigned> begin, end;  // `begin` is 0 until the call begins, `end` until the call ends
 };
 
-// How much of a run is in the file: the length of the file, and the value of `tickets` at the last save. The file contains all
-// calls that had begun by then.
+// How much of a run is in the file: the length of the file, and the value of `tickets` at the last save. The file
+// contains all calls that had begun by then.
 struct saved {
     uint64_t length = 0;
     unsigned moment = 0;
@@ -491,7 +491,8 @@ template <class Make, class K> struct maker {
         if (how.ends) how.ends();
     }
 
-    // For the opening and the final keys, `contains` is called at most this often for a key, as long as its outcome is unknown.
+    // For the opening and the final keys, `contains` is called at most this often for a key, as long as its outcome is
+    // unknown.
     static constexpr unsigned MOST_ASKED = 100;
 
     // Calls `contains` for each key, and retries if the outcome is unknown. Returns a line for each key found.
@@ -838,8 +839,8 @@ template <class Make, class Key> struct tester {
         return found;
     }
 
-    // Writes a small file beside the recording: calls on one key that no order explains. Returns the part of the message that
-    // names this file.
+    // Writes a small file beside the recording: calls on one key that no order explains. Returns the part of the
+    // message that names this file.
     std::string alone(const std::string &path, const std::string &number) const {
         const std::string text = number.empty() || !by.only ? "" : by.only(path, number), file = path.substr(0, path.size() - 6) + "-key-" + number + ".calls";
         return !text.empty() && std::ofstream(file) << text << std::flush ? say(ALONE, file) : "";

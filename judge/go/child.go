@@ -29,8 +29,8 @@ type child struct {
 	over    chan bool
 }
 
-// inChild starts a child process for the Check with this name, and returns a caller that performs runs there. In that child
-// process, inChild performs the runs and never returns.
+// inChild starts a child process for the Check with this name, and returns a caller that performs runs there. In that
+// child process, inChild performs the runs and never returns.
 func inChild(name string, a *area) (caller, error) {
 	c := &child{area: a, over: make(chan bool)}
 	if os.Getenv(checkName) == name {
@@ -153,8 +153,8 @@ func (c *child) serve() {
 	}
 }
 
-// interrupt briefly stops all goroutines during their calls, again and again, by reading the memory statistics. After each
-// stop, the goroutines continue in a different order.
+// interrupt briefly stops all goroutines during their calls, again and again, by reading the memory statistics. After
+// each stop, the goroutines continue in a different order.
 func interrupt(seed int64, isOver chan bool) {
 	var stats runtime.MemStats
 	for draw := rand.New(rand.NewSource(seed)); ; runtime.ReadMemStats(&stats) {

@@ -118,8 +118,8 @@ type shape struct {
 }
 
 // size has the sizes of a run: the number of goroutines, of new sets used one after another, of calls per goroutine and
-// set, and of keys. The keys are the multiples of times. Goroutines wait for each other after every manyMeet calls or, if
-// meetsOnce, only at the beginning.
+// set, and of keys. The keys are the multiples of times. Goroutines wait for each other after every manyMeet calls or,
+// if meetsOnce, only at the beginning.
 type size struct {
 	threads, sets, calls, keys, times int
 	meetsOnce                         bool
@@ -206,8 +206,8 @@ func (o Options) most(of func(size) int) (most int) {
 }
 
 // Verdict is the result of a successful test: some order explains each run. Overlapped is the number of calls that
-// overlapped a call that added or removed the same key, as counted by the judge. Judge is the judge's name, and what the
-// judge states about its own proof. String formats the verdict.
+// overlapped a call that added or removed the same key, as counted by the judge. Judge is the judge's name, and what
+// the judge states about its own proof. String formats the verdict.
 type Verdict struct {
 	Calls, Overlapped int
 	Judge             string
@@ -394,8 +394,8 @@ func judged(options Options, of func(keys int) (source, error), name string) (ve
 	return t.all()
 }
 
-// all performs the requested runs, each up to three times, and then more runs as long as few calls have overlapped other
-// calls.
+// all performs the requested runs, each up to three times, and then more runs as long as few calls have overlapped
+// other calls.
 func (t *tester) all() (verdict Verdict, err error) {
 	verdict.Judge = t.by.String()
 	began, o := time.Now(), t.options

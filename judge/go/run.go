@@ -47,8 +47,8 @@ func (t *text) set(to string) { t.length = uint32(copy(t.bytes[:], to)) }
 
 func (t *text) String() string { return string(t.bytes[:t.length]) }
 
-// saved describes how much of a run is in the file: the length of the file, and the value of tickets at the last save. The
-// file contains all calls that had begun by then.
+// saved describes how much of a run is in the file: the length of the file, and the value of tickets at the last save.
+// The file contains all calls that had begun by then.
 type saved struct {
 	length int64
 	moment uint32
@@ -328,7 +328,8 @@ func (a *area) number(key int) uint32 {
 	return uint32(key * a.times)
 }
 
-// For the opening and the final keys, Contains is called at most mostAsked times for a key, as long as its outcome is unknown.
+// For the opening and the final keys, Contains is called at most mostAsked times for a key, as long as its outcome is
+// unknown.
 const mostAsked = 100
 
 // linesOfKeys calls Contains for each key, and retries if the outcome is unknown. It returns a line for each key found,

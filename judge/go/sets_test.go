@@ -83,8 +83,8 @@ func (s *set) place(key uint32) uint32 {
 	return key
 }
 
-// called executes a call. With "not known" or "again", it loses one reply in fifty: the outcome is then unknown, or the call is
-// repeated.
+// called executes a call. With "not known" or "again", it loses one reply in fifty: the outcome is then unknown, or the
+// call is repeated.
 func (s *set) called(call func(uint32) bool, key uint32) bool {
 	reply := call(s.place(key))
 	if s.is != "not known" && s.is != "again" || atomic.AddInt32(&s.calls, 1)%50 > 0 {

@@ -102,8 +102,8 @@ func keyLine(a *area, number int) string {
 	return fmt.Sprintf(sayKeyIs, number, shown) + set
 }
 
-// alone writes a small file beside the recording: calls on one key that no order explains. It returns the part of the message
-// that names this file.
+// alone writes a small file beside the recording: calls on one key that no order explains. It returns the part of the
+// message that names this file.
 func (r *recording) alone(by *judgeFound, key string) string {
 	if by.command == nil {
 		return ""

@@ -112,9 +112,9 @@ public final class Judge {
     private Judge() { }
 
     /**
-     * Options of a test. All of them are checked before the first set is created. The runs of a test cycle through seven
-     * presets, which are built-in numbers of threads, calls and keys. A {@code with} method returns a changed copy and
-     * leaves the original options unchanged.
+     * Options of a test. All of them are checked before the first set is created. The runs of a test cycle through
+     * seven presets, which are built-in numbers of threads, calls and keys. A {@code with} method returns a changed
+     * copy and leaves the original options unchanged.
      */
     public static final class Options implements Serializable, Cloneable {
         private static final long serialVersionUID = 1;
@@ -161,8 +161,8 @@ public final class Judge {
         public Options withWithin(int it) { return with(made -> made.within = it); }
 
         /**
-         * Sets the percentage of calls that must overlap a call that adds or removes the same key. If fewer calls do, the
-         * test fails with {@link TooFew}.
+         * Sets the percentage of calls that must overlap a call that adds or removes the same key. If fewer calls do,
+         * the test fails with {@link TooFew}.
          */
         public Options withAtLeast(int it) { return with(made -> made.atLeast = it); }
 
@@ -419,8 +419,8 @@ public final class Judge {
         }
 
         /**
-         * Writes a small file beside the recording: calls on one key that no order explains. Returns the part of the message
-         * that names this file.
+         * Writes a small file beside the recording: calls on one key that no order explains. Returns the part of the
+         * message that names this file.
          */
         private String alone(Path file, String key) throws IOException {
             Answer answer = program.answer("judge", "--only", key, file.toString());
@@ -446,8 +446,8 @@ public final class Judge {
         private static final int NO = 0, YES = 1, UNKNOWN = 2;
 
         /**
-         * Converts a number to a key. Each call creates a new object. If the test has no function for keys, the key is the
-         * number times {@code times}.
+         * Converts a number to a key. Each call creates a new object. If the test has no function for keys, the key is
+         * the number times {@code times}.
          */
         @SuppressWarnings("unchecked")
         K key(int number, int times) { return keys == null ? (K) Integer.valueOf(number * times) : keys.apply(number); }
@@ -472,9 +472,10 @@ public final class Judge {
     /** The memory of a run, which JVMs can share. It contains the calls that have not been saved in the file yet. */
     private record Area(Options how, ByteBuffer memory) {
         private static final VarHandle INT = MethodHandles.byteBufferViewVarHandle(int[].class, ByteOrder.nativeOrder());
-        // Offsets in the memory. IS_HERE: whether the child JVM has started. SAVES: two records about the last save, each with
-        // the length of the file as a long and the value of TICKETS then; the file contains all calls that had begun by then.
-        // SAVE: the index of the valid record. SHAPE: the six numbers of a Shape. WHY and FILE: texts.
+        // Offsets in the memory. IS_HERE: whether the child JVM has started. SAVES: two records about the last save,
+        // each with the length of the file as a long and the value of TICKETS then; the file contains all calls that
+        // had begun by then. SAVE: the index of the valid record. SHAPE: the six numbers of a Shape. WHY and FILE:
+        // texts.
         private static final int TICKETS = 0, THERE = 4, DONE = 8, BEGUN = 12, AT = 16, STOPPING = 20, IS_HERE = 24, IS_BUSY = 28, SEED = 32, SAVE = 40,
             SAVES = 48, SAVED = 16, MOMENT = 8, SHAPE = SAVES + 2 * SAVED, WHY = SHAPE + 24, FILE = WHY + 4 + 240, SLOTS = FILE + 4 + 1024;
         private static final int BEGIN = 0, END = 4, CALL = 8, KEY = 12, REPLY = 16, THREAD = 20, SLOT = 24; // offsets in a call; the calls of one thread are adjacent in the memory
@@ -578,7 +579,8 @@ public final class Judge {
 
     /** The threads of a run, and the set that they call. */
     private record Play<S, K>(Area area, Calls<S, K> calls, Shape of, AtomicReference<S> set) {
-        // For the opening and the final keys, contains is called at most this often for a key, as long as its outcome is unknown.
+        // For the opening and the final keys, contains is called at most this often for a key, as long as its outcome
+        // is unknown.
         private static final int MOST_ASKED = 100;
 
         void all(boolean interrupts) {
@@ -911,8 +913,8 @@ public final class Judge {
     private record Answer(String said, int status) { }
 
     /**
-     * The program that judges: its name, the command with its first arguments, and what the program states about its own
-     * proof. {@code toString} returns the name and this statement.
+     * The program that judges: its name, the command with its first arguments, and what the program states about its
+     * own proof. {@code toString} returns the name and this statement.
      */
     private record Program(String name, List<String> command, String proof) {
         private static final Pattern OVERLAPPED = Pattern.compile("ok [0-9]+ calls\n([0-9]+) of them");

@@ -39,7 +39,8 @@ from typing import Any, Callable
 __all__ = ["CutShort", "Failed", "NoVerdict", "NotLinearizable", "TooFew", "Verdict", "judge"]
 
 GOING, ENDED, UNMADE = range(3)
-# For the opening and the final keys, `contains` is called at most this often for a key, as long as its outcome is unknown.
+# For the opening and the final keys, `contains` is called at most this often for a key, as long as its outcome is
+# unknown.
 MOST_ASKED = 100
 WORDS = ADD, REMOVE, CONTAINS = "add", "remove", "contains"
 NO, YES, UNKNOWN = range(3)
@@ -362,8 +363,8 @@ class Run:
     run continues.
     """
 
-    # SLOT is the format of a call: begin, end (0 while it is pending), thread, key, operation, reply. COUNT is the format of a
-    # counter for the progress of a thread.
+    # SLOT is the format of a call: begin, end (0 while it is pending), thread, key, operation, reply. COUNT is the
+    # format of a counter for the progress of a thread.
     SLOT, COUNT = struct.Struct("=IIIIBB"), struct.Struct("=Q")
     SAVED = struct.Struct("=QI")  # the length of the file, and the moment when the last call in the file began
     AT = 240  # the offset of the run's progress in the memory; the error precedes it

@@ -197,12 +197,12 @@ impl RenewedSet {
     }
 
     /// Locks `lock`. The holder of `lock` can be in a `ceiling` on a lock-free list, which can retry until another call
-    /// unlinks a marked node. If the seat in `helper` has used up its quota, the waiting thread therefore calls `add` with
-    /// this seat: the `add` unlinks the node, but cannot add a key.
+    /// unlinks a marked node. If the seat in `helper` has used up its quota, the waiting thread therefore calls `add`
+    /// with this seat: the `add` unlinks the node, but cannot add a key.
     ///
-    /// `helper` is the caller's own place (its seat with the seat's lock) if the caller is locking all places, otherwise
-    /// `None`. After a caller with a `helper` has waited for 5 ms, new calls of other threads wait too, unless one of these
-    /// calls could be needed to unlink the node.
+    /// `helper` is the caller's own place (its seat with the seat's lock) if the caller is locking all places,
+    /// otherwise `None`. After a caller with a `helper` has waited for 5 ms, new calls of other threads wait too,
+    /// unless one of these calls could be needed to unlink the node.
     fn taken<'a, T>(&self, lock: &'a Mutex<T>, mut helper: Option<&mut Part>) -> Result<MutexGuard<'a, T>, Fault> {
         let begun = Instant::now();
         loop {
@@ -261,8 +261,8 @@ impl RenewedSet {
     }
 
     /// Adds a key with the seat at index `place`, after an `add` returned `Full`. Renews the set if an earlier renewal
-    /// failed, or if `add` returns `Full` again. Does not renew the set if that cannot help (the quota is 0, or the set has
-    /// too many keys).
+    /// failed, or if `add` returns `Full` again. Does not renew the set if that cannot help (the quota is 0, or the set
+    /// has too many keys).
     fn add_renewed(&self, place: usize, key: u32) -> Result<Added, Fault> {
         let mut all = self.all(place)?;
         if all.stage() == Stage::Open {

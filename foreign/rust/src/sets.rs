@@ -167,9 +167,9 @@ unsafe impl Send for Seat {}
 // requires `Sync`.)
 unsafe impl Sync for Seat {}
 
-/// A receipt. A seat issues a receipt for its calls so far. In the order of all calls, they precede the later calls of each
-/// seat that accepts the receipt. The receipt also covers the calls of all seats that its seat had gathered, and the calls
-/// that the receipts accepted by its seat cover. It can be passed to any thread.
+/// A receipt. A seat issues a receipt for its calls so far. In the order of all calls, they precede the later calls of
+/// each seat that accepts the receipt. The receipt also covers the calls of all seats that its seat had gathered, and
+/// the calls that the receipts accepted by its seat cover. It can be passed to any thread.
 #[derive(Debug)]
 pub struct Receipt {
     raw: Raw,
@@ -335,8 +335,8 @@ impl Seat {
         told(unsafe { listset_after(&mut self.raw, &mut given.raw) })
     }
 
-    /// Returns the smallest key of the set that is at least `key`. On a lock-free list, the call can wait until another thread
-    /// adds or removes a key.
+    /// Returns the smallest key of the set that is at least `key`. On a lock-free list, the call can wait until another
+    /// thread adds or removes a key.
     pub fn ceiling(&mut self, key: u32) -> Option<u32> {
         let mut at = 0;
         (replied(unsafe { listset_ceiling(&mut self.raw, key, &mut at) }) == AT).then_some(at)

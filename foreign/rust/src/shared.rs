@@ -100,8 +100,8 @@ mod tests {
         heard.recv_timeout(Duration::from_secs(20)).ok()
     }
 
-    /// Tests calls while only one seat is free. Two threads call the set one after the other, so at least one of them finds
-    /// its first seat occupied.
+    /// Tests calls while only one seat is free. Two threads call the set one after the other, so at least one of them
+    /// finds its first seat occupied.
     #[test]
     fn a_call_takes_a_seat_that_no_other_uses() {
         for (seats, free) in [2, 3, 8].into_iter().flat_map(|seats| (0..seats).map(move |free| (seats, free))) {

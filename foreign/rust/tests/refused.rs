@@ -34,8 +34,8 @@ unsafe impl GlobalAlloc for Own {
 #[global_allocator]
 static OWN: Own = Own;
 
-// For each thread: the number of its allocations so far, which allocation fails (0: none), and the number of its blocks that
-// are not freed yet.
+// For each thread: the number of its allocations so far, which allocation fails (0: none), and the number of its blocks
+// that are not freed yet.
 thread_local! {
     static ASKED: Cell<usize> = const { Cell::new(0) };
     static REFUSED: Cell<usize> = const { Cell::new(0) };

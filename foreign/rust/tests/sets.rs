@@ -19,8 +19,8 @@ impl<S> Once<()> for S {}
 impl<S: Clone> Once<u8> for S {}
 const _: fn() = <Seat as Once<_>>::is_once;
 
-/// Calls operations with keys that no other thread uses. Returns the keys that remain. `kinds` is the number of operations:
-/// 4, or 3 without `ceiling`.
+/// Calls operations with keys that no other thread uses. Returns the keys that remain. `kinds` is the number of
+/// operations: 4, or 3 without `ceiling`.
 fn calls_of(seat: &mut Seat, thread: u32, kinds: u64) -> BTreeSet<u32> {
     let (mut left, mut drawn) = (BTreeSet::new(), u64::from(thread) + 88172645463325252);
     for _ in 0..CALLS {
@@ -112,8 +112,8 @@ fn threads_use_the_quota_of_each_seat() {
     }
 }
 
-/// Lets threads add the same keys, exactly as many as all quotas together allow. No add may return full: when all quotas are
-/// used up, all keys are present.
+/// Lets threads add the same keys, exactly as many as all quotas together allow. No add may return full: when all
+/// quotas are used up, all keys are present.
 #[test]
 fn no_add_is_full_while_a_seat_has_quota() {
     for _ in 0..20 {

@@ -47,7 +47,8 @@ struct Set : Right<unsigned> {
     // keys are treated as one key.
     unsigned place(unsigned key) const { return is == "collides" ? key % 64 : key; }
 
-    // Executes a call. With "not known" or "again", loses one reply in fifty: the outcome is then unknown, or the call is repeated.
+    // Executes a call. With "not known" or "again", loses one reply in fifty: the outcome is then unknown, or the call
+    // is repeated.
     template <class Call> std::optional<bool> called(Call call) {
         const bool reply = call();
         if ((is != "not known" && is != "again") || ++calls % 50 > 0) return reply;

@@ -1,7 +1,7 @@
 //! Performs a run, and records its calls in memory that can be shared with the set's own process.
 //!
-//! A call is recorded with two moments, its begin and its end. A moment is a value of the counter `Tickets`, which grows
-//! at each begin and each end of a call.
+//! A call is recorded with two moments, its begin and its end. A moment is a value of the counter `Tickets`, which
+//! grows at each begin and each end of a call.
 use std::any::Any;
 use std::fs::File;
 use std::io::{self, Seek, SeekFrom, Write};
@@ -26,8 +26,8 @@ const OVER: u32 = 2;
 const FAILED: u32 = 3;
 const UNMADE: u32 = 4;
 
-/// The positions of a run's numbers in memory. `Tickets` is the counter of moments, `Phase` the progress, and `Save` the
-/// index of the valid record in `SAVES`.
+/// The positions of a run's numbers in memory. `Tickets` is the counter of moments, `Phase` the progress, and `Save`
+/// the index of the valid record in `SAVES`.
 #[derive(Clone, Copy)]
 enum At {
     Tickets,
@@ -307,7 +307,8 @@ impl Area {
     }
 }
 
-/// For the opening and the final keys, `contains` is called at most this often for a key, as long as its outcome is unknown.
+/// For the opening and the final keys, `contains` is called at most this often for a key, as long as its outcome is
+/// unknown.
 const MOST_ASKED: u32 = 100;
 
 /// The calls on one set.

@@ -113,8 +113,8 @@ impl Drop for Runner {
     }
 }
 
-/// Returns the name of the test and the number of this call of `judge` in the test. Returns `None` if this thread has no
-/// name: then the test cannot be run again.
+/// Returns the name of the test and the number of this call of `judge` in the test. Returns `None` if this thread has
+/// no name: then the test cannot be run again.
 fn name_of_judge() -> Option<String> {
     static JUDGES: Mutex<Option<HashMap<String, u32>>> = Mutex::new(None);
     let test = std::thread::current().name()?.to_string();

@@ -17,7 +17,8 @@ pub struct Judge {
 
 /// The verdict on a recording.
 pub enum Judged {
-    /// Some order explains the calls. `overlapped` is the number of calls that overlapped a call that changed the same key.
+    /// Some order explains the calls. `overlapped` is the number of calls that overlapped a call that changed the same
+    /// key.
     Ok { overlapped: u64 },
     /// No order explains the calls. Contains the judge's output.
     Refused(String),

@@ -44,9 +44,9 @@ use words::*;
 pub struct Options {
     /// The number of threads that call a set at the same time: 1 to 64. 0 selects the preset's number.
     pub threads: u32,
-    /// The number of calls of each thread: at least 1, and at most 1,000,000,000 for all threads together. 0 selects the
-    /// preset's number. After every 20,000 calls of all threads together, the threads wait until these calls are written
-    /// to the file.
+    /// The number of calls of each thread: at least 1, and at most 1,000,000,000 for all threads together. 0 selects
+    /// the preset's number. After every 20,000 calls of all threads together, the threads wait until these calls are
+    /// written to the file.
     pub calls: u32,
     /// The number of keys: 1 to 1,048,576. 0 selects the preset's number. With more than eight keys, half of the calls
     /// use the first four.
@@ -63,8 +63,8 @@ pub struct Options {
     pub seconds: u32,
     /// After this many seconds, the test begins no new run: 1 to 604,800.
     pub within: u32,
-    /// The test fails with `TooFew` if less than this percentage of the calls overlap a call that adds or removes the same
-    /// key.
+    /// The test fails with `TooFew` if less than this percentage of the calls overlap a call that adds or removes the
+    /// same key.
     pub at_least: u32,
     /// The relative frequencies of `add`, `remove` and `contains`.
     pub shares: [u32; 3],

@@ -69,8 +69,8 @@ impl<'a> Recording<'a> {
         }
     }
 
-    /// Writes a small file beside the recording: calls on one key that no order explains. Returns the part of the message
-    /// that names this file.
+    /// Writes a small file beside the recording: calls on one key that no order explains. Returns the part of the
+    /// message that names this file.
     fn alone(&self, key: u32) -> String {
         let stem = self.path.file_stem().unwrap_or_default().to_string_lossy();
         let small = self.path.with_file_name(format!("{stem}-key-{key}.calls"));

@@ -63,8 +63,8 @@ impl Set {
         call(&part, &key)
     }
 
-    /// Executes a call. With "not known" or "again", loses one reply in fifty: the outcome is then unknown, or the call is
-    /// repeated.
+    /// Executes a call. With "not known" or "again", loses one reply in fifty: the outcome is then unknown, or the call
+    /// is repeated.
     fn called(&self, call: fn(&Right<u32>, &u32) -> bool, key: u32) -> Option<bool> {
         let reply = self.call(call, key);
         let is_lost = ["not known", "again"].contains(&&*self.is) && self.calls.fetch_add(1, SeqCst) % 50 == 49;
@@ -75,8 +75,8 @@ impl Set {
         }
     }
 
-    /// Hangs, crashes, exits, panics or naps in a late `remove`, as the variable SET names it, while holding the lock. A panic
-    /// happens without the lock, since other threads would also panic at a poisoned lock.
+    /// Hangs, crashes, exits, panics or naps in a late `remove`, as the variable SET names it, while holding the lock.
+    /// A panic happens without the lock, since other threads would also panic at a poisoned lock.
     fn stop(&self) {
         let _held = (self.is != "throws").then(|| self.keys.0.lock().unwrap());
         match (&*self.is, self.calls.fetch_add(1, SeqCst)) {
