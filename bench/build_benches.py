@@ -1,6 +1,6 @@
-"""Builds the benches: Rattle programs that measure the library. The gate does not prove them. They are proved and built in a
-separate folder, together with their dependencies. In bench/, the names of their files end in `_`, since rt accepts .rt and
-.antt files only in crates.
+"""Builds the benches: Rattle programs that measure the library. The gate does not prove them. They are proved and built
+in a separate folder, together with their dependencies. In bench/, the names of their files end in `_`, since rt accepts
+.rt and .antt files only in crates.
 """
 
 import pathlib

@@ -34,9 +34,9 @@ RECORDINGS = {
 
 
 def judge():
-    """Prints the table of recordings. A time is the minimum of several runs, which alternate between the two judges. A size is
-    the peak memory. The instructions per call are counted in a recording with a tenth of the calls. The last column is the
-    number of instructions for the whole recording, divided by the number for this tenth.
+    """Prints the table of recordings. A time is the minimum of several runs, which alternate between the two judges. A
+    size is the peak memory. The instructions per call are counted in a recording with a tenth of the calls. The last
+    column is the number of instructions for the whole recording, divided by the number for this tenth.
     """
     measures = "`judge`, s", "KB", "by hand, s", "KB", "ratio of s", "of KB", "instructions a call", "by hand", "ratio", "ten times"
     heading("Recording", *measures)
@@ -90,8 +90,8 @@ def lines_of(calls, threads, keys, has_spanning):
 
 
 def overlapping(draw, calls, threads, keys, there):
-    """Yields each call when the call begins, and None when a call has ended. A call changes `there`, the keys of the set, when
-    it takes effect.
+    """Yields each call when the call begins, and None when a call has ended. A call changes `there`, the keys of the
+    set, when it takes effect.
     """
     pending, left, moment = {}, calls, 1
     while left or pending:

@@ -8,7 +8,7 @@ from crates_txt import TOP, lines_of
 
 
 class List:
-    """The names of a list: in texts (such as lock-free), of its step table, in the enum Kind, of its crate and of its type."""
+    """The names of a list: in texts (lock-free), of its step table, in the enum Kind, of its crate and of its type."""
 
     def __init__(self, word):
         self.word, self.table = word, word.replace("-", "_")
@@ -16,7 +16,7 @@ class List:
         self.crate, self.type = f"lset_{self.table}", f"{self.kind}List"
 
     def has_reads(self, root=TOP):
-        """Returns whether `contains` and `ceiling` of the list use no lock. Its table of atomic steps then has rows for them."""
+        """Returns whether `contains` and `ceiling` of the list use no lock, and so have rows in its step table."""
         return f"impl OpenReads for {self.type}" in (root / "crates" / self.crate / "src/lib.rt").read_text()
 
 

@@ -1,6 +1,6 @@
-"""Makes the package formats of a release: a .tar.gz, a .deb for dpkg, a wheel for pip, and SHA256SUMS. The input is a dict
-from names to bytes. Equal files make equal packages, because the only times and owners in a package are the given ones. (The
-usual packaging tools write the current date, the owners of files and their own version into a package.)
+"""Makes the package formats of a release: a .tar.gz, a .deb for dpkg, a wheel for pip, and SHA256SUMS. The input is a
+dict from names to bytes. Equal files make equal packages, because the only times and owners in a package are the given
+ones. (The usual packaging tools write the current date, the owners of files and their own version into a package.)
 """
 
 import base64

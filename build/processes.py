@@ -50,8 +50,8 @@ def _group():
 
 
 def guarded():
-    """Returns a prefix for a command. When this process ends, even if it is killed, the command and all its child processes are
-    killed.
+    """Returns a prefix for a command. When this process ends, even if it is killed, the command and all its child
+    processes are killed.
     """
     with _lock:
         if _is_ending:

@@ -41,8 +41,8 @@ def wait_for(room, names):
 
 
 def wait_for_those_below(room, names):
-    """Waits until the dependencies of these crates are proved; raises NotBuilt if one is not. Lowers this process's priority
-    below that of the proofs (nice).
+    """Waits until the dependencies of these crates are proved; raises NotBuilt if one is not. Lowers this process's
+    priority below that of the proofs (nice).
     """
     os.nice(10)
     if not wait_for(room, [it for it in crates_txt.below(names) if it not in names]):
@@ -125,8 +125,8 @@ def prove_below(room, names, tell):
 
 
 def take_program(name, room, began):
-    """Copies a proved program to this repository and stamps it with its commit. Sets its modification time to the start of
-    the build.
+    """Copies a proved program to this repository and stamps it with its commit. Sets its modification time to the start
+    of the build.
     """
     made, program = room / "crates" / name / "out" / name, crates_txt.TOP / "crates" / name / "out" / name
     program.parent.mkdir(exist_ok=True)

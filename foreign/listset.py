@@ -21,8 +21,8 @@ only one thread at a time uses a seat:
     mine.gather(other)
     keys = mine.close()
 
-Any thread can call a `Shared` set. A seat can add at most `quota` keys, but the seats of a `RenewedSet` do not run out of
-quota.
+Any thread can call a `Shared` set. A seat can add at most `quota` keys, but the seats of a `RenewedSet` do not run out
+of quota.
 
 Keys, numbers of seats and quotas are integers from 0 to 4294967295. An integer out of range raises ValueError, and
 anything else raises TypeError; the set is unchanged then.
@@ -268,7 +268,7 @@ def _told(code):
 
 
 def _number(given, what="key"):
-    """Returns `given` as an integer from 0 to 2**32 - 1, or raises. (ctypes would truncate a larger integer to 32 bits.)"""
+    """Returns `given` as an integer from 0 to 2**32 - 1, or raises. (ctypes would truncate a larger integer.)"""
     try:
         number = operator.index(given)
     except TypeError:
@@ -300,9 +300,9 @@ def _closed_keys(closed):
 
 
 class Receipt:
-    """A receipt. A seat issues a receipt for its calls so far. In the order of all calls, they precede the later calls of
-    each seat that accepts the receipt. The receipt also covers the calls of all seats that its seat had gathered, and the
-    calls that the receipts accepted by its seat cover. It can be passed to any thread.
+    """A receipt. A seat issues a receipt for its calls so far. In the order of all calls, they precede the later calls
+    of each seat that accepts the receipt. The receipt also covers the calls of all seats that its seat had gathered,
+    and the calls that the receipts accepted by its seat cover. It can be passed to any thread.
     """
 
     def __init__(self):
@@ -391,8 +391,9 @@ class Seat:
         return bool(reply)
 
     def ceiling(self, key):
-        """Returns the smallest key of the set that is at least `key`, or None. On a lock-free list, the call can wait until
-        another thread adds or removes a key."""
+        """Returns the smallest key of the set that is at least `key`, or None. On a lock-free list, the call can wait
+        until another thread adds or removes a key.
+        """
         at = _U32()
         return at.value if self._reply(_CEILING, key, at) == AT else None
 
@@ -616,13 +617,13 @@ class RenewedSet:
             return keys
 
     def _lock(self, lock, helper=None):
-        """Locks `lock`. The holder of `lock` can be in a `ceiling` on a lock-free list, which can retry until another call
-        unlinks a marked node. If the seat in `helper` has used up its quota, the waiting thread therefore calls `add` with
-        this seat: the `add` unlinks the node, but cannot add a key.
+        """Locks `lock`. The holder of `lock` can be in a `ceiling` on a lock-free list, which can retry until another
+        call unlinks a marked node. If the seat in `helper` has used up its quota, the waiting thread therefore calls
+        `add` with this seat: the `add` unlinks the node, but cannot add a key.
 
-        `helper` is the caller's own place (its seat with the seat's lock) if the caller is locking all places, otherwise None.
-        After a caller with a `helper` has waited for 5 ms, new calls of other threads wait too, unless one of these calls
-        could be needed to unlink the node.
+        `helper` is the caller's own place (its seat with the seat's lock) if the caller is locking all places,
+        otherwise None. After a caller with a `helper` has waited for 5 ms, new calls of other threads wait too, unless
+        one of these calls could be needed to unlink the node.
         """
         if lock.acquire(blocking=False):
             return
@@ -704,8 +705,9 @@ class RenewedSet:
                     self._renew_taken()
 
     def _add_renewed(self, place, key):
-        """Adds a key with the seat in `place`, after an add returned FULL. Renews the set if an earlier renewal failed, or if
-        the add returns FULL again. Does not renew the set if that cannot help (the quota is 0, or the set has too many keys).
+        """Adds a key with the seat in `place`, after an add returned FULL. Renews the set if an earlier renewal failed,
+        or if the add returns FULL again. Does not renew the set if that cannot help (the quota is 0, or the set has too
+        many keys).
         """
         with self._all_taken(place):
             if self._stage == "open":
@@ -717,8 +719,8 @@ class RenewedSet:
 
 
 class OwnSeat:
-    """A thread's seat in a `RenewedSet`, as returned by `RenewedSet.split`. An `add` renews the set if the seat has used up
-    its quota. A call can raise `TimedOut` if the set has a `patience`.
+    """A thread's seat in a `RenewedSet`, as returned by `RenewedSet.split`. An `add` renews the set if the seat has
+    used up its quota. A call can raise `TimedOut` if the set has a `patience`.
     """
 
     def __init__(self, of, place):

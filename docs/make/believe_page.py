@@ -1,5 +1,6 @@
-"""Checks docs/BELIEVE.md and believed.txt, which list the definitions that a reader of the public contracts must believe.
-Reports definitions and files that are missing there, and names of definitions, functions and clauses that do not exist.
+"""Checks docs/BELIEVE.md and believed.txt, which list the definitions that a reader of the public contracts must
+believe. Reports definitions and files that are missing there, and names of definitions, functions and clauses that do
+not exist.
 
 The search begins with the names in the signature and the clauses of each public function, and in the statements of
 public types and traits. It follows definitions by name. It does not follow lemmas, which the prover checks, or

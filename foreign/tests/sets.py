@@ -15,9 +15,9 @@ ENDS = [0, 2**32 - 1]  # the smallest and the largest key
 
 
 def calls_of(seat, number, kinds):
-    """Calls operations with keys that all threads use, and with keys that only this thread uses. Returns a list with the
-    number of true adds minus true removes for each shared key, and the thread's own keys that remain. `kinds` is the number
-    of operations: 4, or 3 without `ceiling`.
+    """Calls operations with keys that all threads use, and with keys that only this thread uses. Returns a list with
+    the number of true adds minus true removes for each shared key, and the thread's own keys that remain. `kinds` is
+    the number of operations: 4, or 3 without `ceiling`.
     """
     draws, net, own = random.Random(number), [0] * KEYS, set()
     for _ in range(CALLS):
@@ -299,7 +299,7 @@ def side_by_side():
 
 
 def opened(at, number):
-    """Opens a set. `at` selects the argument that is `number`: the number of seats, the quota, the first or the last key."""
+    """Opens a set in which argument `at` is `number`: the number of seats, the quota, the first or the last key."""
     seats, quota, first, last = [number if at == it else it + 1 for it in range(4)]
     listset.open_set("lazy", seats, quota, [first, last])
 

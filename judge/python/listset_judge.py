@@ -105,9 +105,9 @@ NUMBER = "the variable %s is %s, but must be a number from %s to %s"
 
 @dataclasses.dataclass(frozen=True)
 class Verdict:
-    """The result of a successful test: some order explains each run. `overlapped` is the number of calls that overlapped a
-    call that added or removed the same key, as counted by the judge. `judge` is the judge's name, and what the judge states
-    about its own proof. str() formats the result.
+    """The result of a successful test: some order explains each run. `overlapped` is the number of calls that
+    overlapped a call that added or removed the same key, as counted by the judge. `judge` is the judge's name, and what
+    the judge states about its own proof. str() formats the result.
     """
 
     calls: int
@@ -322,8 +322,8 @@ class Tester:
         return KEY_IS % (number, key) + (IN_SET % (one + 1) if shape.sets > 1 else "")
 
     def alone(self, file: pathlib.Path, key: str) -> str:
-        """Writes a small file beside the recording: calls on one key that no order explains. Returns the part of the message
-        that names this file.
+        """Writes a small file beside the recording: calls on one key that no order explains. Returns the part of the
+        message that names this file.
         """
         text = self.by.only(file, key) if key else ""
         if not text:

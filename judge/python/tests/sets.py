@@ -65,8 +65,8 @@ class Named(Right):
         return key % 64 if self.name == "collides" else key
 
     def called(self, call, key):
-        """Executes a call. With "not known" or "again", loses one reply in fifty: the outcome is then unknown, or the call is
-        repeated.
+        """Executes a call. With "not known" or "again", loses one reply in fifty: the outcome is then unknown, or the
+        call is repeated.
         """
         reply, is_lossy = call(self.place(key)), self.name in ("not known", "again")
         self.calls += is_lossy
