@@ -52,14 +52,15 @@ function openRun(wanted) {
   if (wanted.isJudged) beginJudging();
 }
 
-// Opens a linked schedule: a schedule of a broken list in its level of Break, any other schedule on the bench.
+// Opens the schedule of a link: for a broken list (a list without one of its checks) in its level of Break, otherwise on the bench.
 function openLink({ text, event, lacks = null, view = null }) {
   if (lacks !== null) return openStory({ activity: "break", id: String(numberOfLevel(lacks)), given: { text }, view });
   if (text === now.run.text && now.run.isRun && now.place.screen === "stage") return goTo(event);
   openTask(OWN_TASK, text, event);
 }
 
-// Returns the number of the slide with this address or with this content, or 0.
+// Returns the number of the slide that an address opens: #lecture=N, or the address that slide N shows. Returns 0 for any other address. Throws if the
+// lecture has no slide N.
 export function slideOf(hash) {
   const [, number = "1"] = /^#lecture(?:=(.*))?$/.exec(hash) ?? [null, `${1 + LECTURE.findIndex(([, , address]) => address === hash)}`];
   if (number === "0" || LECTURE[Number(number) - 1] !== undefined) return Number(number);
@@ -100,7 +101,7 @@ export function openCourseFile(text) {
   showCourseText(text);
 }
 
-// Opens the address in the address bar, after a move in the history, a link or typing.
+// Opens the address in the address bar after it has changed by a link, by typing, or by a move in the browser's history.
 export async function followAddress(event) {
   clearTimeout(visit.timer);
   const kept = event.state;

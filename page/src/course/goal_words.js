@@ -15,7 +15,7 @@ const endOf = (found) => (found.event ? found.event.number : (found.ended ?? Inf
 const answeredKey = (call) => Number(call.reply?.slice("at-".length));
 const hasSmaller = (call, { keys }) => [...keys].some((key) => call.key <= key && key < answeredKey(call));
 
-// Clauses of a line: a pattern (X is an earlier name, N a number) and a test of a candidate call or event.
+// The clauses of a line of a goal. Each has a pattern (X is an earlier name, N a number) and a test for a call or an event.
 const CALL_CLAUSES = [
   [/^(add|remove|contains|ceiling)$/, (call, [operation]) => call.operation === operation],
   [/^key (\d+)$/, (call, [key]) => call.key === Number(key)],

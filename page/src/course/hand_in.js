@@ -1,6 +1,6 @@
-// A text to hand in: a title, the course and the student, then a line for each solution. A solution is the name of a lesson, a space and the address
-// of a schedule (or a whole link that ends with the address), an order that was judged right, or a run that breaks a list (`named`: the student has
-// also chosen the missing check).
+// A text to hand in: a title, the course and the student, then a line for each solution. The line of a lesson has its name and the address of a schedule
+// (or a whole link that ends with the address). A line `judge` has an order that was judged right. A line `break` has a run that breaks a list, and `named`
+// if the student has also chosen the missing check.
 //
 //     listset-lessons 2
 //     course The twelve lessons of the five lists

@@ -1,5 +1,5 @@
-// The levels of Break it, one for each list that lacks a check: the missing check, wrong guesses with a reply to each, the first calls, the events
-// and calls of the shortest known run, and the code to strike out. The number of a level in a link is its position here, so a new level is added at the end.
+// The levels of Break it, one for each list that lacks a check. A level has the missing check, wrong guesses with a reply to each, the first calls, how many
+// events and calls the shortest known run has, and the code to strike out. Links contain the position of a level, so a new level is added at the end.
 
 export const BREAK_LEVELS = {
   lock: {

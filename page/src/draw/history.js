@@ -166,7 +166,7 @@ function placeLabels(items, { start, edge, mostRows }) {
   });
 }
 
-// The short label of a call if the long label has no space. A line below the drawing explains these signs.
+// The short labels of calls, for bars without space for the long label. A line below the drawing explains these signs.
 const SIGNS = {
   add: (key) => `+${key}`,
   remove: (key) => `\u2212${key}`,

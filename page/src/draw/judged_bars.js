@@ -64,7 +64,7 @@ function drawJudgedBar(call, reply, scale, y) {
 
 const frameOf = ({ width, height }) => ({ width, height, viewBox: `0 0 ${width} ${height}` });
 
-// Draws recorded calls as bars. Neighbouring moments have equal distances.
+// Draws recorded calls as bars. The moments at which calls begin or end are drawn at equal distances.
 export function drawRecorded(calls, width) {
   const inOrder = (numbers) => [...new Set(numbers)].sort((one, other) => (one < other ? -1 : 1));
   const threads = inOrder(calls.map(({ thread }) => thread));

@@ -1,4 +1,4 @@
-// Draws the proved code of the pending calls, and marks the current line of each thread. For a call without its own code, shows the rows of the step table.
+// Draws the proved code of the pending calls, and marks the current line of each thread. For a call without its own code, shows rows of the step table.
 import { LISTS } from "../../made/rows.js";
 import { more } from "../engine/more.js";
 import { callText, chipOf, escaped, tag } from "../run/markup.js";

@@ -115,8 +115,8 @@ function placesOfChain(items, room, units, slots) {
   return places;
 }
 
-// Chooses which nodes outside the chain are drawn (`shown`): first the important nodes, then those that only their thread sees, then unlinked ones. `more` is
-// the number of the others.
+// Chooses which nodes outside the chain are drawn (`shown`): first the important nodes, then those that only their thread sees, then unlinked ones.
+// `more` is the number of the others.
 function nodesAside(state, chain, important, most) {
   const inChain = new Set(chain);
   const aside = Object.keys(state.nodes).filter((name) => !inChain.has(name) && isWritten(state.nodes[name]));
@@ -196,9 +196,9 @@ function freeHand(own, placed, { x, y, width: node }, { height, over }, width) {
 }
 
 /**
- * The space for a drawing, and what to draw: the pixels of the stage (`wide`, `high`) and the minimum of a unit (`least`); the maximum number of nodes in the
- * chain (`slots`); where a lock is shown (`lock` is "list", "nodes" or ""); whether every node stays in the chain (`flat`); how tight the last drawing was
- * (`tight`); the pixels left free at both ends (`ends`); and the registers without a hand (`hides`).
+ * The space for a drawing, and what to draw: the pixels of the stage (`wide`, `high`) and the minimum of a unit (`least`); the maximum number of nodes
+ * in the chain (`slots`); where a lock is shown (`lock` is "list", "nodes" or ""); whether every node stays in the chain (`flat`); how tight the last
+ * drawing was (`tight`); the pixels left free at both ends (`ends`); and the registers without a hand (`hides`).
  * @typedef {{ wide: number, high: number, least?: number, slots: number, lock: string, flat?: boolean, tight?: number, ends?: number[], hides: string[], names?: boolean, isWhole?: boolean }} Room
  */
 export function arranged(state, event, room) {

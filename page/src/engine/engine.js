@@ -1,4 +1,4 @@
-// The engine: the proved replayer as the WebAssembly module listset.wasm. Text in, text out.
+// The engine: the proved replayer as the WebAssembly module listset.wasm. Its functions read texts and return a text.
 
 const FIRST_ROOM = 1 << 22; // bytes of the first buffer for an answer of the engine
 const LARGE_MEMORY = 1 << 28; // bytes; an instance with a larger memory is not used again

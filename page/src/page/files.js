@@ -66,7 +66,7 @@ export async function openFile(text, name) {
   showReport(text, `The report in ${name}:`);
 }
 
-// Opens the schedule of a trace. For a broken list, opens the list's level of Break.
+// Opens the schedule of a trace. For a broken list (a list without one of its checks), opens its level of the activity Break.
 function openTrace(text) {
   const trace = traceIn(text);
   if (trace === null) return sayError("this is not a trace of listset");

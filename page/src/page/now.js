@@ -48,7 +48,7 @@ export function say(text) {
 }
 const last = { text: "", html: "" };
 
-// Shows a trace at an event; `at` is its number, or a function of the trace.
+// Shows a trace at an event. `at` is the number of the event, or a function that computes the number from the trace.
 export function takeTrace(trace, at) {
   const { refused } = trace;
   change("trace", { trace, state: new State(trace), count: typeof at === "function" ? at(trace) : at });

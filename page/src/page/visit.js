@@ -26,7 +26,7 @@ export function keepNow() {
   if (visit.isRead) setAddress();
 }
 
-// Adds a history entry for a new task or place, but not for a step. A text without an address is stored in its entry.
+// Adds an entry to the browser's history for a new task or place, but not for a step. If the state has no address, the entry stores the text of its run.
 function setAddress() {
   const address = addressHere();
   const entry = entryOf(now);

@@ -119,7 +119,7 @@ const TRIES = 200;
 const MOST_TRIED_CALLS = 8; // a run with more calls is not chosen among several
 const MOST_SEEN = 60; // events; in a longer run a reader cannot distinguish them
 
-// Five calls of two threads over two keys: short enough to judge by eye.
+// Returns the seed of a numbered run: five calls of two threads on two keys, few enough to judge by eye.
 export const seedOf = (kind, number) => `${kind}.2.5.2.${number}`;
 
 export function partsOfSeed(seed) {

@@ -1,7 +1,8 @@
 // The memory words, the threads and the chain after a number of events, as recorded in the trace.
 import { firstOpeningNode } from "./trace.js";
 
-// A call that has just begun: its last row (`came`, 0 before its first step), and its registers.
+// The values of a thread whose call has just begun. `came` is the last executed row of the step table (0 before the first step); the others are the thread's
+// registers.
 const BEGUN = { came: 0, pred: "head", curr: "head", succ: "head", node: "head", pkey: "-inf", ckey: "-inf", reply: "none" };
 const AT_REST = { pc: 0, used: 0, call: null, ...BEGUN };
 export const linkTarget = (link) => link.replace("*", "");
@@ -99,8 +100,8 @@ const newNode = () => ({ key: "-inf", link: "head", lock: "free", reached: false
 export const isWritten = (node) => node.key !== "-inf" || node.link !== "head" || node.lock !== "free";
 export const ownerOf = (trace, name) => Math.floor((Number(name.slice(1)) - 2) / trace.quota);
 
-// Returns what the set contains from event `first` to event `last`, as a list of parts. A part has the keys in increasing order, the event after which the
-// set has exactly these keys, and the event that ends this.
+// Returns what the set contains from event `first` to event `last`, as a list of parts. A part has the keys in increasing order, and the events
+// between which the set has exactly these keys (`from`, `to`).
 export function contentsIn(trace, first, last) {
   const keys = new Set(trace.opening);
   const part = (from) => ({ from, to: last + 1, keys: [...keys].sort((one, other) => one - other) });

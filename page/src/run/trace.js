@@ -105,7 +105,7 @@ function takeValue(event, name, value) {
   else if (name !== "call") event.changes[name] = value;
 }
 
-// The nodes of the opening keys are numbered after the slots of all threads.
+// Returns the number of the first opening key's node. Lower numbers are for the head, the tail, and the nodes that threads use for their adds.
 export const firstOpeningNode = (trace) => 2 + trace.threads * trace.quota;
 
 export function eventsInCommon(one, other) {

@@ -122,7 +122,7 @@ function answer(index) {
   replay();
 }
 
-// Replays the winning run from two steps before the correct list would do another step.
+// Replays the winning run, from two steps before the first step that the correct list would not execute.
 function replay() {
   const { figure } = scene;
   figure.replay(Math.max(0, (departureOf(askNow, figure.run.trace) ?? 1) - 2));

@@ -123,7 +123,7 @@ export class Figure {
     if (!this.isEnded) this.onStep?.(this);
   }
 
-  // Shows the remaining steps quickly, each for QUICK milliseconds, or only the last one if `isSkipped`. Returns a promise that resolves after the last step.
+  // Shows the remaining steps quickly, each for QUICK milliseconds, or only the last one if `isSkipped`. The promise resolves after the last step.
   hurry(isSkipped = false) {
     Object.assign(this, { isHurried: true, isSkipped });
     this.wake();

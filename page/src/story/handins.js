@@ -28,7 +28,8 @@ export function assignmentOfLink(link) {
   return tasks.length === 0 ? { fault: "The assignment of this link has no task." } : { title, tasks };
 }
 
-// Returns the rows of the table, one for each student. A file is { name, text }. Without an `assignment`, the table has a column for each task that was handed in.
+// Returns the rows of the table, one for each student. A file is { name, text }. Without an `assignment`, the table has a column for each task that anybody
+// handed in.
 export async function checkAll(files, assignment, sayProgress = (_at, _of) => {}) {
   const found = files.flatMap(({ name, text }) => textsIn(text).map((one) => ({ ...one, file: name })));
   const without = files.filter(({ name }) => !found.some(({ file }) => file === name));

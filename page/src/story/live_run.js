@@ -34,7 +34,7 @@ export class ShownRun {
     return this.state.threads[thread].pc === 0;
   }
 
-  // The keys in the set after some events, according to the replies, and the keys that a walk over the list finds.
+  // `promised` returns the keys in the set after `count` events according to the linearization points. `has` returns the keys that a walk over the list finds.
   promised(count = this.trace.total) {
     return promisedKeys(this.trace, count);
   }
@@ -45,8 +45,8 @@ export class ShownRun {
 }
 
 /**
- * `lines` are the schedule's first lines; a draft's lines are allowed. In a `free` run the reader can begin any call, and can stop before each look.
- * A `plain` run ignores the list's lock and does not show it. `joined` rows belong to the press before them.
+ * A run to begin with. `lines` are the first lines of the schedule; lines of a draft are allowed. In a `free` run, the reader can begin any call. A `plain`
+ * run ignores the list's lock and does not show it. The rows in `joined` are executed by the press before them, except in a `free` run.
  * @typedef {{ list: string, lacks?: string | null, threads?: number, quota?: number, opening?: number[], lines?: string[], version?: number,
  *   free?: boolean, plain?: boolean, joined?: number[] }} RunSpec
  */
@@ -96,8 +96,8 @@ export class LiveRun extends ShownRun {
     this.state.moveTo(this.count);
   }
 
-  // Returns what the next press of a thread does after the shown event: the number of steps, their phase, and the holder of the lock if the thread waits for
-  // a lock. A thread waits once it has tried to take the lock and failed.
+  // Returns what the next press of a thread does after the shown event: the number of steps, their phase, and the holder of the lock if the thread waits
+  // for a lock. A thread waits once it has tried to take the lock and failed.
   nextOf(thread, call = null) {
     return (this.nexts[[this.count, thread, call].join()] ??= this.newNextOf(thread, call));
   }
