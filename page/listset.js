@@ -58,7 +58,7 @@ class Printed extends Error {
 
 const usageOf = (name) => /^Usage: (.*)$/m.exec(HELP[name] ?? "")?.[1] ?? `listset ${name} [CAUSE]`;
 
-// Reports wrong arguments of a command, in the program's format.
+// Returns the program's error about wrong arguments of a command.
 function wrongWords(error, usage, tip) {
   const parts = [`error: ${error}`, ...(tip ? [`  tip: ${tip}`] : []), ...(usage ? [`Usage: ${usage}`] : []), MORE];
   return new Printed(`${parts.join("\n\n")}\n`, WRONG);

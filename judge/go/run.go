@@ -189,7 +189,7 @@ func (a *area) made(seed int64, s size, file string, by caller) (trouble string,
 
 // ---- for the process that performs a run
 
-// fail stores a panic. Only the first panic is kept.
+// fail recovers from a panic and stores its text. Only the first text is kept.
 func (a *area) fail(as uint32, words string) {
 	if why := recover(); why != nil && atomic.CompareAndSwapUint32(&a.isStopping, 0, 1) {
 		a.why.set(fmt.Sprintf(words, why))

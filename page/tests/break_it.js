@@ -43,7 +43,7 @@ function checkBroken(ask, name) {
   check(`${name} is a list of one kind`, verdictOnLacking(ask, name, ofOther).kind === "refused");
 }
 
-// Checks that each event has a sentence and a picture, and that the correct list makes the same events up to the first difference.
+// Checks that each event of a broken list's run has a sentence and a picture, and that the correct list has the same events before the first different one.
 function checkDeparture(ask, name) {
   const trace = new Trace(ask("listset_lacking", name, scheduleOf(name), "trace").text, 2);
   check(`${name} stands in its trace`, trace.lacks === name && trace.kind === LACKING[name]);
@@ -71,7 +71,8 @@ function checkContents(trace) {
   }
 }
 
-// Checks a trace from a file. If the trace does not name its broken list, the correct list makes a different trace of the same schedule.
+// Checks how the page reads a broken list's trace from a file. If the trace does not name the list, the page compares it with the correct list's trace of
+// the same schedule, and names the first different event.
 function checkFile(ask, name) {
   const { text } = ask("listset_lacking", name, scheduleOf(name), "trace");
   check(`${name}: its trace is one`, inPage("traceIn")(text)?.lacks === name);

@@ -12,8 +12,8 @@ const GROUNDS_OF = {
   paper: ["ink"],
 };
 const THREADS = [0, 1, 2, 3, 4, 5, 6, 7];
-// The labels in the bars of the history: how strongly the thread's colour fills the bar, for calls that have begun and
-// for later calls.
+// The bars of the history: how strongly the thread's colour fills a bar, and the colours of the texts on it. The first
+// entry is for calls that have begun, the second for later calls.
 const BARS = [
   { share: /\.bar rect \{[^}]*fill-opacity: ([.0-9]+)/, texts: ["ink", "soft"] },
   { share: /\.bar\.later rect \{[^}]*fill-opacity: ([.0-9]+)/, texts: ["pale"] },

@@ -19,7 +19,7 @@ function check(result, name, isGood) {
 }
 
 // Checks that each trace can be read, contains the given schedule, and can be stepped forward to its end and back. In
-// some traces a ceiling ends.
+// some of the traces, a ceiling must return a key, or nothing.
 function checkTraces(result, engine, cases) {
   const replies = new Set();
   for (const { texts } of cases.filter((wanted) => wanted.function === "listset_trace")) {

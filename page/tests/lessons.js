@@ -1,6 +1,6 @@
 // node tests/lessons.js checks the lessons: their texts, their goals, and the sentences about an attempt. Prints as JSON how many checks passed,
-// and which failed. recorded.txt has schedules for each lesson, each with the conditions that its run meets, and the event at which the run is
-// refused.
+// and which failed. recorded.txt has schedules for each lesson, each with a digit for each condition of the goal: 1 if the run meets the condition,
+// otherwise 0.
 "use strict";
 
 const fs = require("fs");
@@ -22,7 +22,7 @@ const scheduleOf = (lesson, events) => scheduleText(lesson, events.split(",").ma
 
 const SPLIT = ["one-lock"]; // lessons with conditions that were split later: a schedule meets all new conditions if it met all old ones
 
-// Checks that a run meets exactly the conditions of a goal that recorded.txt lists for the run.
+// Checks that each run in recorded.txt meets exactly the conditions of its lesson's goal that the file states.
 function checkRecorded(ask, { lessons }) {
   for (const line of fs.readFileSync(path.join(__dirname, "recorded.txt"), "utf8").trimEnd().split("\n")) {
     const [name, bits, events] = line.split(" ");

@@ -89,8 +89,8 @@ function checkRead() {
   }
 }
 
-// Checks that a number names the same run in every browser, that the run is small enough to judge, and that its calls overlap. The run in
-// README.md must not change.
+// Checks that a number always selects the same run, and that the run is small enough to judge. The run in README.md must not change. Also checks a
+// large run, and the errors for addresses without a run.
 function checkSeeds(engine) {
   const ask = (name, ...texts) => engine.ask(name, ...texts);
   for (const kind of Object.keys(inPage("LISTS"))) {
@@ -146,8 +146,8 @@ function checkForms() {
   }
 }
 
-// Checks that each text can be recovered from its address, byte by byte, and that a wrong address is refused with its
-// wrong part named.
+// Checks that each text can be recovered from its address, byte by byte, and that the error for a wrong address names
+// the wrong part.
 function checkAddresses(engine, texts) {
   const addressOf = inPage("addressOf");
   const readAddress = inPage("readAddress");

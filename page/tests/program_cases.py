@@ -51,8 +51,8 @@ class Program:
 
 
 def generated(program, dice):
-    """Generates schedules of each list: a long one, and others with few or many threads, and with or without free
-    slots. In some of these, each `contains` is replaced by a ceiling, so that a later event can be refused.
+    """Generates schedules of each list: a long one, and others with few or many threads and small or large quotas. In some
+    of these, each `contains` is replaced by a ceiling, so that a later event can be refused.
     """
     for kind in LISTS:
         yield program.program_answers("gen", kind, "4", "300", "1100", "4", "1")[0]

@@ -183,7 +183,7 @@ function isSecond(it, said, text) {
   return said.second !== undefined && needs(said.second) === (need === "present") && said.isPresent !== (need === "present");
 }
 
-// Returns whether no call that can have changed the key by this operation overlaps a period. Such a call returned true or is pending.
+// Returns whether no call can have changed the key by this operation during a period. A call that changes a key returns true or is pending.
 function isNoneBetween(it, key, operation, since, until) {
   return !it.calls.some((call) => call.key === key && call.operation === operation && mayChange(call) && call.begun < until && since < (call.ended ?? LAST));
 }

@@ -1,4 +1,4 @@
-// The bench shows a run at the current event: its figure, its slider, its question, and the folded parts below.
+// The bench shows a run at the current event: its figure, its slider, its question, and the collapsible parts below.
 import { LECTURE } from "../data/lecture.js";
 import { LISTS } from "../../made/rows.js";
 import { loadMore, more } from "../engine/more.js";

@@ -46,7 +46,8 @@ export class ShownRun {
 
 /**
  * A run to begin with. `lines` are the first lines of the schedule; lines of a draft are allowed. In a `free` run, the reader can begin any call. A `plain`
- * run ignores the list's lock and does not show it. The rows in `joined` are executed by the press before them, except in a `free` run.
+ * run ignores the list's lock and does not show it. The rows in `joined` are executed by the press before them, unless the run is
+ * `free` and not `plain`.
  * @typedef {{ list: string, lacks?: string | null, threads?: number, quota?: number, opening?: number[], lines?: string[], version?: number,
  *   free?: boolean, plain?: boolean, joined?: number[] }} RunSpec
  */

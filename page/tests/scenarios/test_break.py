@@ -8,7 +8,7 @@ SCHEDULES = pathlib.Path(__file__).resolve().parents[3] / "examples/schedules/la
 
 
 def won(visitor):
-    """Wins level 1 as its hints say: both threads walk, B completes its add, then A does."""
+    """Wins level 1 as its hints say: both threads walk, B completes its add, then A completes its own."""
     visitor.open("#break=1")
     for key in "aaabbbbbbaa":
         if not visitor.is_seen(".reveal"):
