@@ -280,7 +280,7 @@ function checkWhy(ask, it) {
   return checkText(ask, it, told);
 }
 
-// Decides whether bars one below another overlap exactly if their calls overlap in time.
+// Decides whether any two bars of a picture share a column if and only if their calls overlap in time.
 function doBarsMeet(lines) {
   const bars = lines.flatMap((line) => {
     const [, before, bar, begun, ended] = /^(thread \d+ +)(\[\w+ \d+-*(?:\w+\]|\.\.)) +(\d+) to (\d+|\.\.)/.exec(line) ?? [];
@@ -374,8 +374,8 @@ function* around(it, key, call) {
   }
 }
 
-// Returns whether the calls around a call are linearizable only if the call has the opposite reply. It is enough if this holds
-// for the changes of the key alone.
+// Returns whether inverting the reply of a call makes the calls around it linearizable, which they are not as recorded. It is
+// enough if this holds among the changes of the key.
 function isExpected(it, call) {
   const changes = knownBy(ofKey(it, call.key).filter((one) => isChange(one) && one !== call), call.ended);
   const fits = (one, others, isThere, left) => hasOrder([...others, one], call.key, isThere, left);
@@ -417,7 +417,7 @@ const keysOf = (it) => [...new Set([...it.calls.map(({ key }) => key), ...it.ope
 const inTime = (call, since, until) => call.begun <= until && since <= (call.ended ?? LAST);
 const runsBeside = (it, call, operation) => it.calls.some((one) => one !== call && one.key === call.key && one.operation === operation && isChange(one) && inTime(one, call.begun, call.ended));
 
-// Returns whether another add or remove that holds ran during a call.
+// Returns whether another add or remove, for which `holds` returns true, ran at the same time as a call.
 const runsDuring = (it, call, holds) => it.calls.some((one) => one !== call && one.operation !== "contains" && holds(one) && inTime(one, call.begun, call.ended));
 
 function isHeadline(it, why, [key, gone, operation, ofCall, reply, expected]) {
@@ -441,7 +441,8 @@ function isTold(it, { wrong, count: answers, isAll }, [operation, atLeast, count
   return Number(found) === someFound && Number(missed) === someMissed;
 }
 
-// Decides whether a call that leaves a key and a call that needs the other state contradict each other, while no two calls overlap.
+// Decides whether two calls on a key contradict each other although no calls overlap during this time: one call leaves the key in a state, and the later
+// call needs the opposite state. The opening or final state of the key can take the place of a call.
 function isWrongAlone(it) {
   return keysOf(it).some((key) => {
     const ended = ofKey(it, key).filter(holdsReply);
