@@ -695,8 +695,8 @@ inline judge_found find_judge() {
 }
 #endif
 
-// Judges a recording. Returns two values: the judge's output if no order explains the calls, otherwise an empty text; and the
-// number of calls that overlapped a change of their key.
+// Judges a recording. Returns two values: the judge's output if no order explains the calls, otherwise an empty text;
+// and the number of calls that overlapped a call that changed the same key.
 inline std::pair<std::string, uint64_t> judged(const judge_found &by, const std::string &file) {
     const auto [status, said] = by.asked_of(file);
     const std::string first = said.substr(0, said.find('\n'));

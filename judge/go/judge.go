@@ -431,7 +431,8 @@ func isWithin(since time.Time, seconds int) bool {
 	return time.Since(since) < time.Duration(seconds)*time.Second
 }
 
-// judgedRun performs a run and judges it. It returns the number of calls that overlapped a change of their key.
+// judgedRun performs a run and judges it. It returns the number of calls that overlapped a call that changed the same
+// key.
 func (t *tester) judgedRun(seed int64, s shape) (int, error) {
 	r, err := newRecording(seed, s.name, t.options.Record)
 	if err != nil {

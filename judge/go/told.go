@@ -39,8 +39,8 @@ func newRecording(seed int64, name, record string) (*recording, error) {
 	return r, nil
 }
 
-// judged returns the number of calls that overlapped a change of their key, or the error of the run. If the run was cut
-// short, trouble is the reason.
+// judged returns the number of calls that overlapped a call that changed the same key, or the error of the run. If the
+// run was cut short, trouble is the reason.
 func (r *recording) judged(by *judgeFound, a *area, trouble string) (int, error) {
 	underWay, lines := "", ""
 	if trouble != "" {
@@ -185,8 +185,8 @@ func ran(words []string, shown io.Writer) (int, string) {
 	return made.ProcessState.ExitCode(), strings.TrimSpace(out.String())
 }
 
-// judged judges a recording. It returns the number of calls that overlapped a change of their key, or the judge's output if
-// no order explains the calls.
+// judged judges a recording. It returns the number of calls that overlapped a call that changed the same key, or the
+// judge's output if no order explains the calls.
 func (j *judgeFound) judged(recording *os.File) (overlapped int, refused string, err error) {
 	status, said := j.answer(recording)
 	if _, err := fmt.Sscanf(said, "ok %d calls\n%d of them", new(int), &overlapped); status == 0 && err == nil {

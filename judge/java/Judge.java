@@ -278,7 +278,7 @@ public final class Judge {
         CutShort(long seed, String said, Path file, String text) { super(seed, said, file, text); }
     }
 
-    /** Fewer calls overlapped a change of their key than the options require. */
+    /** Fewer calls than the options require overlapped a call that changed the same key. */
     public static final class TooFew extends AssertionError {
         private static final long serialVersionUID = 1;
 
@@ -401,7 +401,7 @@ public final class Judge {
             return isFew(overlapped, shape.allCalls());
         }
 
-        /** Performs a run and judges it. Returns the number of calls that overlapped a change of their key. */
+        /** Performs a run and judges it. Returns the number of calls that overlapped a call that changed the same key. */
         private long judged(long seed, Shape shape) throws IOException {
             try (Recording recording = new Recording(seed, how.record)) {
                 Path file = recording.file;
@@ -905,7 +905,7 @@ public final class Judge {
 
     /**
      * The verdict on a recording: the judge's output if it refused the recording (otherwise null), and the number of calls
-     * that overlapped a change of their key.
+     * that overlapped a call that changed the same key.
      */
     private record Judgement(String refused, long overlapped) { }
 

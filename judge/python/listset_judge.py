@@ -140,7 +140,7 @@ class CutShort(Failed):
 
 
 class TooFew(AssertionError):
-    """Fewer calls overlapped a change of their key than `at_least` requires."""
+    """Fewer calls than `at_least` requires overlapped a call that changed the same key."""
 
 
 class NoVerdict(Exception):
@@ -665,8 +665,8 @@ class Judge:
         return f"{self.name}, {self.proof}"
 
     def judged(self, file: pathlib.Path) -> tuple[int, str]:
-        """Judges a recording. Returns the number of calls that overlapped a change of their key, and the judge's output if no
-        order explains the calls.
+        """Judges a recording. Returns the number of calls that overlapped a call that changed the same key, and the judge's
+        output if no order explains the calls.
         """
         text, status = self.answer(file)
         met = OVERLAPPED.match(text)

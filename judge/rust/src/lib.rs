@@ -248,7 +248,7 @@ pub enum Failure {
     NotLinearizable(Failed),
     /// The set crashed, hung or panicked. The run's earlier calls were judged.
     CutShort(Failed),
-    /// Fewer calls overlapped a change of their key than `at_least` requires.
+    /// Fewer calls than `at_least` requires overlapped a call that changed the same key.
     TooFew(String),
     /// Nothing is known about the set: an option is out of range, no set could be created, or no judge was found.
     NoVerdict(String),
@@ -439,7 +439,7 @@ impl<S: Sync> Tester<'_, S> {
         Ok(verdict)
     }
 
-    /// Performs a run and judges it. Returns the number of calls that overlapped a change of their key.
+    /// Performs a run and judges it. Returns the number of calls that overlapped a call that changed the same key.
     fn judged_run(&self, seed: u64, mut shape: Shape) -> Result<u64, Failure> {
         if self.source.has_keys {
             shape.times = 1;

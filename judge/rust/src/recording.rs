@@ -31,8 +31,8 @@ impl<'a> Recording<'a> {
         }
     }
 
-    /// Judges the recording. Returns the number of calls that overlapped a change of their key. If the run was cut short,
-    /// `trouble` is the reason.
+    /// Judges the recording. Returns the number of calls that overlapped a call that changed the same key. If the run was
+    /// cut short, `trouble` is the reason.
     pub(crate) fn judged<S>(mut self, source: &Source<S>, area: &Area, trouble: Option<String>) -> Result<u64, Failure> {
         let (lines, under_way) = area.lines();
         if trouble.is_some() && area.write(&format!("{lines}cut\n")).is_err() {

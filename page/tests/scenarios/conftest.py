@@ -94,7 +94,7 @@ class Visitor(webdriver.Browser):
         return self.script("return document.querySelector(arguments[0])?.innerText ?? ''", what)
 
     def is_seen(self, what):
-        """Returns whether a part has a box on the page."""
+        """Returns whether a part is on the page and not hidden. It can be outside of the window."""
         return self.script("return [...document.querySelectorAll(arguments[0])].some((it) => it.getClientRects().length > 0)", what)
 
     def in_window(self, what):
