@@ -92,10 +92,10 @@ title_of() {
   esac
 }
 
-# Prints the last line of the command `explain` for a file: the error, and how to correct it. $3 and $4 are the cause and the
-# line in the error of the command $1. If the cause is Header and the command $1 does not read files of this kind, prints both
-# kinds and the commands that read the file. If the kind of such a file is unknown, prints the first line that a file for the
-# command must have.
+# Prints one line about an error of the command $1 in a file: usually the last line that the command `explain` prints, with
+# the error and how to correct it. $3 and $4 are the cause of the error and its line number. If the cause is Header and the
+# command does not read files of this kind, prints both kinds and the commands that read the file. If the kind of the file is
+# unknown, prints the first line that a file for the command must have.
 explain_in_a_line() {
   local command=$1 file=$2 cause=${3-} number=${4-} said first last name use
   said=$(explain_file "$file")
@@ -122,8 +122,8 @@ explain_in_a_line() {
   fi
 }
 
-# Explains an error that the command `explain` cannot find, because the schedule ran on a broken list (a list without
-# one of its checks): its calls can execute steps that no call on the intact list executes.
+# Explains an error that the command `explain` does not find in the file. With --lacks, the reason is that calls on a
+# broken list (a list without one of its checks) can execute steps that no call on the intact list executes.
 explain_other() {
   if [ -n "${texts[lacks]-}" ]; then
     echo "On the list that lacks ${texts[lacks]}, calls can take other steps than on the whole list. For each step above this line: listset trace --lacks ${texts[lacks]} $(quoted "$2"); for the cause: listset faults $3"
