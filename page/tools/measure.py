@@ -1,5 +1,6 @@
 #!/usr/bin/python3
-"""Measures the page in a browser: the bytes that the path loads, and the times until the first picture and until a step chosen on the slider is shown.
+"""Measures the page in a browser: the bytes that the path loads, and the times until the first picture is shown and until a step
+chosen on the slider is shown.
 
     page/tools/measure.py [--browser chromium] [--calls 12]
 

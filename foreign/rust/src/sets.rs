@@ -358,8 +358,8 @@ impl Seat {
     }
 }
 
-/// Returns the reply of a call. Every `Seat` is full, so a call fails only if it stopped without a reply, after 2^64 - 1
-/// rounds of a loop.
+/// Returns the reply of a call. A `Seat` is never empty, so a call lacks a reply only if one of its loops has made
+/// 2^64 - 1 rounds.
 fn replied(reply: u8) -> u8 {
     assert_ne!(reply, NO_SEAT, "the call made 2^64 - 1 rounds");
     reply

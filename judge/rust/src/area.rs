@@ -334,7 +334,8 @@ impl<S: Sync> Play<'_, S> {
         left
     }
 
-    /// Starts each part of the calls, waits until the part has ended, and saves it in the file.
+    /// Starts each part of the calls (a part is the calls between two saves), waits until the part has ended, and saves it
+    /// in the file.
     fn lead(&self) -> Option<String> {
         let area = self.area;
         if area.options.opens_with_keys {
