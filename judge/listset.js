@@ -411,7 +411,7 @@ function keyed(engine, only, file) {
   return found === null ? bad : { status: 0, bytes: Buffer.from(found) };
 }
 var REFUSED = "not linearizable\n";
-var OF_A_FILE = "\nlistset judge FILE, with a file, also says what is wrong\n";
+var OF_A_FILE = "\nto learn what is wrong, judge a file: listset judge FILE\n";
 var NOT_TOLD = "\nno explanation: memory ran out, or the file has changed since it was judged\n";
 var BRIEF = /^(ok |\d+ of them |the recording was cut off|not linearizable|no order explains )/;
 function briefly(verdict) {

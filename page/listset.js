@@ -217,7 +217,7 @@ function keyed(engine, only, file) {
 }
 
 const REFUSED = "not linearizable\n";
-const OF_A_FILE = "\nlistset judge FILE, with a file, also says what is wrong\n";
+const OF_A_FILE = "\nto learn what is wrong, judge a file: listset judge FILE\n";
 const NOT_TOLD = "\nno explanation: memory ran out, or the file has changed since it was judged\n";
 
 // Matches the lines of a verdict that `judge --brief` prints: no advice, and no calls that contradict each other.

@@ -218,7 +218,7 @@ def ends_after(line, moment):
     return any(int(end) > moment for end in re.findall(r", \d+ to (\d+), needs", line))
 
 
-MORE = "listset judge FILE, with a file, also says what is wrong\n"
+MORE = "to learn what is wrong, judge a file: listset judge FILE\n"
 
 
 @pytest.mark.parametrize("seed", SEEDS)

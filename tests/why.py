@@ -248,7 +248,7 @@ def test_few_calls_have_no_likely_cause(program, path):
 def test_a_refusal_from_a_pipe_has_a_hint_to_use_a_file(program):
     done = ran(program, "judge", text=mark_not_read(20))
     assert done.returncode == 1 and "likely:" not in done.stdout
-    assert done.stdout.endswith("\nlistset judge FILE, with a file, also says what is wrong\n")
+    assert done.stdout.endswith("\nto learn what is wrong, judge a file: listset judge FILE\n")
 
 
 def test_a_linearizable_recording_has_no_diagnosis(program, path):

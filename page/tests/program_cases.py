@@ -21,7 +21,7 @@ LACKS = TOP / "examples" / "schedules" / "lacks"
 OF_SCHEDULES = {"replay": ["replay"], "trace": ["trace"], "trace_with_chains": ["trace", "--chain"], "show": ["show"], "show_svg": ["show", "--svg"]}
 OF_TEXTS = {**OF_SCHEDULES, "check": ["check"], "draft": ["draft"], "judge": ["judge"]}
 DRAWN = 600  # the number of random cases with options, and with arguments of gen
-OF_A_FILE = b"\nlistset judge FILE, with a file, also says what is wrong\n"  # printed below a refusal from a pipe; the module returns it from listset_why
+OF_A_FILE = b"\nto learn what is wrong, judge a file: listset judge FILE\n"  # printed below a refusal from a pipe; the module returns it from listset_why
 MOMENTS = ["1", "3", "9", "12", "40", "0", "x", "", "4294967295"]
 VALUES = ["1", "2", "3", "8", "20", "", "x", "00", "-1", "18446744073709551615", "18446744073709551616"]
 

@@ -13,7 +13,7 @@ use tool_base::{Answer, Trouble};
 use tool_judge::{with_count, with_lines};
 use tool_why::{Explained, explain};
 
-const OF_A_FILE: &[u8] = b"\nlistset judge FILE, with a file, also says what is wrong\n";
+const OF_A_FILE: &[u8] = b"\nto learn what is wrong, judge a file: listset judge FILE\n";
 
 const FAILED: &[u8] =
     b"\nno explanation: memory ran out, or the file has changed since it was judged\n";
