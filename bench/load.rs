@@ -64,7 +64,7 @@ impl Wanted {
         Wanted { protocol, port: port as u16, clients, at_once: at_once as usize, requests: requests as usize, keys }
     }
 
-    /// Returns the bytes of each write of a client: `at_once` requests.
+    /// Returns the writes of a client. Each write has the bytes of `at_once` requests.
     fn writes(&self, client: u64) -> Vec<Vec<u8>> {
         let mut drawn = 0x2545_f491_4f6c_dd1d ^ ((client + 1) << 32);
         let mut request = |_| {

@@ -72,8 +72,8 @@ def memory_of(words, given):
 
 
 def instructions_of(words, given):
-    """Returns the number of instructions of a command, counted by valgrind's callgrind: this number does not depend on the
-    load of the machine. Returns None if valgrind is not installed.
+    """Returns the number of instructions of a command, counted by valgrind's callgrind. This number does not depend on
+    the load of the machine. Returns None if valgrind is not installed.
     """
     if not shutil.which("valgrind"):
         return None

@@ -157,7 +157,7 @@ print_broken_lists() {
   "${engine[@]}" help replay 2>/dev/null | sed -n 's/^ *--lacks <NAME> [^:]*: //p'
 }
 
-# Explains an option --lacks that names a check of a different list than the schedule's list.
+# Explains an option --lacks whose check belongs to a list other than the schedule's.
 explain_lacks() {
   local lacks=${texts[lacks]} file=$1 list="" names it of="" fitting=""
   names=$(print_broken_lists)
@@ -293,7 +293,7 @@ explain_too_long() {
   fi
 }
 
-# Prints the last moment of the command's file that show can draw. Prints nothing if the command reads standard input.
+# Prints the last moment that show can draw for the command's file. Prints nothing if the command reads standard input.
 print_last_moment() {
   local file picture lacks=()
   file=$(print_file show)

@@ -8,7 +8,7 @@ from crates_txt import TOP, lines_of
 
 
 class List:
-    """The names of a list: in texts (lock-free), of its step table, in the enum Kind, of its crate and of its type."""
+    """The names of a list: in texts (lock-free), of its step table, of its Kind, of its crate and of its type."""
 
     def __init__(self, word):
         self.word, self.table = word, word.replace("-", "_")

@@ -59,7 +59,7 @@ def guarded():
         if os.getpid() not in _guarding:
             _guarding[os.getpid()] = _group()
         guard = _guarding[os.getpid()][0]
-    # (Python ignores these two signals. The command would inherit this.)
+    # (Python ignores the signals SIGPIPE and SIGXFSZ. Without SIG_DFL, the command would ignore them too.)
     joins = f"import os, sys, signal as s; os.setpgid(0, {guard.pid}); [s.signal(it, s.SIG_DFL) for it in (s.SIGPIPE, s.SIGXFSZ)]"
     return [sys.executable, "-ISc", f"{joins}; os.execvp(sys.argv[1], sys.argv[1:])"]
 

@@ -235,7 +235,7 @@ LISTSET_USED listset_reply listset_contains(listset_seat *seat, uint32_t key);
 /// LISTSET_NOTHING. On a lock-free list, the call can wait until another thread adds or removes a key.
 LISTSET_USED listset_reply listset_ceiling(listset_seat *seat, uint32_t key, uint32_t *at);
 
-/// Replies like `listset_contains`, but waits for no lock and makes at most `listset_most_reads` steps, whatever other
+/// Replies like `listset_contains`, but waits for no lock and takes at most `listset_most_reads` steps, whatever other
 /// threads do. Only for lazy and lock-free lists: on any other list, replies LISTSET_MAY_BLOCK without reading
 /// the list.
 LISTSET_USED listset_reply listset_contains_now(listset_seat *seat, uint32_t key);

@@ -187,7 +187,7 @@ public:
   /// Returns whether a key is in the set.
   bool contains(uint32_t key) { return by(listset_contains, key) == LISTSET_TRUE; }
 
-  /// Returns whether a key is in the set, like `contains`, but waits for no lock and makes at most `most_reads` steps,
+  /// Returns whether a key is in the set, like `contains`, but waits for no lock and takes at most `most_reads` steps,
   /// whatever other threads do. Only for lazy and lock-free lists: on any other list, throws with
   /// LISTSET_READS_BLOCK.
   bool contains_now(uint32_t key) {

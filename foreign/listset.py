@@ -382,7 +382,7 @@ class Seat:
     __contains__ = contains
 
     def contains_now(self, key):
-        """Returns whether a key is in the set, like `contains`, but waits for no lock and makes at most `most_reads`
+        """Returns whether a key is in the set, like `contains`, but waits for no lock and takes at most `most_reads`
         steps, whatever other threads do. Only for lazy and lock-free lists: on any other list, raises `Fault`.
         """
         reply = self._reply(_NOW, key)

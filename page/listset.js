@@ -637,7 +637,7 @@ function noValueHint(name, option) {
   return `Write the value after ${option}. ${value ? `${value}: ${about}` : `listset help ${name} says what it can be`}`;
 }
 
-// Returns a hint for a word in place of a command.
+// Returns a hint for a word that was typed in place of a command.
 function commandHint(word, said) {
   if (fs.existsSync(word) && fs.statSync(word).isFile()) {
     const kind = kindOf(word);

@@ -77,8 +77,8 @@ def pytest_collection_modifyitems(config, items):
 
 
 def print_missing(items):
-    """Prints how to install each missing command that a mark `needs` names, and how many tests are skipped without the
-    command.
+    """For each missing command, prints how to install it, and how many tests are skipped without it. The mark `needs`
+    of a test names the commands that the test runs.
     """
     wanted = [it for item in items for it in {word for mark in item.iter_markers("needs") for word in mark.args}]
     for it, many in collections.Counter(wanted).items():

@@ -68,7 +68,9 @@ class Compared:
             self.compare(words, [*due, status], [*lines, ended])
 
     def picture(self, picture, asked, below=()):
-        """Compares a text picture. `asked` has the values of --from, --to and --width; None means that the option is missing."""
+        """Compares a picture as text with the model's. `asked` has the values of --from, --to and --width; None means
+        that the option is missing.
+        """
         words, first, last, width = options("show", asked)
         lines, ended = self.said(*words)
         due = [2] if is_past(picture, first) else [*fitted(picture, first, last, width).text(), *below, status_of(picture)]
@@ -147,7 +149,8 @@ def test_trace_and_pictures_match_the_model(program, schedule):
 
 
 def compare_report(looked, report):
-    """Compares pictures of a report. If the report is refused, one or two lines about other orders follow the picture.
+    """Compares pictures of a report with the model's. If the report is refused, one or two lines about other orders
+    follow the picture.
     """
     picture, below = picture_of_report(report), []
     if picture.refusal:

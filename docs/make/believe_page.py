@@ -38,7 +38,7 @@ class Module(NamedTuple):
 
 
 def uses(text):
-    """Returns the imports in the `use` lines of a file: names of the logic, and modules under other names."""
+    """Returns the imports of a file: a dict of the imported names, and a dict of the modules with another name."""
     names, modules = {}, {}
     for path, listed, other in USE.findall(text):
         for entry in filter(None, (listed or "").split(",")):
@@ -50,7 +50,7 @@ def uses(text):
 
 
 def definitions_in(text):
-    """Returns the definitions in a file by name, without comments."""
+    """Returns a dict with the name and the text of each definition in a file, without comments."""
     found, lemmas, into = {}, {}, None
     for line in text.split("\n"):
         if not line.strip() or line.strip().startswith("--"):
@@ -143,7 +143,7 @@ def reached(items=""):
 
 
 def print_reached():
-    """Prints each file of definitions with the definitions that public contracts reach."""
+    """Prints each file that has definitions which public contracts reach, with the names of these definitions."""
     for path, module in modules().items():
         if names := [it for it in module.definitions if (path, it) in reached()]:
             print(f"{module.file}: {', '.join(names)}")
@@ -191,8 +191,8 @@ def file_faults():
 
 
 def name_faults(top, rows):
-    """Yields two kinds of errors: bracketed names in comments and pages that are not the name of a definition, and
-    definitions that no row names.
+    """Yields two kinds of errors: a name in brackets, in a comment or on a page, that no definition has; and a
+    definition that no row names.
     """
     known = {name for _, names in entries() for name in names}
     texts = {it: re.sub(r"^    .*$|`[^`\n]*\[[^`\n]*`", "", it.read_text(encoding="utf-8"), flags=re.M) for it in (top / "docs").glob("*.md")}

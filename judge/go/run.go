@@ -328,8 +328,8 @@ func (a *area) number(key int) uint32 {
 	return uint32(key * a.times)
 }
 
-// For the opening and the final keys, Contains is called at most mostAsked times for a key, as long as its outcome is
-// unknown.
+// mostAsked is the maximum number of calls of Contains for one opening or final key. The call is repeated while its
+// outcome is unknown.
 const mostAsked = 100
 
 // linesOfKeys calls Contains for each key, and retries if the outcome is unknown. It returns a line for each key found,

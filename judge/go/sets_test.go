@@ -96,7 +96,8 @@ func (s *set) called(call func(uint32) bool, key uint32) bool {
 	return call(key)
 }
 
-// stop hangs, crashes, exits, panics or naps in a late remove, as the variable SET names it, while holding the lock.
+// stop does in a late remove what the variable SET names, while holding the lock: it hangs, crashes, exits, panics or
+// naps.
 func (s *set) stop() {
 	s.lock.Lock()
 	defer s.lock.Unlock()

@@ -39,7 +39,7 @@ from typing import Any, Callable
 __all__ = ["CutShort", "Failed", "NoVerdict", "NotLinearizable", "TooFew", "Verdict", "judge"]
 
 GOING, ENDED, UNMADE = range(3)
-# For the opening and the final keys, `contains` is called at most this often for a key, as long as its outcome is
+# The maximum number of calls of `contains` for one opening or final key. The call is repeated while its outcome is
 # unknown.
 MOST_ASKED = 100
 WORDS = ADD, REMOVE, CONTAINS = "add", "remove", "contains"

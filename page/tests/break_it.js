@@ -122,8 +122,8 @@ function checkDrafts(ask) {
   }
 }
 
-// Checks that a hand-in is judged on the broken list that its line names. A run is no solution if another order than that of the linearization points
-// explains its calls.
+// Checks that a hand-in is judged on the broken list that its line names. A run is no solution if some order explains its calls, even if the order of its
+// linearization points does not.
 function checkHandedIn(ask) {
   const judge = (line) => inPage("judgedPart")(ask, [], line);
   for (const name of NAMES) {

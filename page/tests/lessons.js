@@ -68,7 +68,8 @@ const LIKELY = {
   "ceiling-in-anothers-step": { lines: ["go 0 out"], deadEnd: "This ceiling has answered 7" },
 };
 
-// Checks the sentences about a wrong attempt: the first condition that it does not meet, and why it cannot meet the goal any more.
+// Checks the sentences about an attempt that does not meet a lesson's goal: the first condition that is missing and, if so, why the attempt can no longer meet
+// it.
 function checkTries(ask, { lessons }) {
   const lesson = lessons.find(({ name }) => name === "in-anothers-step");
   const tries = [

@@ -290,7 +290,7 @@ function checkListing(engine, texts) {
   check(`lines at which no thread stood: ${lines.filter((line) => !met.has(line))}`, lines.every((line) => met.has(line)));
 }
 
-// Returns an array of the errors in the shown line of a thread whose next event is `event`. (The ceilings of two lists have no code.)
+// Returns the errors in the line of code that is shown for a thread whose next event is `event`. (The ceilings of two lists have no code.)
 function wrongLine(trace, event, held, met) {
   const { kind } = trace;
   const found = inPage("codeOf")(kind, held.call);

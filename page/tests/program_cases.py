@@ -86,8 +86,8 @@ def texts_of(program, dice):
 
 
 def cases_of_options(program, dice, texts):
-    """Returns cases of functions with options, right and wrong. An option that is not set is an empty text. Other cases
-    run schedules on the broken lists: the schedules that break them, and generated ones.
+    """Yields cases of functions with right and wrong options. An option that is not set is an empty text. Also yields
+    cases that run schedules on the broken lists: the schedules that break them, and generated ones.
     """
     files = {it.stem: it.read_bytes() for it in sorted(LACKS.glob("*.schedule"))}
     for _ in range(DRAWN):
@@ -104,8 +104,8 @@ def cases_of_options(program, dice, texts):
 
 
 def cases_of_values(program, dice):
-    """Yields cases of gen with random values, most of them right, of examples by name, and of the lists of examples and
-    errors.
+    """Yields cases of the command gen with random values, most of them right. Also yields cases that print an example
+    by its name, all names of examples, and all errors.
     """
     for _ in range(DRAWN):
         values = [dice.choice([*LISTS * 4, "", "skip"]), *(dice.choice(VALUES[:4] * 6 + VALUES) for _ in range(dice.choice([5, 5, 5, 3, 0])))]

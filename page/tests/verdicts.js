@@ -134,7 +134,7 @@ function callIn(calls, text) {
   return callNamed(calls, name, reply ?? null).find((call) => call.begun === Number(begun));
 }
 
-// The properties of the sentences about a recording. `said` keeps the facts from earlier sentences.
+// The patterns of the sentences about a recording, each with a test that returns whether the sentence is true. `said` keeps the facts from earlier sentences.
 const OF_RECORDING = [
   [/^Linearizable: an order explains (?:this one call|these (\d+) calls)(, whatever keys it leaves| and leaves the keys)\. This verdict is about this recording only\.$/,
     (it, [count, keys]) => isExplained(it) && Number(count ?? 1) === it.calls.length + it.padding.length && keys.startsWith(",") === (it.keys === null)],
@@ -255,7 +255,7 @@ function checkRecording(ask) {
   if (kind === "none") checkWhy(ask, it);
 }
 
-// Checks the verdict on a recording of a kind, and its diagnosis.
+// Checks the verdict on a recording that `drawn` creates and, if the recording is not linearizable, the diagnosis.
 function checkKind(ask, drawn) {
   const it = drawn();
   const isOk = keysOf(it).every((key) => hasOrderOf(it, key));
@@ -359,8 +359,8 @@ function startsOf(calls, key, isThere) {
   return found;
 }
 
-// Yields parts of the recording that contain a call: the key's state before the part, the calls of the part, and the final
-// state if the part reaches the end of the recording.
+// Yields the parts of the recording that contain a call. Each part has the key's state before it, its calls and, if it reaches the end of the recording, the
+// final state.
 function* around(it, key, call) {
   const calls = ofKey(it, key);
   it.starts ??= new Map();
@@ -456,7 +456,7 @@ function isWrongAlone(it) {
   });
 }
 
-// Decides whether a contains or remove that returned false contradicts an earlier call of a kind that left the key present.
+// Decides whether a contains or remove that returned false contradicts an earlier call that left the key present and for which `isOfKind` returns true.
 const isMissed = (it, isOfKind) => it.calls.some((call) => call.operation !== "add" && call.reply === "false"
   && ofKey(it, call.key).some((first) => first.ended !== null && first.ended < call.begun && leaves(first) && isOfKind(first) && isNoneBetween(it, call.key, "remove", first.begun, call.ended)));
 
@@ -596,7 +596,7 @@ const OF_WHY = [
     return told.isAll && next.filter((isWrong) => !isWrong).length === Number(right) && next.filter((isWrong) => isWrong).length === Number(wrong);
   }],
   [/^fact headline and picture are of another contradiction than the verdict$/, (it, found, why) => {
-    // The first moment up to which no order explains the calls on some key.
+    // The first moment by which the calls on some key have no order.
     const moments = keysOf(it).flatMap((key) => ofKey(it, key).flatMap(({ ended }) => ended ?? [])).sort((one, other) => one - other);
     const first = moments.find((moment) => keysOf(it).some((key) => !hasOrder(knownBy(ofKey(it, key), moment), key, opens(it, key)))) ?? LAST;
     const isOfFirst = ({ call }) => hasOrder(knownBy(ofKey(it, call.key), first), call.key, opens(it, call.key));

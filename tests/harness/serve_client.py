@@ -51,7 +51,7 @@ def started(*words):
 
 @contextlib.contextmanager
 def serving(program, kind, seats, quota, sessions, before=()):
-    """Starts the program as a server. `before` is a command that starts the server, for example with a limit."""
+    """Starts the program as a server. `before` is a command that runs the server, for example under a limit."""
     with started(*before, program, "serve", kind, seats, quota, 0, sessions) as process:
         yield Server(process)
 

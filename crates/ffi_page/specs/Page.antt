@@ -41,7 +41,6 @@ words_in bytes = cut_at 0 (utf8_lossy bytes)
 abbrev pub OfWords : (List (List ℕ) → Made → Type 0) → List ℕ → Made → Type 0
 OfWords Makes bytes made = (made ≡ Err Memory) ⊎ Makes (words_in bytes) made
 
--- States that the caller receives a result that the first argument accepts: its text, its status, and the length of its
--- text.
+-- States that the caller receives the text, the status and the text length of a result that the first argument accepts.
 abbrev pub Hands : (Made → Type 0) → List ℕ → List ℕ → ℕ → ℕ → Type 0
 Hands IsMade old new status count = (made : Made) × IsMade made × IsHanded made old new status count

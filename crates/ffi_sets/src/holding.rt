@@ -108,7 +108,7 @@ impl<M: Bounded> SeatOfSet<M> {
     }
 
     /// Merges `from`, and all seats that can be split off it, into this seat. Returns `None` on success. If the numbers
-    /// differ, or one of the two seats was lost, changes nothing and returns `from`.
+    /// of the two sets differ, or one of the two seats was lost, changes nothing and returns `from`.
     pub fn gather(&mut self, alloc: Global, from: SeatOfSet<M>) -> Option<SeatOfSet<M>>
         requires { self.old.number ≡ from.number → arc_value self.old.set ≡ arc_value from.set }
     {

@@ -71,7 +71,7 @@ pub fn open_set(
 /// Splits a seat (the right to call as one thread) off `seat` and stores it in `out`, which must be empty.
 ///
 /// Returns `DONE`. On an error, changes nothing and returns the first that applies: `IS_SEAT` if `out` is not empty,
-/// `NO_SEAT` if `seat` is empty, `NO_MORE` if no seat can be split off it, or it is a receipt or a closed set,
+/// `NO_SEAT` if `seat` is empty, `NO_MORE` if `seat` is a receipt, a closed set, or a seat that cannot be split,
 /// `OUT_OF_MEMORY` if an allocation failed. Does not block.
 pub fn split_seat(alloc: Global, seat: &mut CSeat, out: &mut CSeat) -> u8 {
     if let Some(held) = take(alloc, out) {

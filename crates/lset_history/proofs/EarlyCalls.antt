@@ -10,7 +10,8 @@ use Rattle.lset_words.specs.declared.history.Placed.{Placed}
 use Rattle.lset_history.specs.Checks.{smallest_with}
 use Rattle.lset_history.specs.Faults.{place_at, placed_call, IsTooEarly, Passes, RefusesFirst}
 
--- States that a call ended before this moment. `EndsFrom` states that a call at index `i` of the order or later did.
+-- States that a call ended before this moment. `EndsFrom` states that some call at index `i` of the order, or at a
+-- larger index, ended before this moment.
 abbrev pub EndsBefore : ℕ → Option (ℕ × Reply) → Type 0
 EndsBefore moment ended = IsSomeAnd ended (λ (end : ℕ × Reply). end.0 < moment)
 

@@ -10,8 +10,8 @@ use Rattle.std.specs.BTreeMap.{BTreeMap, get, is_at}
 use Rattle.std.specs.BTreeSet.{BTreeSet, contains}
 use Rattle.lset_words.specs.SequentialSet.{has_key}
 
--- The opening keys, and the changes of each key: the increasing moments, from 1, when the key was alternately added
--- and removed.
+-- The opening keys, and for each key the moments of its changes, from 1 and increasing. A key is alternately added and
+-- removed.
 pub record ChangesValue : Type 0 where
   pub opening : List ℕ
   pub entries : List (ℕ × List ℕ)

@@ -18,7 +18,8 @@ HasKnownCalls calls order = All (λ (p : Placed). p.call < length calls) order
 abbrev pub stands : List Placed → ℕ → Bool
 stands order number = list_any (λ p. p.call == number) order
 
--- Returns whether the mark of the call with this number is set. The list has one mark for each call of the history.
+-- Returns whether the mark of the call with this number is set. The list has one mark for each call of the history. The
+-- checker sets the marks of the calls that are in the order.
 abbrev pub is_marked : List Bool → ℕ → Bool
 is_marked marks number = get_or marks number false
 
@@ -35,13 +36,14 @@ pub record IsLeftOut (calls : List CallRecord) (marks : List Bool) (number : ℕ
 abbrev pub LeavesNoneOut : List CallRecord → List Bool → Type 0
 LeavesNoneOut calls marks = (number : ℕ) → IsLeftOut calls marks number → ⊥
 
--- States that `number` is the smallest number of a completed call without a mark.
+-- States that `number` is the smallest number of a completed call without a mark. (A call without a mark is not in the
+-- order.)
 abbrev pub LeavesOutFirst : List CallRecord → List Bool → ℕ → Type 0
 LeavesOutFirst calls marks number =
     IsLeftOut calls marks number × ((smaller : ℕ) → smaller < number → IsLeftOut calls marks smaller → ⊥)
 
--- States that the reply is right: the sequential set returns this reply and, if the call is completed, so does the
--- call in the history.
+-- States that the reply is right: the sequential set returns this reply and, if the call is completed, the history has
+-- the same reply.
 pub record HasReply (o : OracleValue) (x : CallRecord) (reply : Reply) : Type 0 where
   pub recorded : IfSome x.ended (λ (end : ℕ × Reply). end.1 ≡ reply)
   pub given : reply_to o.quota o.state x.thread x.call ≡ reply

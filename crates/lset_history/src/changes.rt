@@ -39,7 +39,7 @@ pub struct Changes {
     alloc: Global,
     /// The keys in the set at moment 0, in increasing order. `moments` and `keys_at` cover only the later changes.
     opening: Vec<u32>,
-    /// For each key that changed, the moments above 0 when it was added and removed, alternately.
+    /// For each key that changed, the moments of its changes above 0. A key is alternately added and removed.
     moments: BTreeMap<u32, Vec<u32>>,
     /// Maps the moment of each change to the key that changed. If an allocation fails in `note`, this map and
     /// `keys_now` can keep an extra entry, for a change that was not recorded.

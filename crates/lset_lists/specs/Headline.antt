@@ -36,7 +36,7 @@ abbrev pub RunsAreLinearizable : Table → Type 0
 RunsAreLinearizable T = (op : Opening) (last : ℕ) (es : ℕ → Event) → Run T op es last
     → (order : List Placed) × ExplainsRun T op es last order
 
--- States that the order is the [Placement] of the run: its calls by their linearization points.
+-- States that the order is the [Placement] of the run: the run's calls, sorted by their linearization points.
 abbrev pub IsPlacedBy : Table → Opening → (ℕ → Event) → ℕ → List Placed → Type 0
 IsPlacedBy T op es k order = IsPlacement op.quota (calls_at (log_of T op es) k)
     (contents_of (views T op es)) (counts_of (views T op es)) order

@@ -166,7 +166,7 @@ fn put_order(out: &mut String, picture: &Picture, drawing: &Drawing) -> Result<(
 }
 
 /// Appends the lines below the rows: the order, how many entries are left out, the final keys, `legend` if the
-/// linearization points are known, and the schedule's event that is not enabled, if it has such an event.
+/// linearization points are known, and the first event of the schedule that is not enabled, if any.
 pub(crate) fn put_lines_below(
     out: &mut String,
     picture: &Picture,

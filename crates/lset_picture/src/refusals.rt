@@ -6,7 +6,8 @@ use lset_text::reply_word;
 use lset_words::Reply;
 use std::alloc::AllocError;
 
-/// Writes the places of the order (its entries, counted from 1) before `place`, such as `after places 1 and 2`.
+/// Writes which entries of the order come before entry `place`, such as `after places 1 and 2`. Entries are counted
+/// from 1.
 fn put_places_before(out: &mut String, place: u64) -> Result<(), AllocError> {
     match place {
         0 | 1 => out.push_str("at first"),

@@ -75,7 +75,7 @@ fn put_above(
     Ok(())
 }
 
-/// Adds the names of the threads, the moments and the sets.
+/// Adds the labels of the rows: `moment`, the threads and `set`.
 fn put_labels(
     alloc: Global,
     out: &mut String,

@@ -37,7 +37,7 @@ pub yielding_is_refused : (reads : Bool) → NotLivelockFree (counted reads) yie
 yielding_is_refused reads most law = rounds_never_end yielding yields (Go 0) gives_back refl refl refl refl
     (moves (counted reads) yielding) refl most law
 
--- The run is fair: each thread makes a step among the events that repeat forever.
+-- The run is fair: each thread takes a step among the events that repeat forever.
 turns : (t : ℕ) → t < 2 → (d : ℕ) × (turn (Go 0) gives_back [] d ≡ Go t)
 turns zero l = (0, refl)
 turns (suc zero) l = (1, refl)

@@ -1,6 +1,6 @@
 -- Proof: a list with locks is free from livelock. Only a call that has decided what to change writes a word other than
--- a lock, and the call then has at most 5 steps left. Between two such writes, each thread makes at most as many steps
--- as a call that runs alone. A potential, computed from both numbers, decreases with each counted step.
+-- a lock, and the call then has at most 5 steps left. Between two such writes, each thread takes at most as many steps
+-- as a call that runs alone. A potential, computed from these two bounds, decreases with each counted step.
 use Rattle.std.specs.Prelude.{◌≡◌, ◌≢◌, ℕ, ◌+◌, ◌*◌, ◌%◌, ◌<◌, ◌≤◌, ◌⊎◌, List, if◌then◌else◌, ◌==◌, nat_lt, true, false, refl}
 use Rattle.std.specs.Prelude.{slice_index, slice_set}
 use Rattle.std.proofs.Common.{arith, inl, inr, sym, ◌∙◌, ap, subst, suc}

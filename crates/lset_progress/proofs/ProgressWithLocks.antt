@@ -1,5 +1,5 @@
 -- Proof of the laws of progress for a list with locks, from the facts about each row of its step table: a call ends if
--- it runs alone, and some thread can always make a step that is not a failed attempt to take a lock.
+-- it runs alone, and some thread can always take a step that is not a failed attempt to take a lock.
 use Rattle.std.specs.Prelude.{◌≡◌, ◌≢◌, ℕ, ◌+◌, ◌<◌, ◌≤◌, ◌⊎◌, List, slice_index, length, Some, refl}
 use Rattle.std.proofs.Common.{arith, inl, inr, sym, ◌∙◌, ap, subst, zero, suc}
 use Rattle.lset_words.proofs.Numbers.{same_or_not}

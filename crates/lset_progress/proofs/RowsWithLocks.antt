@@ -114,8 +114,8 @@ module _ (S : Shape) (size : ℕ) where
   no_time key link l (inl v) = let h : S.left size key l < 0 = v.1 in omega arith
   no_time key link l (inr h) = omega arith
 
-  -- States that a step from the private state l to l' does not end its call, and brings the end closer: if the call was
-  -- sure to end within n + 1 steps before the step, it is sure to end within n steps after it.
+  -- States that a step from the private state l to l' does not end its call, and brings the end closer. If n + 1
+  -- further steps were enough before the step, n further steps are enough after it.
   pub record Goes (key : ℕ → ℕ) (ws : List ℕ) (l : Local) (key' : ℕ → ℕ) (ws' : List ℕ) (l' : Local) : Type 0 where
     pub busy : l'.pc ≢ 0
     pub late : S.late l → LateBy S (S.left 0 (λ a. 0) l) l'

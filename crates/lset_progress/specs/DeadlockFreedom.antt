@@ -1,5 +1,5 @@
--- Freedom from deadlock, as Herlihy and Shavit define it: in a fair run (every thread with a pending call makes another
--- step later), calls end again and again. This follows from two laws that hold in every run: some thread can make a
+-- Freedom from deadlock, as Herlihy and Shavit define it: in a fair run (every thread with a pending call takes another
+-- step later), calls end again and again. This follows from two laws that hold in every run: some thread can take a
 -- step that is not a failed attempt to take a lock (SomeThreadGetsOn), and among sufficiently many such steps, at least
 -- one ends its call (IsLivelockFree).
 use Rattle.std.specs.Prelude.{◌≡◌, ℕ, ◌+◌, ◌*◌, ◌%◌, ◌<◌, ◌≤◌, nat_lt, ◌==◌, if◌then◌else◌, Bool, true, false, List, slice_index}
@@ -29,7 +29,7 @@ moves calls T s (Begin t call) = 0
 moves calls T s (Go t) = unless_failed s.words (T.next (local_of s t)) (calls (local_of s t).call)
 
 -- [Livelock freedom]: states that among any `most` successive counted steps, at least one ends its call, whichever
--- threads make the steps and whatever other events happen in between. A step of a call is counted if `calls` is 1 for
+-- threads take the steps and whatever other events happen in between. A step of a call is counted if `calls` is 1 for
 -- the call and the step is not a failed attempt to take a lock.
 abbrev pub IsLivelockFree : (Call → ℕ) → Table → (Sizes → ℕ) → Type 0
 IsLivelockFree calls T most = EndsAmong (moves calls T) T most

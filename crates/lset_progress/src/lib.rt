@@ -92,7 +92,7 @@ pub fn a_lock_free_ceiling_may_never_end()
     ensures { SomeCeilingNeverEnds lock_free }
 {}
 
-/// Theorem: if a call of a CoarseList is pending, some thread can make a step that is not a failed attempt to take the
+/// Theorem: if a call of a CoarseList is pending, some thread can take a step that is not a failed attempt to take the
 /// lock.
 #[tactic(auto, using(crate::proofs::CoarseProgress::coarse_gets_on))]
 pub fn some_coarse_call_gets_on()
@@ -106,7 +106,7 @@ pub fn coarse_list_is_livelock_free()
     ensures { IsLivelockFree each_call coarse (lock_window coarse_steps) }
 {}
 
-/// Theorem: in a fair run of a CoarseList (every thread with a pending call makes another step later), whenever a call
+/// Theorem: in a fair run of a CoarseList (every thread with a pending call takes another step later), whenever a call
 /// is pending, some call ends later. (Freedom from deadlock, as Herlihy and Shavit define it.)
 #[tactic(auto, using(crate::proofs::CoarseProgress::coarse_deadlock_free))]
 pub fn coarse_list_is_deadlock_free()
@@ -134,7 +134,7 @@ pub fn fine_list_is_deadlock_free()
     ensures { IsDeadlockFree each_call fine }
 {}
 
-/// Theorem: if a call of an OptimisticList is pending, some thread can make a step that is not a failed attempt to take
+/// Theorem: if a call of an OptimisticList is pending, some thread can take a step that is not a failed attempt to take
 /// a lock, since all threads lock nodes in the order of the list. (The order is Herlihy and Shavit's.)
 #[tactic(auto, using(crate::proofs::OptimisticProgress::optimistic_gets_on))]
 pub fn some_optimistic_call_gets_on()
@@ -155,7 +155,7 @@ pub fn optimistic_list_is_deadlock_free()
     ensures { IsDeadlockFree each_call optimistic }
 {}
 
-/// Theorem: if a call of a LazyList is pending, some thread can make a step that is not a failed attempt to take a
+/// Theorem: if a call of a LazyList is pending, some thread can take a step that is not a failed attempt to take a
 /// lock, since all threads lock nodes in the order of the list. (The order is Herlihy and Shavit's.)
 #[tactic(auto, using(crate::proofs::LazyProgress::lazy_gets_on))]
 pub fn some_lazy_call_gets_on()
@@ -169,7 +169,7 @@ pub fn lazy_list_is_livelock_free()
     ensures { (reads : Bool) → IsLivelockFree (counted reads) lazy (lock_window lazy_steps) }
 {}
 
-/// Theorem: in a fair run of a LazyList (every thread with a pending call makes another step later), whenever a call is
+/// Theorem: in a fair run of a LazyList (every thread with a pending call takes another step later), whenever a call is
 /// pending, some call ends later. If an `add` or a `remove` is pending, an `add` or a `remove` ends. If an `add`,
 /// `remove` or `contains` is pending, one of these three ends. (Freedom from deadlock, as Herlihy and Shavit define
 /// it.)

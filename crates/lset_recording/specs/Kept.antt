@@ -30,8 +30,8 @@ IsJudgeKept opening calls None = calls ≡ []
 IsJudgeKept opening calls (Some j) =
     IsJudgeOf all_threads opening calls j × IsLatest calls (moment_of j.stream) × (length calls ≤ moment_of j.stream)
 
--- States that the keys increase strictly, and bounds their number: by 2^32, and by each key k that can be appended to
--- them.
+-- States that the keys increase strictly. Also states bounds of their number: 2^32, and each key k that can be appended
+-- to them.
 pub record AreKeys (keys : List ℕ) : Type 0 where
   pub increase : IsStrictlyIncreasing keys
   pub below : (k : ℕ) → is_above keys k ≡ true → length keys ≤ k
@@ -98,7 +98,7 @@ pub record IsRead (bytes : List ℕ) (r : RecordingReader) : Type 0 where
 abbrev pub IsLineOf : List ℕ → List ℕ → ℕ → Type 0
 IsLineOf bytes piece line = (first_line + newlines bytes ≤ line) × (line < first_line + newlines (bytes ++ piece))
 
--- States that the reader r has returned the error e before.
+-- States that the reader r has already returned the error e.
 abbrev pub HasFailed : RecordingReader → LineFault → Type 0
 HasFailed r e = r.failed ≡ Some e
 

@@ -30,8 +30,9 @@ fn pointed_calls(alloc: Global, places: &[Option<Linearized>]) -> Result<Vec<Poi
     Ok(pointed)
 }
 
-/// Returns an entry for each call that has a linearization point, ordered by these points. At one moment, the call that
-/// changes the set precedes the others, and these are ordered by number. Returns `AllocError` if an allocation fails.
+/// Returns an entry for each call that has a linearization point, ordered by these points. If several points are at the
+/// same moment, the call that changes the set comes first, then the others by number. Returns `AllocError` if an
+/// allocation fails.
 pub(crate) fn sorted_places(
     alloc: Global,
     places: &[Option<Linearized>],

@@ -21,9 +21,9 @@ impl Pointed {
     }
 }
 
-/// Sorts the entries of an order by their linearization points. At one moment, the call that changes the set precedes
-/// the others. The sort is stable. Returns `AllocError` if an allocation fails; the entries are then in an unspecified
-/// order.
+/// Sorts the entries of an order by their linearization points. If several points are at the same moment, the call that
+/// changes the set comes first. The sort is stable. Returns `AllocError` if an allocation fails; the entries are then
+/// in an unspecified order.
 pub fn sort_by_points(places: &mut Vec<Pointed>) -> Result<(), AllocError>
     ensures { OnOk result (AreByPoints places.old.items places.new.items) }
 {

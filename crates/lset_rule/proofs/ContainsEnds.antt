@@ -23,7 +23,7 @@ use Rattle.lset_rule.proofs.OneMoreEvent.{Tied}
 use Rattle.lset_rule.proofs.MovesKeepRule.{stands_at, own_tied}
 use Rattle.lset_words.specs.Words.{Opening, sizes}
 
--- Returns how many more steps a call can make after `steps` steps if it makes at most `bound` steps. If the call has a
+-- Returns how many more steps a call can take after `steps` steps if it takes at most `bound` steps. If the call has a
 -- reply, returns 0.
 abbrev pub steps_left : Option Reply → ℕ → ℕ → ℕ
 steps_left (Some r) bound steps = 0

@@ -159,7 +159,7 @@ module _ (m : Table) where
       pub is_at : IsAt m v.shape h.log v.thread v.local
       is_at = (record { run = h.ran; thread = small; open_call = busy }, local_stood)
 
-      -- After the seat with view v has made the step at the current row of its call, the invariant of the shared words
+      -- After the seat with view v has taken the step at the current row of its call, the invariant of the shared words
       -- and all seats still holds.
       pub steps : let a = m.next v.local in
           let n = slice_index s.words (word_named a) in

@@ -42,7 +42,7 @@ fn row_step<M: Machine, const PC: u8>(
     }
 }
 
-/// Makes the next step of a call at a row without a match arm in [`one_step`]. Each call site passes its own number
+/// Takes the next step of a call at a row without a match arm in [`one_step`]. Each call site passes its own number
 /// `SITE`. The numbers only prevent inlining: the compiler inlines a function that has a single call site. If this
 /// function were inlined, the registers would be written to memory at every step.
 fn other_step<M: Machine, const SITE: u8>(

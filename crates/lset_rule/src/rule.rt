@@ -1,5 +1,5 @@
-//! The invariant of the shared words and all seats, and how each action changes a view (a seat's knowledge of the
-//! run). A seat is the right to call as one thread. A receipt carries the events that a seat has seen to another seat.
+//! The invariant of the shared words and all seats, and how each action changes a view (a seat's knowledge of the run).
+//! A seat is the right to call as one thread. A receipt contains the events that one seat has seen, for another seat.
 ghost use Rattle.lset_words.specs.declared.Call.{Call};
 ghost use Rattle.lset_words.specs.declared.Call.TheVariants.{Contains};
 ghost use Rattle.lset_rule.specs.Rule.{Holds, opener, left_view, right_view, joined, nobody, learned, without_thread, informed};
@@ -53,8 +53,8 @@ impl<M: Machine, J: Asking> Play<(), View> for FirstStep<M, J> {
     ghost then = { starting M.table J.call };
 }
 
-/// The views of both seats (their knowledge of the run) after a split: a spare thread of the old seat becomes the
-/// thread of a new seat.
+/// The views of both seats (their knowledge of the run) after a split. A spare thread of the old seat becomes the
+/// thread of the new seat.
 pub struct SplitSeat;
 
 impl Split<View> for SplitSeat {

@@ -52,7 +52,7 @@ pub struct PendingCall {
     pub call: Call,
     /// The number of the event that started the call. All events of all threads are numbered together, from 1.
     pub begun: u64,
-    /// The number of steps that the call has made.
+    /// The number of steps that the call has taken.
     pub steps: u64,
 }
 

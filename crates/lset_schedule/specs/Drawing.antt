@@ -33,8 +33,8 @@ pub record Progress : Type 0 where
   pub lines : List Line
   pub answers : Stream
 
--- Returns the event of a turn for thread t, and the remaining random numbers. If thread t has a pending call, the call
--- makes a step. Otherwise thread t begins a random call, unless no more calls can begin.
+-- Returns the event of a turn for thread t, and the remaining random numbers. If thread t has a pending call, the event
+-- is a step of this call. Otherwise thread t begins a random call, unless no more calls can begin.
 abbrev pub event_drawn : State → ℕ → ℕ → ℕ → Stream → Option Event × Stream
 event_drawn s t left keys answers =
     if (local_of s t).pc == 0

@@ -35,8 +35,8 @@ pub trait EventLine: Copy {
     /// The patterns of event lines, and how many events each line counts as.
     ghost lines: { EventLines Self };
 
-    /// Reads an event line of a text of this version, passed without its newline. Returns `Event` if the line matches
-    /// no pattern, and `Number` if a field that must be a number is not a number, or is out of range.
+    /// Reads an event line, without its newline, of a text of this version. Returns `Event` if the line matches no
+    /// pattern, and `Number` if a field that must be a number is not a number, or is out of range.
     fn read(version: Version, line: &[u8]) -> Result<Self, Cause>
         ensures { result ≡ line_in version Cause.Event lines.kinds line.now };
 

@@ -38,7 +38,7 @@ pub record IsSession (end : EndReason) (calls : ℕ) (s s' : Option (List ℕ)) 
   pub recorded : r' ≡ with_calls r (calls_in talk)
   pub count : calls ≡ length (calls_in talk)
   pub wrote : Wrote end w w' talk
-  -- Unless a write has failed, the bytes that were read end the session for the reason `end`, or for the reason `End`
-  -- if a read has failed.
+  -- Unless a write has failed, the bytes that were read end the session for the reason `end`. If a read has failed, the
+  -- bytes before it end the session for the reason `End`, like a complete input.
   pub ends : end ≢ why.WriteFault → end_of (turns_of bytes) ≡ text_end end
   pub drained : end ≡ why.End → IsAtEnd s'

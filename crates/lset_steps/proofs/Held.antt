@@ -57,7 +57,7 @@ in_chain {v} {t} {key} {pred} {curr} b =
     let half : v.link pred / 2 ≡ curr = omega arith in
     chain_on v pred curr curr [] b.held.at b.inner half refl
 
--- The properties that a step preserves for thread `t`. The step is made by another thread, or by `t` itself without
+-- The properties that a step preserves for thread `t`. The step is taken by another thread, or by `t` itself without
 -- writing a link of the chain and without releasing a lock.
 pub record Leaves (v w : View) (t : ℕ) : Type 0 where
   pub used : w.used t ≡ v.used t

@@ -1,4 +1,4 @@
--- Proof that a `contains` makes a bounded number of steps: the keys that it reads increase, so it visits no node twice,
+-- Proof that a `contains` takes a bounded number of steps: the keys that it reads increase, so it visits no node twice,
 -- and the number of nodes is limited.
 use Rattle.std.specs.Prelude.{◌≡◌, ◌≢◌, ℕ, ◌+◌, ◌*◌, ◌/◌, ◌%◌, ◌<◌, ◌≤◌, ◌⊎◌, Bool, true, false, if◌then◌else◌, ◌==◌, slice_set}
 use Rattle.std.specs.Prelude.{slice_index_or, length, refl}
@@ -127,7 +127,7 @@ tally_on {v} {w} {size} {below} g a = record {
   amount_is = a.amount_is;
 }
 
--- States that this is a row of the step table for a `ceiling` without locks.
+-- States that this is one of the rows of the step table for a `ceiling` that takes no lock.
 abbrev IsCeilingRow : ℕ → Type 0
 IsCeilingRow pc = (pc ≡ 23) ⊎ (pc ≡ 24) ⊎ (pc ≡ 25)
 

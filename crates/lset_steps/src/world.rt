@@ -416,7 +416,7 @@ impl<M: Machine> World<M> {
         self.go_holding(t, Local { pc: PC, ..held })
     }
 
-    /// Makes the next step of a thread at any row of the step table. Slower than `go_at`, which has code for one row.
+    /// Takes the next step of a thread at any row of the step table. Slower than `go_at`, which has code for one row.
     fn go_elsewhere(&mut self, t: u32) -> Told
         requires { Enabled self.old.state (Event.Go t) }
         ensures new { self.new ≡ record self.old { state = after M.table self.old.state (Event.Go t) } }

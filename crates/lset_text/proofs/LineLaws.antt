@@ -29,7 +29,7 @@ unfolding lines_from
 lines_stop g d line s x [] some is = absurd (omega arith)
 lines_stop g d line s x (y ∷ more) some is = rw is refl
 
--- ---- Proof that a reported error is never in a line above the lines that are read
+-- ---- Proof that a reported error is in the first line that is read, or in a later line
 
 pub bind_err : {A B E : Type 0} (r : Result A E) (f : A → Result B E) (d : E) → (r >>= f) ≡ Err d
     → (r ≡ Err d) ⊎ ((x : A) × (r ≡ Ok x) × (f x ≡ Err d))

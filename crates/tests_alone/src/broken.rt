@@ -25,7 +25,7 @@ fn drawn_call(rng: &mut Pcg32) -> Call {
     }
 }
 
-/// Returns a random schedule for two threads on a broken list. Each thread makes a few steps, then the other thread
+/// Returns a random schedule for two threads on a broken list. Each thread takes a few steps, then the other thread
 /// continues.
 fn drawn_schedule(alloc: Global, broken: BrokenList, seed: u64) -> Result<String, Fail> {
     let mut rng = Pcg32::seed_from_u64(seed);

@@ -15,8 +15,8 @@ fn ended(thread: u32, call: Call, begun: u64, end: u64, is_true: bool) -> Stream
     }
 }
 
-/// Returns calls that contradict each other. A `contains` before an `add` returned true, and a `contains` after it
-/// returned false. Two calls of `remove` must have changed the key in between, but only one did.
+/// Returns calls that contradict each other. The key is present before a successful `add` and absent after it. So one
+/// `remove` must come before the `add`, and another after it, but there is only one `remove`.
 fn two_looks() -> [StreamCall; 4] {
     [
         ended(3, Call::Contains(FIVE), 3176, 3177, true),

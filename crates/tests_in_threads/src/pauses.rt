@@ -1,4 +1,4 @@
-//! Tests of the number of steps that each call makes. A call reports every step to its `Pause`, except the step that
+//! Tests of the number of steps that each call takes. A call reports every step to its `Pause`, except the step that
 //! determines the reply.
 
 use crate::opened::two_seats;

@@ -214,7 +214,7 @@ fn two_before_zero<M: Running, R: Abort>(rt: &R, alloc: Global) -> (LiveSet<M>, 
     (set, seats)
 }
 
-/// The gate is asked with the seat's thread number. The replies are returned in the order of the seats.
+/// Tests that the gate receives the thread number of each seat, and that the replies are in the order of the seats.
 #[test]
 fn seats_work_in_any_order(rt: HostRuntime) {
     let (set, seats) = two_before_zero::<LazyList, HostRuntime>(&rt, rt.alloc());

@@ -102,7 +102,8 @@ fn put_first_wrong(
     out.push_str("A number of the line is out of its range, or has a sign or a leading zero.\n")
 }
 
-/// Returns a sentence that states how a recorder should number this field. The sentence begins with a space.
+/// Returns a sentence that states how a recorder should choose the number in this field. The sentence begins with a
+/// space.
 fn advice_on(name: &str) -> &'static str {
     match name {
         "BEGIN" | "END" => " Take all moments from one counter that starts at 1.",

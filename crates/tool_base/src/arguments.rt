@@ -119,8 +119,8 @@ fn lives_in(values: &[String]) -> Option<u32> {
     }
 }
 
-/// Reads the arguments of `run`: the arguments that `read_random_request` reads, then LIVES, a decimal from 1 to `MOST_LIVES`
-/// without leading zeros. LIVES defaults to 1. Further arguments are ignored.
+/// Reads the arguments of `run`: the arguments that `read_random_request` reads, then LIVES, the number of rounds.
+/// LIVES is a decimal from 1 to `MOST_LIVES` without leading zeros, by default 1. Further arguments are ignored.
 ///
 /// # Errors
 ///

@@ -43,8 +43,8 @@ fn schedule_up_to(
     Ok(answer_on(alloc, &Expand {}, &draft))
 }
 
-/// Returns the number of steps that end the pending call of the thread. Returns `None` if the thread has no pending call, or
-/// if the call does not end within 10,000 steps of this thread alone.
+/// Returns the number of steps after which the pending call of the thread ends. Returns `None` if the thread has no
+/// pending call, or if the call does not end within 10,000 steps of this thread alone.
 pub(crate) fn steps_out(
     alloc: Global,
     lines: &Lines<'_>,

@@ -121,8 +121,8 @@ pub(crate) fn thread_text(line: &[u8]) -> &str {
     }
 }
 
-/// Explains why a thread cannot begin a call (`Busy`: the thread already has a pending call), or cannot make a step (`Idle`:
-/// the thread has no pending call).
+/// Explains why a thread cannot begin a call (`Busy`: the thread already has a pending call), or cannot take a step
+/// (`Idle`: the thread has no pending call).
 fn put_call(
     alloc: Global,
     out: &mut String,
@@ -173,7 +173,7 @@ fn put_ending(
     }
 }
 
-/// Explains why a thread cannot make all steps of a line: the call that line `since` begins has already ended, or ends
+/// Explains why a thread cannot take all steps of a line: the call that line `since` begins has already ended, or ends
 /// before the last step.
 fn put_idle(
     alloc: Global,

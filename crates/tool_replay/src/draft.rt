@@ -9,7 +9,7 @@ use lset_words::Kind;
 pub const MOST_ROW: u32 = 255;
 
 /// A line of a draft. `Plain` is a line of a schedule. `Out(thread)` steps a thread until its call has ended.
-/// `To(thread, row)` steps a thread until it is at this row of its list's step table, 1 to 255. `Out` and `To` make at
+/// `To(thread, row)` steps a thread until it is at this row of its list's step table, 1 to 255. `Out` and `To` take at
 /// least one step.
 #[derive(Clone, Copy)]
 pub enum DraftLine {

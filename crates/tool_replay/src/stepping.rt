@@ -1,4 +1,4 @@
-//! Makes a given number of steps of a thread, or steps a thread until it is at a given row of its step table.
+//! Steps a thread a given number of times, or until it is at a given row of its step table.
 
 use lset_replay::Steps;
 use lset_steps::{Event, Machine, World};

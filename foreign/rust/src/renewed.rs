@@ -52,7 +52,7 @@ struct Place {
     part: Mutex<Part>,
 }
 
-/// The part of a place that its lock protects: the seat, and counts for the next renewal.
+/// The part of a place (a seat with its lock) that the lock protects: the seat, and counts for the next renewal.
 #[derive(Debug)]
 struct Part {
     seat: Seat,

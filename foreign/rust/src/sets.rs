@@ -312,7 +312,7 @@ impl Seat {
         replied(unsafe { listset_contains(&mut self.raw, key) }) == TRUE
     }
 
-    /// Returns whether a key is in the set, like `contains`, but waits for no lock and makes at most [`most_reads`]
+    /// Returns whether a key is in the set, like `contains`, but waits for no lock and takes at most [`most_reads`]
     /// steps, whatever other threads do. Only for lazy and lock-free lists: on any other list, returns
     /// [`Fault::ReadsBlock`].
     pub fn contains_now(&mut self, key: u32) -> Result<bool, Fault> {

@@ -1,5 +1,5 @@
 """Tests servers on the loopback: `listset serve` and, if it is installed, Redis. Includes a client that checks and then
-acts, reads from a replica, and connections that pause or are lost.
+acts, a client that reads from a replica, and connections that pause or are lost.
 
 python3 -m unittest discover -s tests -t tests
 """

@@ -71,7 +71,7 @@ pub struct Options {
     /// If `false`, sets are called in this process, which crashes or hangs with them. Useful for debuggers, for
     /// coverage, and for sets that need threads of this process.
     pub own_process: bool,
-    /// If `true`, `contains` is called for each key before all other calls to record the opening keys.
+    /// If `true`, the opening keys are recorded: before all other calls, `contains` is called for each key.
     pub opens_with_keys: bool,
     /// The folder for the recordings of all runs. If `None`, only the recording of a failed run is kept, in the folder that
     /// the variable `LISTSET_RECORD` names, or else in the folder for temporary files.

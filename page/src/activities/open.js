@@ -1,4 +1,4 @@
-// Opens the place that an address names, and chooses the first place of a visit.
+// Opens the activity or the run that an address names, and chooses what a visit opens first.
 import { LECTURE } from "../data/lecture.js";
 import { numberOfLevel } from "../data/levels.js";
 import { byId } from "../page/dom.js";

@@ -1,5 +1,5 @@
-// Evaluates the goals of lessons. Each line of a goal asks for a call or an event of the run, and can name it for later lines. A condition (`say ..`)
-// holds if one choice of calls and events satisfies all lines above it.
+// Evaluates the goals of lessons. Each line of a goal asks for a call or an event of the run. It can name this call or event, so that later lines can refer
+// to it. A condition (`say ..`) holds if one choice of calls and events satisfies all lines above it.
 import { isFailed, isLock, ownerIn } from "../run/outcomes.js";
 import { State } from "../run/state.js";
 
@@ -137,7 +137,7 @@ export function conditionsOf(goal, run) {
   return ends.map(({ says, index }) => ({ says, isMet: canMeet(goal.slice(0, index), run) }));
 }
 
-// ---- A run: for each event the row of its thread before the event, and the state after the event.
+// ---- A run: for each event, the step-table row of the event's thread before the event, and the state after the event.
 export class Run {
   constructor(trace) {
     const state = new State(trace);

@@ -13,7 +13,7 @@ const NARROWEST = 60; // smallest width of a node
 const BESIDE_HANDS = 2; // distance of two hands in a row, so that their edges meet
 const MOST_POINTING = 6; // maximum number of threads with hands
 
-// The measures of a drawing, in units. `least` is the smallest number of pixels of a unit at which labels can be read. `key` and `lock` are the heights of
+// The measures of a drawing, in units. `least` is the smallest number of pixels per unit at which labels can be read. `key` and `lock` are the heights of
 // a node's two parts. `slot` is the width of a node with its gap, and `gap` is the gap as a share of it. `below` lists how far below the chain other nodes
 // can be drawn, the roomiest first; 0 draws them in the gaps of the chain.
 const HANDS = { height: 30, over: 9, left: 28, letter: 10.4, right: 12 };
@@ -36,7 +36,7 @@ function pointersOf(state, event) {
   });
 }
 
-// Decides whether a register is drawn. A register that refers to the head can be unset. So at the head, only `pred` is drawn, after the walk has begun.
+// Decides whether a register is drawn. A register whose value is the head can be unset, so it is not drawn. The exception is `pred` after the walk has begun.
 export const isPointing = (held, name) => held[name] !== "head" || (name === "pred" && held.curr !== "head");
 
 function importantNodes(state, event, pointers) {
@@ -181,7 +181,7 @@ function handsOn(pointers, places, { form: { hand }, width }, hides) {
   return all.reduce((placed, own) => [...placed, freeHand(own, placed, places[own.name], hand, width)], []);
 }
 
-// Moves a hand that would cover another one to the nearest free place that still touches its node.
+// Moves a hand (the label of a thread at a node) that would cover another hand to the nearest free place that still touches its node.
 function freeHand(own, placed, { x, y, width: node }, { height, over }, width) {
   const isFree = (at) => placed.every((other) => at.x + own.wide <= other.x || other.x + other.wide <= at.x || Math.abs(at.y - other.y) >= height);
   const [least, most] = [Math.max(2, x - own.wide), Math.min(width - 2 - own.wide, x + node)];
@@ -196,9 +196,9 @@ function freeHand(own, placed, { x, y, width: node }, { height, over }, width) {
 }
 
 /**
- * The space for a drawing, and what to draw: the pixels of the stage (`wide`, `high`) and the minimum of a unit (`least`); the maximum number of nodes
- * in the chain (`slots`); where a lock is shown (`lock` is "list", "nodes" or ""); whether every node stays in the chain (`flat`); how tight the last
- * drawing was (`tight`); the pixels left free at both ends (`ends`); and the registers without a hand (`hides`).
+ * The space for a drawing, and what to draw: the size of the stage in pixels (`wide`, `high`) and the smallest number of pixels per unit (`least`); the maximum
+ * number of nodes in the chain (`slots`); where a lock is shown (`lock` is "list", "nodes" or ""); whether every node stays in the chain (`flat`); how tight
+ * the last drawing was (`tight`); the pixels left free at both ends (`ends`); and the registers without a hand (`hides`).
  * @typedef {{ wide: number, high: number, least?: number, slots: number, lock: string, flat?: boolean, tight?: number, ends?: number[], hides: string[], names?: boolean, isWhole?: boolean }} Room
  */
 export function arranged(state, event, room) {

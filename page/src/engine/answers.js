@@ -78,7 +78,7 @@ export function readVerdict({ text }) {
   return { kind, ...ofCalls, order: orderIn(valuesOf("order"), valuesOf("set")), why: kind === "none" ? why : null };
 }
 
-// The names of the values that the record of an order has for each error. An error that is not listed has one value, the call.
+// For each error of an order, the names of the values that the engine returns with the error. An error that is not listed has one value, the call.
 const FAULT_VALUES = {
   HistoryReply: ["call", "reply"],
   SetReply: ["call", "reply", "place", "answer"],

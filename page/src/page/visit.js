@@ -95,7 +95,7 @@ function addressOfLevel({ id }, { text }) {
   return withTry(`#break=${id}`, text === startOfLacking(name) ? "" : text);
 }
 
-// Returns the address of a lesson: its course unless it is the book's, its name, and the attempt if it fits.
+// Returns the address of a lesson: its course (unless that is the book's), its name, and the reader's attempt unless the address would be too long.
 function addressOfLesson({ id }, { text }, { course }) {
   const named = `${course === null ? "#" : `${course}&`}learn${id === "" ? "" : `=${id}`}`;
   return withTry(named, text);

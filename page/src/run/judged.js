@@ -53,7 +53,7 @@ export class OwnAnswer {
     this.replies.set(call.id, reply);
   }
 
-  // Returns the reply of a call for the reader's order. A pending call has no reply, but is in the order if it has changed the set.
+  // Returns the reply that a call has in the reader's order. A pending call has no reply in the history, but is in the order if it has changed the set.
   replyOf(call) {
     if (call.ended === null) return openReply;
     return this.exercise.level === "replies" ? (this.replies.get(call.id) ?? null) : call.reply;

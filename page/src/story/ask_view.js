@@ -1,4 +1,4 @@
-// Guess, then see: a run stops at its question, the reader predicts, the run continues, and the reply explains.
+// Guess, then see: a run stops at a question, and the reader predicts the answer. Then the run continues, and a text explains the answer.
 import { slideAddress } from "../data/lecture.js";
 import { isLecture, now } from "../page/now.js";
 import { QUESTIONS } from "./ask.js";

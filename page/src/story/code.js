@@ -59,7 +59,7 @@ function drawOwnLine({ text, rows = [], isPlain = false }, { next, made, fresh =
 /** @param {CodeSpec} spec */
 export const drawOwnCode = (spec) => tag("ol", { class: "steps" }, ...linesShown(spec).map((line) => drawOwnLine(line, spec)));
 
-// ---- The algorithm of each list. `rows` are the table rows of a line, `of` the operations that execute the line.
+// ---- The algorithm of each list. `rows` are the rows of the step table that a line executes, `of` the operations that execute the line.
 
 const CHANGES = ["add", "remove"];
 

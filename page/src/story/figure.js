@@ -169,7 +169,7 @@ export class Figure {
     await this.show(from);
   }
 
-  // Waits between two presses that the page makes.
+  // Waits between two presses of thread buttons that the page makes for the reader.
   async rest() {
     markBusy(true);
     await sleep(wantsStill() ? 0 : BETWEEN);

@@ -82,7 +82,7 @@ export function beginHandIns() {
   check();
 }
 
-// If the box is ticked, shows only rows with a wrong solution, an unreadable line or a text that does not count, and how many rows are hidden.
+// If the box is ticked, shows only the rows with a wrong solution, an unreadable line or a text that does not count. Prints how many rows are hidden.
 function showRows() {
   const rows = [...piece("table").querySelectorAll("tbody tr")];
   for (const row of rows) row.hidden = piece("wrong").checked && row.querySelector(".no, .garbled") === null;

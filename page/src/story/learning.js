@@ -51,7 +51,8 @@ class Learning {
     return this.course.lessons.find(({ name }) => !this.isSolved(name));
   }
 
-  // Judges an attempt, and stores it. A solution does not count if the reader has looked at the lesson's answer and the attempt equals this answer.
+  // Judges the reader's attempt at the lesson, and stores it. It does not count as a solution if the reader has looked at the lesson's answer and the attempt
+  // equals this answer.
   judge(text, isBegun) {
     const { lesson, own } = this;
     const { name, solution } = lesson;

@@ -193,7 +193,7 @@ async function goes(by) {
   return true;
 }
 
-// Undoes the last press of a task, or the answer to a question. Returns false at the start.
+// Undoes the last press of a task, or the answer to a question. Returns false if there is nothing to undo.
 function takeBack() {
   const { figure } = scene;
   const { stage } = now.scene;

@@ -1,4 +1,4 @@
-// Writes one short sentence about an event, for readers without the book: nodes by their keys, threads by their letters.
+// Writes one short sentence about an event, for readers without the book. It names nodes by their keys, and threads by their letters.
 import { callText, chipOf, keyText } from "../run/markup.js";
 import { isLock, ownerIn } from "../run/outcomes.js";
 import { keyNumber, linkTarget } from "../run/state.js";

@@ -17,7 +17,7 @@ import { NARROW } from "./figure_parts.js";
  *   deeds?: Record<string, (target: any) => any>, press?: (event: KeyboardEvent) => any, goes?: (by: number) => any }} View
  */
 
-/** The views by activity; the overview of an activity is `ACTIVITY map`. @type {Record<string, View>} */
+/** The views, by activity. The view with the key `ACTIVITY map` is the overview of an activity. @type {Record<string, View>} */
 export const VIEWS = {};
 export const scene = { key: "", view: null, figure: null, isFirst: true };
 export const part = (selector) => byId("scene").querySelector(selector);

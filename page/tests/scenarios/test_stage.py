@@ -51,8 +51,8 @@ STILL = """const own = window.matchMedia.bind(window);
 
 
 def fit(visitor, width, height):
-    """Resizes the window. In Chromium, a narrow window is a phone with touch. In Firefox and WebKit, windows
-    cannot be narrower than 450 to 500 pixels.
+    """Resizes the window. In Chromium, a window narrower than 500 pixels emulates a phone with touch. In Firefox and
+    WebKit, windows cannot be narrower than 450 to 500 pixels.
     """
     if width < 500 and visitor.name == "chromium":
         visitor.devtools("Emulation.setDeviceMetricsOverride", width=width, height=height, deviceScaleFactor=1, mobile=True)

@@ -1,5 +1,5 @@
-"""Tests the page for teachers: a lecture, an assignment as a single link, and the hand-ins of a class. Also tests the student
-who opens the link.
+"""Tests the page for teachers: a lecture, an assignment as a single link, and the hand-ins of a class. Also tests what
+a student sees who opens the link.
 """
 
 import json
@@ -88,7 +88,7 @@ BROKEN = "break lock #list=coarse&threads=2&quota=2&opening=3.7&s=b0.add.5,b1.ad
 
 
 def marked(number):
-    """Returns a different solution for each number: A first looks for other keys."""
+    """Returns a different solution for each number: thread A first looks for keys that depend on the number."""
     return MARKED.format("".join(f"b0.contains.{1 + int(digit)},g0.2," for digit in f"{number:05b}"))
 
 
