@@ -29,7 +29,7 @@ const counted = (count, word) => inPage("counted")(count, word);
 const say = (line) => process.stdout.write(`${printable(line)}\n`);
 const tell = (line) => process.stderr.write(`lessons: ${printable(line)}\n`);
 
-// Calls a function on a file, and returns the result. A file that cannot be read is an error.
+// Calls a function on a file, and returns the result. Throws `Trouble` if the file cannot be read.
 function withFile(file, deed) {
   try {
     return deed(file);

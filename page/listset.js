@@ -166,7 +166,7 @@ function textBehind(shown, words, name) {
   return words.shift();
 }
 
-// Returns the file, or standard input if none is named.
+// Opens a file and returns its descriptor, or that of standard input if no file is named.
 const opened = (file = "-") => (file === "-" ? 0 : fs.openSync(file, "r"));
 
 // Returns the bytes of an input, at most one more than the limit.
@@ -522,7 +522,7 @@ function isEndLong(file) {
   return count === 129 && !piece.includes(10);
 }
 
-// Returns a hint for a recording that is too long for the command explain: the refused line, and the cause.
+// Returns a hint for a recording that is too long for the command explain. The hint has the refused line and the cause.
 function longHint(engine, file, number, cause) {
   const [, part] = engine.ask("listset_fault", cause).text.split(", in recorded calls; exit status 1\n");
   const [why] = part.split("\n\n");
@@ -595,7 +595,7 @@ function keyHint(only, file = "FILE") {
   return `The recording has no call of key ${only}. To see its keys: grep '^call' ${quoted(file)} | cut -d ' ' -f 4 | sort -n -u`;
 }
 
-// Returns the range of an option of show for the given file.
+// Returns the words about the range of --from or --to for the given file; an empty text if this range is not known.
 function ofThisFile(engine, { texts, values: [file = "-"] }, value) {
   if (value === "TO") return `; here, ${texts.from ?? 1} or a later one`;
   if (value !== "FROM" || file === "-" || texts.lacks !== undefined) return "";

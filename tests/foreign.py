@@ -73,8 +73,8 @@ class InstalledLibraries:
         assert well(*words, **how) == "2000 keys are left\n"
 
     def first_judge(self, *words, **how):
-        """Runs a program of the folder foreign/first on a linearizable recording and on a recording that is not linearizable,
-        and expects its answers.
+        """Runs a program of the folder foreign/first on a linearizable recording and on a recording that is not
+        linearizable, and checks its answers.
         """
         refused = (TOP / "examples" / "recorders" / "both-true.calls").read_text()
         right = refused.replace("call 1 add 5 2 3 true", "call 1 add 5 2 3 false")

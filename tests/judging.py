@@ -260,7 +260,9 @@ def in_pieces(program, text, size):
 
 @pytest.mark.parametrize("size", [1, 7, 16, 4096])
 def test_the_verdict_does_not_depend_on_the_pieces(program, size):
-    """Tests three texts: a recording, a recording without its last newline, and a recording with a wrong title."""
+    """Tests a recording, the same without its last newline, and the same with a wrong title. Each text must have the
+    same verdict when it is written in pieces.
+    """
     rng = random.Random(size)
     for many in (3, 30, 400):
         calls, opening, keys = drawn(rng, many)

@@ -77,7 +77,7 @@ def modules():
 
 
 def named(text, sign, names, others, own=()):
-    """Returns the definitions that a text names outside of comments, as pairs of module and name. A definition of the same
+    """Yields the definitions that a text names outside of comments, as pairs of module and name. A definition of the same
     file has no module.
     """
     text = " ".join(re.sub(rf"(^|\s){sign}.*", "", text, flags=re.M).split())

@@ -393,7 +393,7 @@ public final class Judge {
 
         private static boolean isWithin(long since, int seconds) { return System.nanoTime() - since < seconds * SECOND; }
 
-        /** Performs a run and adds its numbers of calls to the sums. Returns whether few of its calls overlapped. */
+        /** Performs a run and adds its numbers of calls to `sums`. Returns whether few of its calls overlapped. */
         private boolean areFew(long[] sums, long seed, Shape shape) throws IOException {
             long overlapped = judged(seed, shape);
             sums[0] += shape.allCalls();

@@ -223,7 +223,7 @@ function checkRefusals(ask) {
   check(`left otherwise: ${left}`, left.join() === unchanged.join());
 }
 
-// Checks the page's sentences about rare verdicts and errors of the engine, with answers written by hand.
+// Checks the page's sentences about rare verdicts and errors of the engine. The engine's answers are written by hand.
 function checkAnswers(ask) {
   const said = (text) => inPage("verdictOnCalls")(ask, { text: `${text}\n` }, TITLE);
   const { kind, reasons, calls } = said("verdict none\nkey 7\nclash true\nfirst call 2 add 7 50 60 true\nsecond call 3 contains 7 65 70 false");

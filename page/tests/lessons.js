@@ -68,8 +68,7 @@ const LIKELY = {
   "ceiling-in-anothers-step": { lines: ["go 0 out"], deadEnd: "This ceiling has answered 7" },
 };
 
-// Checks the sentences about an attempt that does not meet a lesson's goal: the first condition that is missing and, if so, why the attempt can no longer meet
-// it.
+// Checks the sentences about an attempt that misses a lesson's goal: the first missing condition and, if so, why the goal can no longer be met.
 function checkTries(ask, { lessons }) {
   const lesson = lessons.find(({ name }) => name === "in-anothers-step");
   const tries = [

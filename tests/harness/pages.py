@@ -73,7 +73,7 @@ def tests_of(page):
 
 
 def tests_shown(page):
-    """Returns the tests on a page that shows commands to a reader, each with its line and steps."""
+    """Yields the tests on a page that shows commands to a reader, each with its line and steps."""
     text = page.read_text(encoding="utf-8")
     for block in SHOWN_BLOCK.finditer(text):
         shown = re.sub("^```(?:sh)?$|^    ", "", block[0], flags=re.MULTILINE).strip("\n").split("\n")

@@ -1,4 +1,4 @@
--- The moments when each key was added to a set and removed from it, and the first moment when a key is present or
+-- The moments when each key was added to a set or removed from it, and the first moment when a key is present or
 -- absent. A moment is a number that dates an event.
 use Rattle.std.specs.Prelude.{◌≡◌, ◌^◌, ℕ, zero, suc, ◌-◌, ◌<◌, ◌≤◌, ◌==◌, length, map, slice_index, nat_lt, Bool, true, false}
 use Rattle.std.specs.Prelude.{IsTrue, not, if◌then◌else◌, List, [], ◌∷◌, ◌++◌, All, Option, Some, None, Vec}

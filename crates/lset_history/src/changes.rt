@@ -197,7 +197,7 @@ impl Changes {
         upto > 0 && self.opening[upto - 1] == key
     }
 
-    /// Returns the moments above 0 when `key` was added and removed, in increasing order.
+    /// Returns the moments above 0 when `key` was added or removed, in increasing order.
     fn noted(&self, key: u32) -> &[u32]
         ensures value { result.now ≡ noted_of self.now key }
         ensures increases { IsStrictlyIncreasing result.now }

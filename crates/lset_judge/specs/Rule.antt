@@ -73,7 +73,7 @@ abbrev pub take_out : ℕ → List ℕ → List ℕ
 take_out e [] = []
 take_out e (x ∷ xs) = if x == e then xs else x ∷ take_out e xs
 
--- Returns the state of a key just after moment m, when the pending change with the end `e` has taken effect.
+-- Returns the state of a key just after moment m, if the pending change that ends at `e` takes effect at this moment.
 abbrev pub turned_by : ℕ → ℕ → State → State
 turned_by m e s = record {
   there = not s.there;

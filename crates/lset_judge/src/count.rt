@@ -239,7 +239,7 @@ fn is_count(calls: &[StreamCall], there: Presence, left: Option<Presence>, count
     need_turns(counted, was) && count.backs.len() < count.turns()
 }
 
-/// Returns the calls in `stretch` (a period of time that can contain too many calls for any order), ordered by start.
+/// Returns the calls in `stretch`, ordered by start. (A stretch of time can contain too many calls for any order.)
 fn counted_in(
     alloc: Global,
     calls: &[StreamCall],

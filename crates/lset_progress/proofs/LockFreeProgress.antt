@@ -60,7 +60,7 @@ pub record Valid (link : ℕ → ℕ) (l : Local) : Type 0 where
   pub same : l.pc ≡ 9 → link l.curr ≡ 2 * l.succ
   pub along : 23 ≤ l.pc → Path link 0 l.curr
 
--- At rows of the step table that use neither pred nor curr, the exchanges of the walk will succeed.
+-- At the rows of the step table that use neither pred nor curr, a walk is `Valid`: its exchanges will succeed.
 outside : (link : ℕ → ℕ) (l : Local) → (2 ≤ l.pc → l.pc ≤ 9 → ⊥) → (23 ≤ l.pc → Path link 0 l.curr) → Valid link l
 outside link l other along = record {
   follows = λ a b. absurd (other a (omega arith));
@@ -141,8 +141,8 @@ module _ {sz : Sizes} {ws : List ℕ} {used : ℕ → ℕ} {t : ℕ} {vs : ℕ �
   abbrev size : ℕ
   size = node_count sz
 
-  -- States that the step from the private state k to the words ws' has the outcome f, and preserves the facts that the
-  -- proofs of progress use.
+  -- States that a step with the outcome f preserves the facts that the proofs of progress use. k is the private state
+  -- before the step, and ws' are the words after it.
   abbrev After : Local → List ℕ → Fed → Type 0
   After k ws' f = Then shape size key ws k Any key ws' f
       × (((r : Reply) × (f.answer ≡ Some r)) ⊎ ((23 ≤ k.pc → Plain ws) → 23 ≤ f.local.pc → Plain ws'))

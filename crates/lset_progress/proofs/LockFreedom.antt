@@ -40,7 +40,7 @@ abbrev Fits : Bool → Sizes → (ℕ → ℕ) → List ℕ → ℕ → Local �
 Fits reads sz key ws m l = (lock_free_steps sz ≤ m)
     ⊎ ((l.pc ≢ 0) × (counted reads l.call ≡ 1) × Timed (node_count sz) key ws m l)
 
--- Returns the maximum increase, by one successful exchange, of the total number of steps that the threads need.
+-- Returns a bound: one successful exchange increases the total number of steps that the threads need by at most this.
 abbrev price : Sizes → ℕ
 price sz = sz.threads * round (node_count sz)
 

@@ -26,7 +26,8 @@ use lset_steps::laws::{has_account, listed_content};
 use lset_text::{Cause, LineFault};
 use std::alloc::Global;
 
-/// Converts the error that stopped a replay to a `ReplayFault`. A replay on a list never reaches the last arm.
+/// Converts the error that stopped a replay to a `ReplayFault`. In a replay on a list, only a failed allocation reaches
+/// the last arm.
 fn refusal(stopped: LineFault) -> ReplayFault
     ensures { (T : Table) (op : Opening) (events : List LineEvent) → IsStopped T op events stopped → IsRefusal T op events result }
 {

@@ -108,8 +108,7 @@ module _ {L : Type 0} (text : EventLines L) (v : Version) (title : List ℕ) (pi
 
   -- ---- Lemmas about a single line
 
-  -- States that the line x adds to the content: reading x changes the content from s to t, and t can be written, as the
-  -- text of s followed by x.
+  -- States that the content t can be written, and that its text is the text of s followed by the line x.
   abbrev Adds : BodyValue L → List ℕ → BodyValue L → Type 0
   Adds s x t = HasText text v Good t × (text_lines t ≡ text_lines s ++ x ∷ [])
 

@@ -133,7 +133,7 @@ fn claim_text(alloc: Global, picture: &Picture) -> Result<Vec<u8>, AllocError> {
 /// status is 1 if the report's order is refused or an event of the schedule is not enabled, otherwise 0. A schedule is
 /// drawn up to the first event that is not enabled.
 ///
-/// If the order is refused and the picture is text, an empty line follows the picture, and then a statement whether
+/// If the order is refused and the picture is text, an empty line follows the picture, and then a statement of whether
 /// some other order explains the report and ends with its final keys. If no order does, the lines of `judge` follow. For
 /// a report with `ceiling` or `full`, the statement can be that it is unknown whether such an order exists.
 ///

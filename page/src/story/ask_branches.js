@@ -89,7 +89,7 @@ export function whatIf() {
   setScene({ stage: "task" });
 }
 
-// Opens the same run on the list that lacks the check, or another run if the same run does not break this list.
+// Opens the same run on the list without the check or, if the same run does not break this list, another run.
 export function withoutCheck(item) {
   const { branches } = now.scene;
   const known = branches.findIndex(({ isFixed }) => isFixed);

@@ -28,8 +28,8 @@ export function assignmentOfLink(link) {
   return tasks.length === 0 ? { fault: "The assignment of this link has no task." } : { title, tasks };
 }
 
-// Returns the rows of the table, one for each student. A file is { name, text }. Without an `assignment`, the table has a column for each task that anybody
-// handed in.
+// Returns the rows of the table (one for each student), its columns, the names of the files without a hand-in or course (`empty`), and the common solutions. A
+// file is { name, text }. Without an `assignment`, the table has a column for each task that anybody handed in.
 export async function checkAll(files, assignment, sayProgress = (_at, _of) => {}) {
   const found = files.flatMap(({ name, text }) => textsIn(text).map((one) => ({ ...one, file: name })));
   const without = files.filter(({ name }) => !found.some(({ file }) => file === name));
@@ -143,7 +143,7 @@ function noteCopies(rows) {
   return [...byText].filter(([key]) => !isRare(key)).map(([key, same]) => ({ task: key.split("\n")[0], rows: same }));
 }
 
-// Returns "3 of 3 with David Maier, Vera Peters". With `all`, also pairs that the page does not report (for the spreadsheet).
+// Returns a text such as "3 of 3 with David Maier, Vera Peters". With `all` (for the spreadsheet), also names pairs that the page does not report.
 export function copiesText({ copies }, all = false) {
   const groups = copies.filter(({ isListed }) => all || isListed);
   return groups.map(({ count, of, rows }) => `${count} of ${of} with ${namesOf(rows)}`).join("; ");
