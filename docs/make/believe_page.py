@@ -77,8 +77,8 @@ def modules():
 
 
 def named(text, sign, names, others, own=()):
-    """Yields the definitions that a text names outside of comments, as pairs of module and name. A definition of the same
-    file has no module.
+    """Yields the definitions that a text names outside of comments, as pairs of module and name. A definition of the
+    same file has no module.
     """
     text = " ".join(re.sub(rf"(^|\s){sign}.*", "", text, flags=re.M).split())
     text = re.sub(r"\bpub " + NAME + r" :", ":", re.sub(r"(?<=[{;])\s*" + NAME + r"\s*=(?![=>])", "", text))

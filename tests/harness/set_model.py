@@ -1,5 +1,5 @@
-"""A Python model of the sequential set: it returns the reply of each call, as spelled in a report. All tests that need replies use
-this model. It was written independently of the crates.
+"""A Python model of the sequential set: it returns the reply of each call, as spelled in a report. All tests that need
+replies use this model. It was written independently of the crates.
 """
 
 import collections

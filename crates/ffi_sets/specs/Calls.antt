@@ -51,7 +51,7 @@ abbrev pub ReadsIn : Option SetValue → Option SeatValue → Option SeatValue �
 ReadsIn (Some set) old new = HasReadOf set old new
 ReadsIn None old new = ⊥
 
--- States that the last call from the seat in a C handle took at most as many steps as the definition `most_reads` allows.
+-- States that the last call from the seat in a C handle took at most as many steps as `most_reads` allows.
 abbrev pub HasReadHeld : Held → Held → Type 0
 HasReadHeld h h' = ReadsIn (set_in h) (seat_in h) (seat_in h')
 
