@@ -210,7 +210,7 @@ impl Steps {
 }
 
 /// The state of one pass over the starts and ends of calls: how many changes have ended, and how many calls that can
-/// change the key back have started. A pass searches all stretches of time that start like `start`.
+/// change the key back have started. A pass searches all stretches of time with the same start as `start`.
 #[derive(Clone, Copy)]
 struct Pass {
     start: Stretch,

@@ -59,7 +59,7 @@ CallsEndUnhindered T most = (op : Opening) (k t : ℕ) (es : ℕ → Event) → 
     → EndsAlone T (state_at T op es k) t (most (sizes op))
 
 -- [A ceiling that never ends]: states that at some moment of some run a `ceiling` is pending, all other threads are
--- idle, and the `ceiling` does not end, however many steps its thread makes alone.
+-- idle, and the `ceiling` does not end, however many steps its thread takes alone.
 pub record SomeCeilingNeverEnds (T : Table) : Type 0 where
   pub opening : Opening
   pub events : ℕ → Event

@@ -16,7 +16,7 @@ use Rattle.lset_rule.specs.Runs.{StartsWith, end_of, IsRunOf}
 use Rattle.lset_rule.specs.Rule.{Holds, MatchesLog, StandsIn}
 use Rattle.lset_rule.specs.Views.{HasThread}
 
--- Lemmas about a list: if each entry j satisfies P j, this remains true when an entry is changed or added.
+-- Lemmas about a list in which each entry j satisfies P j: this remains true if a changed or added entry satisfies P.
 module _ {A : Type 0} (P : ℕ → A → Type 0) where
   abbrev pub Each : List A → Type 0
   Each l = (j : ℕ) (x : A) → get_elem? l j ≡ some x → P j x

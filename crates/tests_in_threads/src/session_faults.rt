@@ -55,8 +55,8 @@ fn read_fails<R: Host>(rt: &R, alloc: Global, lines: &[u8], at: u64, answers: &[
     assert!(rt; reader.reads == at, "{at}, answers wait");
 }
 
-/// Asserts that a session ends when any of its reads fails. Each entry of `rows` has the first and the last number of
-/// some reads, the answers written before these reads, and the number of calls made before them.
+/// Asserts that a session ends when any of its reads fails. Each entry of `rows` is about successive reads: the numbers
+/// of the first and the last, the answers written before these reads, and the number of calls made before them.
 fn reads_fail<R: Host>(rt: &R, alloc: Global, lines: &[u8], rows: &[(u64, u64, &[u8], u64)]) {
     for &(from, to, answers, calls) in rows {
         for at in from..=to {
