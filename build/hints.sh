@@ -53,7 +53,7 @@ explain_file() {
 }
 
 # Prints the commands that read a file. $2 is the first line of the explanation of the file, and contains the file's kind.
-# Prints nothing for other kinds.
+# Prints nothing if the file has no kind that is known here.
 print_use() {
   local name
   name=$(quoted "$1")
@@ -303,8 +303,9 @@ print_last_moment() {
   sed -n 's/^moments .* of \([0-9]*\);.*/\1/p; s/^moment .* \([0-9]*\)$/\1/p' <<<"$picture" | head -n 1
 }
 
-# Prints a period and a sentence about a misspelled value: how numbers are spelled, if the range $1 is a range of
-# numbers and the value $2 is not a number; or the list name that was probably meant. Prints nothing for other values.
+# Prints a period and a sentence about a misspelled value $2. If $1 is a range of numbers, the sentence states how
+# numbers are spelled. Otherwise it suggests the name of a list. Prints nothing if the number is spelled correctly, or if
+# no list has a similar name.
 explain_spelling() {
   local range=$1 value=$2 it plain
   plain=$(tr -cd a-z <<<"${value,,}")

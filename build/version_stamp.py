@@ -35,7 +35,7 @@ def built(proof):
 
 
 def told(proof):
-    """Returns all four lines, for a build in this repository now."""
+    """Returns all four lines of the version text, for a build from this repository as it is now."""
     number, kit = version_and_kit()
     return f"listset {number}\n{kit}\n{built(proof)}"
 

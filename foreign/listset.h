@@ -89,7 +89,7 @@ uint32_t listset_version_number(void);
 size_t listset_replay(const char *schedule, size_t length, char *room, size_t size, uint8_t *status);
 
 /// Judges a recording. Returns `ok N calls` and LISTSET_OK if some order explains its calls. Otherwise returns `not
-/// linearizable`, calls that show it, and LISTSET_WRONG_TEXT.
+/// linearizable`, calls that show why, and LISTSET_WRONG_TEXT.
 size_t listset_judge(const char *recording, size_t length, char *room, size_t size, uint8_t *status);
 
 /// Judges the recording that is read from the descriptor `file`. The recording can have any length. Reads to its end or
@@ -185,8 +185,8 @@ typedef enum LISTSET_BYTE listset_answer {
   LISTSET_NO_SEAT = 255    ///< The seat is empty or a closed set; or the call gave up after 2^64 - 1 rounds, and the seat is lost.
 } listset_answer;
 
-/// The reply of a call. Compare it like `reply.is == LISTSET_TRUE`. It is a struct, so that it does not compile as a
-/// condition or as a fault.
+/// The reply of a call. Compare it like `reply.is == LISTSET_TRUE`. It is a struct, so code that uses it as a condition
+/// or as a fault does not compile.
 typedef struct listset_reply {
   listset_answer is;
 } listset_reply;
@@ -259,8 +259,8 @@ uint64_t listset_seats_within(listset_seat *seat, uint32_t *all);
 /// Merges `from`, including all seats that it contains, into `into`. `from` is empty afterwards.
 LISTSET_USED listset_fault listset_gather(listset_seat *into, listset_seat *from);
 
-/// Closes the set. `seat` must contain all seats of the set; afterwards it has the final keys. If their allocation fails, the
-/// set stays open.
+/// Closes the set. `seat` must contain all seats of the set, and contains the final keys afterwards. If the allocation of
+/// these keys fails, the set stays open.
 LISTSET_USED listset_fault listset_close(listset_seat *seat);
 
 /// Copies the keys of a closed set to `room` in strictly increasing order, if they fit in the `places` elements of

@@ -26,8 +26,8 @@ const HELP = require("./help.json");
 
 const ORIGIN = `commit ${"0".repeat(40)}\nproof unknown\n`; // the lines of a program without a known commit and proof
 
-// For each command: its flag and its options; the engine's functions without and with the flag, or a mark for a command with code of its own;
-// whether its argument is a file; and the maximum number of arguments.
+// For each command: its flag and options; the engine's functions without and with the flag (a command with code of its own has a mark
+// instead); whether its argument is a file; and the maximum number of arguments.
 const COMMANDS = {
   replay: { options: ["--lacks"], functions: ["listset_replay"], isOfFile: true },
   judge: { flag: "--brief", options: ["--only"], isJudge: true, isOfFile: true },
@@ -58,7 +58,7 @@ class Printed extends Error {
 
 const usageOf = (name) => /^Usage: (.*)$/m.exec(HELP[name] ?? "")?.[1] ?? `listset ${name} [CAUSE]`;
 
-// Returns the program's error about wrong arguments of a command.
+// Returns the message that the program prints for wrong arguments of a command, and the exit status.
 function wrongWords(error, usage, tip) {
   const parts = [`error: ${error}`, ...(tip ? [`  tip: ${tip}`] : []), ...(usage ? [`Usage: ${usage}`] : []), MORE];
   return new Printed(`${parts.join("\n\n")}\n`, WRONG);
@@ -229,8 +229,8 @@ function briefly(verdict) {
   return { ...verdict, bytes: Buffer.from(lines.filter((line) => line === "" || BRIEF.test(line)).join("\n")) };
 }
 
-// Returns the verdict on a recording, or the calls of the key `only`. After a refusal of a file, also returns a diagnosis, for which the file is read
-// again.
+// Returns the verdict on a recording or, if `only` is set, the recorded calls of this key. If a recording in a file is refused, reads the file again
+// and also returns a diagnosis.
 function judged(engine, isBrief, only, file = "-") {
   if (only !== undefined) return keyed(engine, only, file);
   const verdict = engine.judgeFrom(opened(file));
@@ -444,7 +444,8 @@ function isOutput(file) {
   return one.ino === other.ino && one.dev === other.dev;
 }
 
-// Returns a hint for an error that the engine's explanation of the file does not have. With --lacks, calls can execute other steps.
+// Returns a hint for an error that `explain` does not find in the file. With --lacks, the calls of a broken list can execute steps
+// that no call of the whole list executes.
 function otherHint(lacks, file, cause) {
   if (lacks === undefined) return `listset faults ${cause} explains this error`;
   return `On the list that lacks ${lacks}, calls can take other steps than on the whole list. For each step above this line: listset trace --lacks ${lacks} ${quoted(file)}; for the cause: listset faults ${cause}`;
@@ -611,7 +612,8 @@ function asCalled(hint) {
   return hint.replace(/\blistset (?=((replay|judge|check|show|trace|draft|example|gen|run|serve|faults|explain|help)\b|--version|--help))/g, `${called} `);
 }
 
-// Returns a hint for wrong arguments and the program's error; an empty text if there is none.
+// Returns a hint about wrong arguments. `said` is the program's error message. Returns an empty text if there is no
+// hint.
 function wordsHint(given, said) {
   const [name = ""] = given;
   const [, word] = /unexpected argument '([^' ]*)/.exec(said) ?? [];

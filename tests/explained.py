@@ -267,7 +267,7 @@ def test_a_shell_reads_the_name_in_a_command(program, room, name):
 
 def test_explain_succeeds_for_every_text(program, few):
     """Tests texts with parts that were removed, repeated or replaced. `explain` must succeed and name the same line as
-    the command.
+    the error of the command that reads the text.
     """
     dice = random.Random(7)
     of_commands = {"replay": RIGHT, "draft": DRAFT + "begin 0 add 5\ngo 0 out\n", "check": RIGHT_REPORT, "judge": RIGHT_CALLS}

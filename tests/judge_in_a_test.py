@@ -291,7 +291,7 @@ def test_a_seed_repeats_the_calls(form, program):
     assert {tuple(it.split()[2:4]) for it in (first + other).splitlines() if it.startswith("call ")} >= {("add", "4"), ("remove", "0"), ("contains", "3")}
 
 
-# ---- A judge that always refuses, with the words that must be passed on
+# ---- A judge that always refuses, and the message that each language must pass on
 
 REFUSED = "not linearizable\nno order explains the calls of key 1 up to moment 9\n\n  contains(1) returned true, expected false   # %s $HOME 'quoted'\n"
 REFUSES = """#!/bin/sh

@@ -247,7 +247,7 @@ def test_the_verdict_and_its_lines_are_right(program, few, seed):
 # ---- Tests of texts that arrive in pieces
 
 def in_pieces(program, text, size):
-    """Runs `judge` on a text that is written in pieces of this many bytes."""
+    """Runs `judge` on a text that is written in pieces of `size` bytes."""
     with subprocess.Popen([program, "judge"], stdin=subprocess.PIPE, stdout=subprocess.PIPE, stderr=subprocess.PIPE, bufsize=0) as judge:
         try:
             for at in range(0, len(text), size):

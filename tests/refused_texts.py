@@ -99,8 +99,8 @@ def test_the_first_error_of_a_header_is_named(program, title, words):
 
 
 def test_the_first_error_of_each_prefix_of_a_draft_is_named(program):
-    """Tests each prefix. If it ends within a line, the error is that the line has no newline. If it consists of complete
-    lines, the next header line is missing, or the prefix is a valid draft.
+    """Tests each prefix of a draft. If a prefix ends within a line, the error is that this line has no newline. If it
+    consists of complete lines, the error is that the next header line is missing, or the prefix is a valid draft.
     """
     text = (DATA / "drafts/opens-with-keys.draft").read_text()
     for front in (text[:at] for at in range(len(text))):

@@ -77,7 +77,9 @@ def test_run_and_serve_end_in_a_documented_way_under_each_limit(program, way, li
 
 
 def test_serve_without_memory_for_the_set_does_not_listen(program):
-    """Tests that no line states that the server is ready: the largest set does not fit in 40 MB."""
+    """Tests the largest set with 40 MB, where it does not fit. The server must not print the line that states that it
+    is ready.
+    """
     made = ran(*limited(40_000, program, "serve", "lock-free", 64, 16384, 0, 1))
     assert (made.returncode, made.stdout, made.stderr) == (3, "", "listset: out of memory\n")
 

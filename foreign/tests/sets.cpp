@@ -113,8 +113,8 @@ template <auto Places> struct reach {
 };
 template struct reach<&listset::shared::places>;
 
-// Returns whether a thread's calls end while all seats except `free` are occupied. (A call that waits for a seat ends
-// when the seats are released.)
+// Returns whether a thread's calls end while all seats except number `free` are locked. (A call that waits for a locked
+// seat ends only when the seats are unlocked.)
 static bool end_by_one_seat(size_t free, size_t seats) {
   listset::shared set(list::lock_free, static_cast<uint32_t>(seats), 1);
   std::vector<std::unique_lock<std::mutex>> taken;

@@ -86,7 +86,7 @@ struct options {
     unsigned seed = 1;
     /// If no call begins or ends for this many seconds, a run is considered hung and is cut short: 1 to 3,600.
     unsigned seconds = 10;
-    /// After this many seconds, the test begins no new run: 1 to 604,800.
+    /// The time limit for the test in seconds, 1 to 604,800. No run starts after this time.
     unsigned within = 60;
     /// The verdict is false if less than this percentage of the calls overlap a call that adds or removes the same key.
     unsigned at_least = 0;
@@ -389,7 +389,7 @@ struct stops {
         errno = before;
     }
 
-    // Must be called before each of `calls` calls. Starts the timer before a few of these calls.
+    // Starts the timer before a few of `calls` calls. Must be called before each of these calls.
     void before_call(uint64_t calls) {
         if (timer < 0 || draw() % calls >= STOPS) return;
         itimerspec in = {};
@@ -544,7 +544,8 @@ template <class Make, class K> struct maker {
         write(run, run.is_end_known ? left + "end\n" : "cut\n");  // (lines not marked as saved: the run can still be cut short)
     }
 
-    // Runs all threads. If `is_own`, this process was started for the set, and threads are interrupted during calls.
+    // Runs all threads. `is_own` is true if this process was started for the set. Only then can threads be interrupted
+    // during calls.
     void all(area &run, bool is_own) {
         std::vector<std::thread> threads;
         for (unsigned i = 0; i < run.of.threads; i++)

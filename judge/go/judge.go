@@ -118,8 +118,8 @@ type shape struct {
 }
 
 // size has the sizes of a run: the number of goroutines, of new sets used one after another, of calls per goroutine and
-// set, and of keys. The keys are the multiples of times. Goroutines wait for each other after every manyMeet calls or,
-// if meetsOnce, only at the beginning.
+// set, and of keys. The keys are multiples of the number times. Goroutines wait for each other after every manyMeet
+// calls or, if meetsOnce, only at the beginning.
 type size struct {
 	threads, sets, calls, keys, times int
 	meetsOnce                         bool
@@ -195,7 +195,7 @@ func most(a, b int) int {
 	return b
 }
 
-// most returns the largest value of a number in the presets, modified by the options.
+// most returns the largest value of one size of a run in all presets, after the options have changed the presets.
 func (o Options) most(of func(size) int) (most int) {
 	for i := range presets {
 		if its := of(o.shapeOf(int64(i + 1)).size); its > most {

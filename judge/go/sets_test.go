@@ -142,7 +142,7 @@ func (s *set) Contains(key uint32) bool {
 	return s.part(key).Contains(s.place(key))
 }
 
-// told replaces methods of *testing.T: they print the result and its kind.
+// told replaces methods of *testing.T by methods that print the kind and the text of a test's result.
 type told struct{ *testing.T }
 
 func (told) Log(verdict ...any) { fmt.Printf("verdict: ok\n%v\n", verdict[0]) }

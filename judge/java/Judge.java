@@ -157,7 +157,7 @@ public final class Judge {
          */
         public Options withSeconds(int it) { return with(made -> made.seconds = it); }
 
-        /** Sets the time limit for the test, in seconds: 1 to 604,800. After this time, the test begins no new run. */
+        /** Sets the time limit for the test, in seconds: 1 to 604,800. No run starts after this time. */
         public Options withWithin(int it) { return with(made -> made.within = it); }
 
         /**

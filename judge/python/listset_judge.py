@@ -523,7 +523,7 @@ class Run:
             self.there.abort()
 
     def save(self, file, lines, last):
-        """Appends lines to the file, and marks all calls with a begin of at most `last` as saved."""
+        """Appends lines to the file, and marks all calls that began at the moment `last` or earlier as saved."""
         text = "".join(lines).encode()
         file.write(text)
         # (if the process ends before this step, its last calls are only in memory)
@@ -551,8 +551,8 @@ class Run:
             raise
 
     def lines_of_keys(self, word, one):
-        """Calls `contains` for each key, and retries if the outcome is unknown. Returns a line for each key found, and None
-        for each key with an outcome that stays unknown.
+        """Calls `contains` for each key, and retries if the outcome is unknown. Returns a list with a line for each key
+        found, and None for each key whose outcome stays unknown.
         """
         first, lines = one // self.parts * self.shape.keys, []
         for number in range(self.shape.keys):

@@ -18,8 +18,8 @@ function check(result, name, isGood) {
   else result.failed.push(name);
 }
 
-// Checks that each trace can be read, contains the given schedule, and can be stepped forward to its end and back. In
-// some of the traces, a ceiling must return a key, or nothing.
+// Checks that each trace can be read, contains the given schedule, and can be stepped forward to its end and back. At
+// least one of the traces must have a ceiling that returns a key, and one a ceiling that returns nothing.
 function checkTraces(result, engine, cases) {
   const replies = new Set();
   for (const { texts } of cases.filter((wanted) => wanted.function === "listset_trace")) {

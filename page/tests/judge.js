@@ -1,5 +1,5 @@
-// node tests/judge.js checks the verdicts on a reader's order for a run, which the engine's `check` decides, and the view of two lists side by side. Prints
-// as JSON how many checks passed, and which failed.
+// node tests/judge.js checks the view of two lists side by side, and the verdicts on an order that a reader gives for a run. (The engine's `check` decides
+// these verdicts.) Prints as JSON how many checks passed, and which failed.
 "use strict";
 
 const fs = require("fs");

@@ -18,8 +18,8 @@ function check(what, is) {
   else failed.push(what);
 }
 
-// Fills the memory with blocks of one size. Checks the addresses of the blocks, that a small block still fits, and that a freed block can be allocated
-// again.
+// Fills the memory with blocks of one size. Checks that the addresses of the blocks are right, that a small block still fits, and that a freed block
+// can be allocated again.
 function fill(size) {
   const { memory, page_alloc: alloc, page_free: free } = new WebAssembly.Instance(built, { env: { read: () => -1n } }).exports;
   const blocks = [];

@@ -1,6 +1,6 @@
-// Checks `judge --only KEY` on random recordings. If some order explains the key's calls, it must return the recording of this key. Otherwise it must
-// return a part of the calls that the judge refuses with the same two lines. The part must begin with the only state in which the earlier calls can leave
-// the key.
+// Checks `judge --only KEY` on random recordings. If some order explains the calls on the key, the command must print the recording of this key.
+// Otherwise it must print a part of these calls that the judge refuses with the same two lines. The earlier calls can leave the key in only one state,
+// and the part must begin with this state.
 "use strict";
 
 const { startedEngine } = require("../in_node.js");

@@ -225,8 +225,8 @@ function checkTraces(engine, names) {
 const areApart = (one, other) => one.x + one.wide <= other.x + 1 || other.x + other.wide <= one.x + 1 || one.y + one.high <= other.y + 1 || other.y + other.high <= one.y + 1;
 const ROOMS = [{ wide: 1280, high: 300 }, { wide: 900, high: 240 }, { wide: 351, high: 320 }];
 
-// Checks at each event of the examples, and of a run with many nodes, that everything on the stage is within its edges, and that no node or hand
-// covers another one.
+// Checks at each event of the examples, and of a run with many nodes, that everything on the stage is within its edges, and that that no node,
+// and no hand (the sign of a thread), covers another one.
 function checkStage(engine, texts) {
   let hands = 0;
   for (const [text, size] of texts.flatMap((text) => ROOMS.map((size) => [text, size]))) {
@@ -273,7 +273,7 @@ function longerBy(engine, text, line) {
 }
 
 // Checks the line of the proved code that the page shows for each thread in a call. Before the call's first step, the line must begin a call. Before the
-// last step, it must be able to end one. If `find` restarts its walk, the line must be in `find`. Each line that executes rows must occur.
+// last step, the line must be able to end a call. If `find` restarts its walk, the line must be in `find`. Each line that executes rows must occur.
 function checkListing(engine, texts) {
   const met = new Set();
   const wrong = texts.flatMap((text) => {

@@ -1,6 +1,6 @@
-"""Makes test cases for the page's engine from the program's answers. Each function that reads a text is called with each
-example, with generated schedules, drafts, recorded calls and reports, and with damaged texts. Other cases are pictures
-with options, broken lists, values for gen, and names.
+"""Makes test cases for the page's engine from the program's answers. Each function that reads a text is called with
+every example, with generated texts (schedules, drafts, recorded calls and reports), and with damaged texts. Other cases
+draw pictures with options, run broken lists, generate schedules with `gen`, and pass right and wrong names.
 """
 
 import base64
@@ -52,7 +52,8 @@ class Program:
 
 def generated(program, dice):
     """Generates schedules of each list: a long one, and others with few or many threads and small or large quotas. In some
-    of these, each `contains` is replaced by a ceiling, so that a later event can be refused.
+    of these, each `contains` is replaced by a ceiling. The ceiling can take a different number of steps, and then a later
+    event is refused.
     """
     for kind in LISTS:
         yield program.program_answers("gen", kind, "4", "300", "1100", "4", "1")[0]
@@ -118,7 +119,7 @@ def cases_of_values(program, dice):
 
 
 def all_cases(path):
-    """Returns all cases: a function of the module, and the answer of the program at this path."""
+    """Returns all cases: functions of the module with arguments, each with the answer of the program at this path."""
     program, dice = Program(path), random.Random(26)
     texts = texts_of(program, dice)
     made = [*cases_of_values(program, dice), *cases_of_options(program, dice, texts)]

@@ -339,8 +339,8 @@ const knownBy = (calls, moment) => calls.flatMap((call) => {
   return isChange(call) ? [{ ...call, ended: null, reply: null }] : [];
 });
 
-// Returns the moments from which the later calls on a key can be judged without the earlier ones, each with the key's state: the first moment, and each
-// moment at which no change is pending and the earlier calls or changes leave only one state.
+// Returns the moments from which the later calls on a key can be judged without the earlier ones, each with the key's state. They are the first moment,
+// and each moment when no change is pending and the earlier calls (or only the earlier changes) leave a single state.
 function startsOf(calls, key, isThere) {
   const changes = calls.filter(isChange);
   const found = [[0, isThere]];
@@ -374,8 +374,8 @@ function* around(it, key, call) {
   }
 }
 
-// Returns whether inverting the reply of a call makes the calls around it linearizable, which they are not as recorded. It is
-// enough if this holds among the changes of the key.
+// Returns whether some calls on the key are not linearizable with the recorded reply of `call`, but are linearizable with the
+// inverted reply. These calls are the changes of the key, or the calls around `call`.
 function isExpected(it, call) {
   const changes = knownBy(ofKey(it, call.key).filter((one) => isChange(one) && one !== call), call.ended);
   const fits = (one, others, isThere, left) => hasOrder([...others, one], call.key, isThere, left);
@@ -768,8 +768,8 @@ function isLost({ calls, opening, keys }, key) {
   return made("add") === 1 && made("remove") === 0 && !opening.includes(key) && !keys.includes(key);
 }
 
-// Returns whether two calls, or a call and the opening or final state of the key, contradict each other, and no other call can
-// have changed the key between them. `first` and `second` are descriptions of calls.
+// Returns whether `first` and `second` contradict each other: no other call can have changed the key between them. Each
+// describes a call; `first` can also be the key's opening state, and `second` its final state.
 function isToldSo(it, key, first, second) {
   const looks = it.calls.map((call) => ({ ...asLook(call), told: `${nameIn(call)} ${call.ended === null ? "is pending" : `answers ${call.reply}`}` }));
   const named = (told) => looks.filter((call) => call.key === key && call.told === told);

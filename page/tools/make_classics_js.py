@@ -16,7 +16,7 @@ def paragraph(section, title):
 
 
 def turns_of(section):
-    """Returns the numbers of the deciding events: the lines of the trace below the paragraph that announces them."""
+    """Returns the numbers of the deciding events. The page shows their trace lines below the answer to the question."""
     part = section.split("**Answer.**", 1)[1].split("**Without it.**", 1)[0]
     return [int(number) for number in re.findall(r"^    event (\d+) line ", part, re.M)]
 

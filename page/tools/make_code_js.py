@@ -39,8 +39,8 @@ def is_last(lines, number):
 
 
 def steps_of(found, lines):
-    """Yields the steps of a file. If several steps execute the same row, each of them states whether calls begin at its
-    line, and whether they return there."""
+    """Yields the steps of a file. If several steps execute the same row, each of them also states whether a call begins
+    at its line, and whether a call returns at its line."""
     rows = [row for *_, made in found for row in made]
     for number, step, made in found:
         told = {"line": number, "rows": made}

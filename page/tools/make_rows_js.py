@@ -1,5 +1,5 @@
-"""Makes made/rows.js from docs/TABLES.md, the step tables of the lists. It contains the texts that the page shows for a
-thread's row, and the properties of rows on which the page's sentences depend.
+"""Makes made/rows.js from docs/TABLES.md, the step tables of the lists. The made file contains the texts that the page
+shows for a thread's row, and the properties of rows on which the page's sentences depend.
 """
 import json
 import re

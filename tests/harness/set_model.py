@@ -8,7 +8,7 @@ CHANGES = ("add", "remove")  # the calls that change the set if they reply true
 
 
 def reply_of(word, key, keys, has_room=True):
-    """Returns the reply of a set with these keys. An `add` of a new key returns `full` unless its thread can add a key."""
+    """Returns the reply of a set with these keys. An `add` of an absent key returns `full` if `has_room` is false."""
     if word == "ceiling":
         above = [other for other in keys if other >= key]
         return f"at-{min(above)}" if above else "nothing"

@@ -44,7 +44,7 @@ fn sight(words: &[u64], action: Action) -> Option<u64> {
     }
 }
 
-/// Performs the write of `action`, if it writes: a store, or a compare-and-exchange that found the expected value.
+/// Performs the write of `action` if `action` is a store, or a compare-and-exchange that found the expected value.
 fn write(words: &mut Vec<u64>, action: Action, seen: u64) {
     let (word, value) = match action {
         Action::Store(word, value) => (word, value),
@@ -92,7 +92,7 @@ impl BrokenWorld {
         })
     }
 
-    /// Makes the next step of a thread. Returns `NoThread` if the thread does not exist, `Idle` if the thread has no
+    /// Executes the next step of a thread. Returns `NoThread` if the thread does not exist, `Idle` if the thread has no
     /// pending call, and `Lost` if the step would access a word that the list does not have.
     fn go(&mut self, thread: u32) -> Result<Told, Cause> {
         let broken = self.broken;

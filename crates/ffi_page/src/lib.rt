@@ -1,8 +1,8 @@
 //! The commands of `listset` as C functions for a web page: they read a text and return a text and the exit status.
 //!
-//! Each function writes the program's text (or a record with the same content), or the line about an error, to the start of
-//! `room`. It returns the length of the text in bytes and sets `status` to the program's exit status: 0; 1 if something is
-//! wrong with the text; 2 if a name is wrong; 3 if an allocation failed. If `room` is too short, nothing is written; call
+//! Each function writes the program's text (or a record with the same content), or the message about an error, to the start
+//! of `room`. It returns the length of the text in bytes and sets `status` to the program's exit status: 0; 1 if something
+//! is wrong with the text; 2 if a name is wrong; 3 if an allocation failed. If `room` is too short, nothing is written; call
 //! again with a buffer of the returned length. The functions keep no state. Only `listset_judge_from` and `listset_why_from`
 //! block.
 #![tactic(auto)]
@@ -36,7 +36,7 @@ use tool_judge::{judge_bytes, judge_input};
 use tool_replay::{Check, Expand, Replay, Trace};
 
 /// Replays a schedule and writes its report. If the text has an error, is longer than 67,108,864 bytes, or has an event
-/// that is not enabled, writes the line about the first error.
+/// that is not enabled, writes the message about the first error.
 #[unsafe(no_mangle)]
 pub extern "C" fn listset_replay(
     alloc: Global,
@@ -176,7 +176,7 @@ pub extern "C" fn listset_check_record(
 }
 
 /// Checks a report: writes `ok`, or the first error of its order with status 1. If the text has an error or is too
-/// long, writes the line about the first error.
+/// long, writes the message about the first error.
 #[unsafe(no_mangle)]
 pub extern "C" fn listset_check(
     alloc: Global,
@@ -226,7 +226,7 @@ pub extern "C" fn listset_trace_with_chains(
 
 /// Draws a schedule or a report and writes the picture as text. The status is 1 if the report's order is refused or an
 /// event of the schedule is not enabled; a schedule is drawn up to that event. If the text has an error or is too long,
-/// writes the line about the first error.
+/// writes the message about the first error.
 ///
 /// `options` contains the values of `--from`, `--to` and `--width`, in this order, separated by zero bytes. Each value
 /// follows a `=`. An option that is empty, or missing at the end, is not set. If an option is wrong, writes `listset:
@@ -280,7 +280,7 @@ pub extern "C" fn listset_lacking(
 }
 
 /// Expands a draft and writes the schedule. If the text has an error or is too long, or one of its lines cannot be
-/// expanded, writes the line about the first error.
+/// expanded, writes the message about the first error.
 #[unsafe(no_mangle)]
 pub extern "C" fn listset_draft(
     alloc: Global,

@@ -42,7 +42,7 @@ pub record HasCalledHeld (h : Held) (c : Call) (r : Option Reply) (h' : Held) : 
   pub keys : keys_in h' ≡ keys_in h
   pub called : CallsIn (table_in h) (set_in h) (seat_in h) c r (seat_in h')
 
--- States that the last call from a seat of a set made at most as many steps as the definition `most_reads` allows.
+-- States that the last call from a seat of a set took at most as many steps as the definition `most_reads` allows.
 abbrev pub HasReadOf : SetValue → Option SeatValue → Option SeatValue → Type 0
 HasReadOf set (Some old) (Some new) = HasMadeAtMost (most_reads (sizes set.shape)) (thread_of old.past) new.events
 HasReadOf set old new = ⊥

@@ -63,7 +63,7 @@ pub fn read_held(held: &mut Held, key: Key) -> Result<Reply, u8>
     reply.ok_or(NO_SEAT)
 }
 
-/// Returns a receipt for everything that the seat in `held` has seen, or `None` if `held` has no seat.
+/// Returns a receipt, which contains all events that the seat in `held` has seen. Returns `None` if `held` has no seat.
 pub fn receipt_held(held: &mut Held) -> Option<Held>
     ensures { IfSome result (λ given. HasNotedHeld held.old given held.new) }
 {

@@ -131,7 +131,7 @@ impl<M: Bounded> SeatOfSet<M> {
         None
     }
 
-    /// Returns a receipt for everything that this seat has seen, or `None` if the seat was lost.
+    /// Returns a receipt, which contains all events that this seat has seen. Returns `None` if the seat was lost.
     pub fn receipt(&mut self) -> Option<ReceiptOfSet<M>>
         ensures set { arc_value self.new.set ≡ arc_value self.old.set }
         ensures number { self.new.number ≡ self.old.number }

@@ -145,9 +145,9 @@ pub fn ceiling_at(alloc: Global, seat: &mut CSeat, key: u32, at: &mut u32) -> u8
     reply_code(reply)
 }
 
-/// Returns 1 if `key` is in the set, 0 if it is not, without blocking: whatever other threads do, the call makes at
-/// most `most_reads` steps. Makes no call and returns 254 on a coarse, fine or optimistic list, 255 if `seat` is empty,
-/// a receipt or a closed set. Does not allocate.
+/// Returns 1 if `key` is in the set, 0 if it is not, without blocking: whatever other threads do, the call takes at
+/// most `most_reads` steps. Returns 254 without a call on a coarse, fine or optimistic list, and 255 if `seat` is
+/// empty, a receipt or a closed set. Does not allocate.
 pub fn contains_key_now(alloc: Global, seat: &mut CSeat, key: u32) -> u8
     ensures made { result < 254 → HasMade seat.old.full seat.old.held (Contains (record { 0 = key })) result seat.new.full seat.new.held }
     ensures within { result < 254 → HasReadHeld seat.old.held seat.new.held }

@@ -56,8 +56,8 @@ trace_app = with_rule (with_rule (file_app (codes "trace")) (flag_rule (codes "c
 abbrev pub example_app : App
 example_app = with_rule (with_rule (new_app (codes "example")) (new_rule (codes "NAME"))) (flag_rule (codes "broken"))
 
--- Returns the rules of the command `gen KIND THREADS QUOTA CALLS KEYS SEED`, with this name. The rules of `run` extend
--- them.
+-- Returns the rules of a command with this name and the arguments KIND THREADS QUOTA CALLS KEYS SEED: of `gen`, or of
+-- `run`, which has further rules.
 abbrev pub six_values : Text → App
 six_values name =
     with_rule (with_rule (with_rule (with_rule (with_rule (with_rule (new_app name)
@@ -175,7 +175,7 @@ options_in rows = record {
   lacks = first_of (codes "lacks") rows;
 }
 
--- Returns the command with this name. A parse finds only the names in `listset`.
+-- Returns the command with this name. `name` must be one of the names in `listset`, as after a successful parse.
 unfoldable pub command_named : Text → Command
 command_named name =
     if bytes_eq name (codes "judge") then Judge

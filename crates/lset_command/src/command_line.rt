@@ -571,8 +571,8 @@ pub fn words_given<'a>(
     helps: Helps<'a>,
 ) -> Result<Words, Error>
     ensures taken { IfOk result (λ w. choice_in w ≡ choice_of (subcommand_of listset (texts words.entry.now))) }
-    // Succeeds only if clap's definition of a parse succeeds. The kind of an error is one that the definition states,
-    // or `OutOfMemory` if an allocation failed.
+    // Succeeds only if clap's definition of a parse succeeds. The kind of an error is the one that this definition
+    // states, or `OutOfMemory` if an allocation failed.
     ensures refused { FailsBy (fault_of listset (texts words.entry.now)) result }
 {
     let matches = program_command(alloc, helps)?.try_get_matches_from(words)?;

@@ -206,7 +206,7 @@ may_be : (quota count : ℕ) (call here : Call) (b : Bool) (c : Change) → here
 may_be quota count call here b (key, true) e m = (sym e ∙ m.0, refl, m.2)
 may_be quota count call here b (key, false) e m = (sym e ∙ m.0, refl)
 
--- Lemmas about the pending call `x` of the thread that makes the step.
+-- Lemmas about the pending call `x` of the thread that takes the step.
 module _ {r : Run} {k : ℕ} {change : Option Change} {reply : Option Reply} {x : TracedCall}
     (entry : r.log k ≡ stepped x.thread change reply)
     (s : Steps r.threads r.quota r.log r.contents r.counts k x.thread change reply) (none : x.ended ≡ None) (p : Traced r k x) where

@@ -226,8 +226,8 @@ module _ (op : Opening) (last : ℕ) (log : Log) (contents : Contents) (counts :
   Due j xs = (i t : ℕ) (change : Change) (reply : Option Reply) → j ≤ i → i < last → log i ≡ stepped t (Some change) reply
       → SomeOf (ChangesIn (suc i)) xs
 
-  -- A sequential set in its state of moment `j` returns the replies of all later calls if they are applied in their
-  -- sorted order. Proof by induction on the calls: the set does not change between two changes.
+  -- If all calls after moment `j` are applied in sorted order to the sequential set in its state of moment `j`, the set
+  -- returns their replies. Proof by induction on the calls: the set does not change between two changes.
   leads : (xs : List Standing) (j : ℕ) → j ≤ last → AllByRecursion Stands xs → Pairs ComesBefore xs → Late j xs → Due j xs
       → Leads op.quota (set_at op log j) (set_at op log last) xs
   leads [] j l s b late due = (tt, sym (quiet j last l due))

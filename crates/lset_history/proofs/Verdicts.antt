@@ -107,8 +107,8 @@ pub record StandsOnce (h : HistoryValue) (calls : List CallRecord) (order : List
   pub once : Passes (IsTwice order) order
   pub holds : MarksCalls marks order
 
--- States the result of the first three checks: as `StandsOnce`, and no completed call is missing. The sequential set
--- is still in its opening state.
+-- States the result of the first three checks: `StandsOnce` holds, and the order has every completed call. The
+-- sequential set is still in its opening state.
 pub record LeavesNoneOut (h : HistoryValue) (calls : List CallRecord) (order : List Placed) (marks : List Bool)
     (oracle : OracleValue) : Type 0 where
   pub stands_once : StandsOnce h calls order marks
@@ -142,7 +142,7 @@ pub missing_fault : (h : HistoryValue) (calls : List CallRecord) (order : List P
 missing_fault h calls order keys marks number s out =
     (passes_known h.calls order (rw s.calls_are at s.known), s.once, misses_first h.calls order marks number s.holds (rw s.calls_are at out))
 
--- Replaces the calls and the set of the loop by the history's own calls and the opening state of the set.
+-- Replaces the loop's calls by the calls of the history, and the loop's set by the set in its opening state.
 settled : (h : HistoryValue) (calls : List CallRecord) (order : List Placed) (marks : List Bool) (oracle : OracleValue)
     → LeavesNoneOut h calls order marks oracle → LeavesNoneOut h h.calls order marks (set_opened h.opening)
 settled h calls order marks oracle l =

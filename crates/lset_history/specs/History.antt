@@ -25,7 +25,7 @@ pub record IsLater (calls : List CallRecord) (at : ℕ) : Type 0 where
   pub begins : All (λ (x : CallRecord). x.begun < at) calls
   pub ends : All (λ (x : CallRecord). IfSome x.ended (λ (e : ℕ × Reply). e.0 < at)) calls
 
--- The conditions for a start of a call by `thread` at the moment `at`.
+-- The conditions under which `thread` can begin a call at the moment `at`.
 pub record MayBegin (h : HistoryValue) (thread at : ℕ) : Type 0 where
   pub of_a_thread : thread < h.opening.threads
   pub idle : has_open h.calls thread ≡ false

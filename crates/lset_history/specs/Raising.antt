@@ -25,9 +25,9 @@ is_against changes key (Some x) j moment =
     if nat_lt j key then false else if nat_lt x j then false else if x == j then not (is_present changes j moment)
     else is_present changes j moment
 
--- States the result of the search for the first moment when `found` is the smallest present key at or above `key`,
--- after the search has read the changes up to `last`. Each moment from `from` to just before `moment` has a
--- counterexample (see `is_against`). A counterexample at `moment` is also one at all later moments up to `last`.
+-- An intermediate result of the search for the first moment when `found` is the smallest present key at or above `key`.
+-- The search has read the changes up to `last`. Each moment from `from` to just before `moment` has a counterexample
+-- (see `is_against`). A counterexample at `moment` is also one at all later moments up to `last`.
 pub record IsCandidateUpTo (changes : ℕ → List ℕ) (key : ℕ) (found : Option ℕ) (from moment last : ℕ) : Type 0 where
   pub low : from ≤ moment
   pub before : (m : ℕ) → from ≤ m → m < moment → (j : ℕ) × (is_against changes key found j m ≡ true)

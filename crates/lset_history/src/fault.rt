@@ -38,8 +38,8 @@ pub enum OrderFault {
     /// This completed call is not in the order. If several calls are missing, the smallest number is reported.
     #[error("call {0} has ended and is not in the order")]
     Missing(u32),
-    /// The history has another reply for this call, or the sequential set returns another reply after the earlier
-    /// calls of the order.
+    /// The history has a different reply for this call, or the sequential set returns a different reply after the
+    /// earlier calls of the order.
     #[error("call {0} has another reply")]
     WrongReply(u32),
     /// In the order, this call comes before a call that had already ended when this call began.

@@ -1,5 +1,5 @@
--- Proof: if a key would have to change back between calls more often than it can, no order explains the calls, whatever
--- the other calls did.
+-- Proof: if a key would have to change back between calls more often than other calls can change it, no order explains
+-- the calls. This holds whatever the other calls did.
 use Rattle.std.proofs.Common.{◌≡◌, ◌≢◌, ℕ, zero, suc, ◌+◌, ◌<◌, ◌≤◌, ◌⊎◌, List, [], ◌∷◌, Bool, true, false, inl, inr, refl, sym, ap, ◌∙◌, arith, subst, length}
 use Rattle.std.proofs.Common.{◌-◌, drop, get_or, map, take}
 use Rattle.std.proofs.lemmas.Grind.{common_steps}
@@ -119,7 +119,7 @@ record Due (b left : Bool) (o c : Option ℕ) (us zs : List ℕ) (ys : List Act)
   closes : c ≡ None → left ≡ not b
   leave : (a : Act) → In a ys → has_key a.until us ≡ true → Later c us ys a → Leaves b a.does
   need : (t : Act) → In t ys → has_key t.until us ≡ true → Earlier o us ys t → Needs b t.does
-  -- If act a (the effect of a call) changes the key back between two counted acts, `zs` contains its end.
+  -- If act a (the effect of a call) changes the key back between two counted acts, `zs` contains the end of a.
   back : (a : Act) → In a ys → a.does ≡ changes (not b) → Earlier o us ys a → Later c us ys a → has_key a.until zs ≡ true
 
 module _ (b left : Bool) (c : Option ℕ) where
@@ -167,9 +167,9 @@ module _ (b left : Bool) (c : Option ℕ) where
             inl (inl (i.0, inr i.1, left_in i.0.until a.until us (subst (λ v. has_key v (take_out a.until us) ≡ true) (sym i.2) u.1), r.other, r.in_time)))
       ]
 
-  -- Bounds the number of counted acts if the opening state or an earlier act counts: at most the number of changes
-  -- back, plus one if the key is not in the state b. Between any two counted acts, the key must change back. (An act is
-  -- the effect of a call. The final state counts as an act if c is None.)
+  -- Bounds the number of counted acts if the opening state or an earlier act counts. There are at most as many as
+  -- changes back, plus one if the key is not in the state b: between any two counted acts, the key must change back.
+  -- (An act is the effect of a call. The final state counts as an act if c is None.)
   count_on : (s : Bool) (o : Option ℕ) (us zs : List ℕ) (ys : List Act) → o ≡ None → TakeTurns left s ys → Pairs Apart ys → Due b left o c us zs ys
       → length us + also c ≤ length zs + against b s
   count_on s o (u ∷ us) zs [] none turns pairs d = absurd (d.stand u (has_head u us)).1
@@ -539,7 +539,8 @@ is_count_if calls there left c counted listed backs known begin until opens clos
       backs = same;
     }
 
--- If some calls on a key are a count (too many calls for any order), no order explains the key's calls, with any quota.
+-- If some calls on a key are a count (too many calls for any order), no order explains the key's calls, whatever the
+-- quota is.
 pub count_has_none : (threads key : ℕ) (there : Presence) (left : Option Presence) (was : Presence) (since til : Option ℕ) (counted calls : List CallRecord)
     → IsHistory threads calls → IsCountOf calls key there left was since til counted → HaveNone threads key there left calls
 count_has_none threads key there left was since til counted calls history c quota keys leaves =

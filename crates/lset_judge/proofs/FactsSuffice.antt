@@ -1,4 +1,5 @@
--- Proof: the facts about the calls on a key suffice to find a clash of two calls that come one after the other.
+-- Proof: the stored facts about the calls on a key suffice to find two clashing calls if one of them ends before the
+-- other starts.
 use Rattle.std.proofs.Common.{inl, inr, ◌≡◌, ◌≢◌, ◌⊎◌, ℕ, ◌+◌, ◌<◌, ◌≤◌, true, false, List, [], ◌∷◌, ◌++◌, refl, sym, ap, ◌∙◌, arith, subst, get_or}
 use Rattle.std.proofs.Common.{append-nil, length-append}
 use Rattle.std.specs.Prelude.{Option, Some, None, IfSome, IsSome, is_some, IsSomeAnd, All, Contains, ◌-◌}
@@ -425,8 +426,8 @@ module _ (threads : ℕ) (opening : List ℕ) (calls : List CallRecord) (s t : S
         order None h = tt
         order (Some x) h = inl h
 
-    -- Suppose that the kept call and the new call left the key in different states. They clash if all changes to the
-    -- state that one of them left had ended when the other one started.
+    -- Suppose that the kept call and the new call left the key in different states. They clash if, for each of the two
+    -- calls, all changes to the state that it left had ended when the other call started.
     two_stand : (q : Presence) → f.was ≡ q → until_of (other q) f ≤ f.begun → leaves_if call.call call.ended ≡ Some (other q) → until_of q f ≤ call.begun
         → IsClashing f call
     two_stand q was stands leaves low =

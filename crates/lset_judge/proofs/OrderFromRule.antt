@@ -301,7 +301,8 @@ module _ (threads : ℕ) (calls : List CallRecord) (history : IsHistory threads 
       lists false false n low is at_end l =
           list_put false k m ks o n True (λ _ f. let g : changes true ≡ changes false = sym is ∙ f in cc) (l.lists false)
 
-  -- States that the order o contains the changes with which the judge's rule makes the event v of key k possible.
+  -- States that the order o already contains the changes that the judge's rule makes take effect before event v of key
+  -- k. After these changes, v is possible.
   pub record Settled (k m : ℕ) (v : Event) (t : State) (o : List Placed) : Type 0 where
     pub moved : Moved k m t o
     pub finds : fits (suc m) v t ≡ true

@@ -1,5 +1,5 @@
--- Proof: some order explains a history that the judge decides if and only if each key passes the judge's rule (the test
--- of one key's calls).
+-- Proof: if the judge decides a history, some order explains the history if and only if each key passes the judge's
+-- rule (the test of one key's calls).
 use Rattle.std.proofs.Common.{◌≡◌, ◌≢◌, ℕ, ◌+◌, List, [], ◌∷◌, ◌++◌, true, inl, inr, refl, sym, ap, ◌∙◌, arith, subst, get_or, map, Bool}
 use Rattle.std.specs.Prelude.{◌==◌, ◌&&◌, if◌then◌else◌, Option, Some, None, All, AllPairs, IfSome, set, sum_by, cond, Contains, length, ◌<◌, ◌≤◌, false}
 use Rattle.std.specs.List.Sorted.{IsStrictlyIncreasing}

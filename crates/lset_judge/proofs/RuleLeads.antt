@@ -158,8 +158,8 @@ timeline_turns b false m gt st e gp gk sp sk l h =
     further true y = let f = fewer sp gp (l.lists true) in omega (arith, y, f)
     further false y = let t = taken_length e sp h in let f = fewer sp gp (l.lists true) in omega (arith, t, f)
 
--- States that the judge's rule makes one change take effect in its state g. The new state is still at least as good as
--- s, the state of a timeline. A timeline is a choice of the moments when changes take effect.
+-- States that in its state g, the judge's rule makes one change take effect. The new state is at least as good as s,
+-- the state of a timeline. A timeline is a choice of the moments when changes take effect.
 pub record Turns (m : ℕ) (g s : State) : Type 0 where
   pub state : State
   pub is : turned_if m g (options g) ≡ Some state
@@ -266,7 +266,7 @@ more w (begins u end) ss gs h = elim (cases_Bool (same w u)) [
 ]
 more w v ss gs h = h
 
--- A change that starts adds one pending change for both the judge's rule and the timeline. A timeline is a choice of
+-- When a change starts, both the judge's rule and the timeline get one more pending change. A timeline is a choice of
 -- the moments when changes take effect.
 alike : (w : Bool) (v : Event) (ss gs : List ℕ) → length (entering w v gs) + length ss ≡ length (entering w v ss) + length gs
 alike w (begins u end) ss gs = elim (cases_Bool (same w u)) [

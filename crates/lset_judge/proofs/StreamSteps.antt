@@ -1,5 +1,5 @@
--- Proofs about the events of the recorded calls between the starts of two calls: before the next end of a pending call,
--- at this end, and at the next start.
+-- Proofs about the events of the recorded calls from the start of a call to the start of the next. They treat three
+-- periods: the moments before the next end of a pending call, this end, and the next start.
 use Rattle.std.proofs.Common.{◌≡◌, ◌≢◌, ℕ, suc, ◌+◌, ◌-◌, ◌<◌, ◌≤◌, List, [], ◌∷◌, ◌++◌, refl, sym, ap, ◌∙◌, arith, subst}
 use Rattle.std.proofs.Common.{◌⊎◌, Bool, zero, inl, inr, length, get_or}
 use Rattle.std.specs.Prelude.{◌==◌, if◌then◌else◌, Option, Some, None, IfSome, All, AllPairs, Contains}

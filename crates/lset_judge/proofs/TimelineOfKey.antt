@@ -1,5 +1,5 @@
--- Proof: an order of the effects of a key's calls (the acts) determines a correct timeline of the key: a choice of the
--- moments when its changes take effect.
+-- Proof: an order of the acts of a key (the effects of its calls) determines a correct timeline of the key. A timeline
+-- is a choice of the moments when the key's changes take effect.
 use Rattle.std.proofs.Common.{◌≡◌, ◌≢◌, ℕ, zero, suc, ◌<◌, ◌≤◌, ◌⊎◌, List, [], ◌∷◌, Bool, true, false, inl, inr, refl, sym, ap, ◌∙◌, arith}
 use Rattle.std.proofs.Common.{subst, length}
 use Rattle.std.specs.Prelude.{◌==◌, ◌||◌, not, nat_lt, Some, is_some}

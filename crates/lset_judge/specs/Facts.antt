@@ -133,7 +133,7 @@ abbrev pub ServesAsWell : StreamCall → Facts → Type 0
 ServesAsWell call f = IfSome call.ended (λ (e : ℕ × Reply). is_plain call.call e.1 ≡ true) → (p : Presence) → leaves_if call.call call.ended ≡ Some p
     → until_of (other p) f ≤ call.begun → (f.was ≡ p) × (until_of (other p) f ≤ f.begun)
 
--- States that the facts stay the same at the end of `call`, since their kept call (the stored one) is at least as
+-- States that the facts stay the same at the end of `call`, because the call that they already store is at least as
 -- useful.
 pub record IsUnchanged (call : StreamCall) (old new : Facts) : Type 0 where
   pub same : new ≡ old
@@ -253,8 +253,8 @@ pub record IsClashing (f : Facts) (call : StreamCall) : Type 0 where
 abbrev pub clash_with : ℕ → Facts → Option StreamCall → Clash
 clash_with key f second = record { was = f.was; first = first_of key f; second = second }
 
--- States that c is a clash according to the stored facts f: no order can contain both its calls. `call` is its second
--- call.
+-- States that c is a clash according to the stored facts f: no order can contain both of its calls. `call` is its
+-- second call.
 pub record IsFound (f : Facts) (call : StreamCall) (c : Clash) : Type 0 where
   pub is : c ≡ clash_with (key_of call.call).0 f (Some call)
   pub clashing : IsClashing f call

@@ -47,7 +47,7 @@ adds_of thread calls = count_by (λ (x : CallRecord). may_add x.call x.ended && 
 abbrev pub IsPlain : List CallRecord → Type 0
 IsPlain calls = All (λ (x : CallRecord). IfSome x.ended (λ (e : ℕ × Reply). is_plain x.call e.1 ≡ true)) calls
 
--- States that the judge decides the history h. Each completed call is no `ceiling` and returned true or false. The
+-- States that the judge decides the history h. No completed call is a `ceiling`, and each returned true or false. The
 -- quota covers all `add`s of each thread that returned true or are pending.
 pub record IsJudged (h : HistoryValue) : Type 0 where
   pub plain : IsPlain h.calls
@@ -84,6 +84,6 @@ IsRefusedBy h keys key (Some moment) = (quota : ℕ) (left : List ℕ) → IsUne
 IsRefusedBy h keys key None = (quota : ℕ) (left : List ℕ) → has_key key left ≡ has_key key keys
     → IsUnexplained (of_key key (latest_moment h.calls) (with_quota quota h)) left
 
--- Returns the history with a quota that is never used up: the number of calls.
+-- Returns the history with the number of calls as its quota. Such a quota is never used up.
 abbrev pub without_quota : HistoryValue → HistoryValue
 without_quota h = with_quota (length h.calls) h

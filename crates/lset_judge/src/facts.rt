@@ -183,8 +183,8 @@ impl KeyState {
     }
 
     /// Returns whether a completed call that started at `begun` and left the key in the state `was` replaces the stored
-    /// call. It does so only if all changes to the other state had ended by `begun`. If the stored call left the same
-    /// state and all these changes had ended when it started, the stored call stays.
+    /// call. The new call replaces the stored one if all changes to the other state had ended by `begun`. But the
+    /// stored call stays if it left the same state, and all these changes had ended when it started.
     fn is_to_be_kept(&self, begun: u64, was: Presence) -> bool
         ensures kept { IsTrue result → (until_of (other was) (facts_of self.now) ≤ begun)
             × (self.now.was ≡ was → until_of (other was) (facts_of self.now) ≤ self.now.begun → ⊥) }

@@ -1,4 +1,5 @@
-//! The histories that the judge decides exactly. For these it finds out whether some order explains the calls.
+//! The histories that the judge decides exactly. For these histories, the judge finds out whether some order explains
+//! the calls.
 
 ghost use Rattle.std.specs.Prelude.{◌≡◌, ◌≤◌, ℕ, IsTrue, ◌↔◌, All, IfSome, true};
 ghost use Rattle.lset_judge.specs.Verdict.{is_plain, may_add, adds_of, IsPlain, IsJudged};

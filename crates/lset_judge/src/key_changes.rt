@@ -246,9 +246,9 @@ impl KeyChanges {
         }
     }
 
-    /// Raises `puts_until` to `end` if `puts_until` is smaller. Without heaps, this also changes the end of a pending
-    /// `add`, which is `puts_until`. Call this function only if the changes are in heaps, or after the judge has found
-    /// that no order exists.
+    /// Raises `puts_until` to `end` if `puts_until` is smaller. If the changes are not in heaps, `puts_until` is also
+    /// the end of the one pending `add`, so this end changes too. Therefore call this function only if the changes are
+    /// in heaps, or after the judge has found that no order exists.
     pub(crate) fn raise_puts(&mut self, end: u64)
         ensures puts { is_many self.old.held ≡ true → puts_in self.new ≡ puts_in self.old }
         ensures takes { takes_in self.new ≡ takes_in self.old }

@@ -3,7 +3,8 @@
 
 use crate::stream::BEHIND_ALL;
 
-/// The changes of a key that have an end: how many are pending, and when the last completed change ended.
+/// The changes of a key that end at some moment: how many of them are pending now, and when the last completed one
+/// ended.
 #[derive(Clone, Copy)]
 pub(crate) struct Changes {
     pending: u64,
@@ -43,8 +44,8 @@ impl Changes {
         self.last_end = moment;
     }
 
-    /// Returns whether a pending call overlaps another call that is a change of its key. `is_change` must be true if
-    /// the call itself is a change with an end. `begun` is when the call started.
+    /// Returns whether a pending call overlaps a change of its key by another call. `is_change` must be true if the
+    /// pending call itself is a change with an end. `begun` is when the pending call started.
     pub(crate) fn overlap(self, is_change: bool, begun: u64) -> bool {
         self.pending > u64::from(is_change) || begun < self.last_end
     }

@@ -90,8 +90,8 @@ impl Judge {
         self.stream.add(call)
     }
 
-    /// Returns how many calls overlap another call on the same key that is an `add` or a `remove` and returned true.
-    /// The number can be wrong if no order explains the calls.
+    /// Returns how many calls overlap another call that changed the same key (an `add` or a `remove` that returned
+    /// true). The number can be wrong if no order explains the calls.
     pub fn overlapped(&self) -> u64 {
         self.stream.overlapped()
     }

@@ -669,7 +669,7 @@ impl Stream {
             .saturating_add(self.pending.overlapping(&self.states, self.moment))
     }
 
-    /// Processes the ends of all pending calls that have an end.
+    /// Processes all remaining ends of calls. Calls without an end stay pending.
     pub(crate) fn come_to_end(&mut self) -> Result<(), AllocError>
         ensures kept { OnOk result ((threads : ℕ) (opening : List ℕ) (calls : List RecordedCall) → IsStreamKept threads opening calls self.old
             → IsStreamKept threads opening calls self.new) }

@@ -22,8 +22,8 @@ pub(crate) struct Stretch {
     /// The start of this stretch of time. `None` if the set opened with the key in the state `was`: the opening state
     /// then counts as a call.
     pub(crate) since: Option<u64>,
-    /// The end of this stretch of time. `None` if the key's final state is not `was`: the final state then counts as a
-    /// call.
+    /// The end of this stretch of time. `None` if the key's final state is not `was`. In this case, the final state
+    /// counts as a call.
     pub(crate) until: Option<u64>,
 }
 

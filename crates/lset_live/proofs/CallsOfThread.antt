@@ -59,7 +59,7 @@ module _ (m : ℕ) (ch : Option Change) (a : Option Reply) where
           (of_thread u (map record_of (map (on t) xs)))) not
           ∙ (ih ∙ sym (ap (λ b. cond b (record_of x ∷ of_thread u (map record_of xs)) (of_thread u (map record_of xs))) not))
 
-  -- ---- A step of thread u changes its pending call or ends it
+  -- ---- A step of thread u changes or ends the pending call of u
   abbrev ends : CallRecord → CallRecord
   ends x = if is_none x.ended then record x { ended = ended_by m a } else x
 

@@ -123,7 +123,7 @@ module _ (v : View) (ord : IsOrdered v) where
   unfolding IsDistinct
   one_more a ns out d = (out, d)
 
-  -- The nodes ns before the current node, the current node itself and the tail are different nodes. Therefore the list
+  -- The nodes ns before the current node, the current node itself and the tail are all different. Therefore the list
   -- has at least two more nodes than ns.
   few_nodes : (n : ℕ) → ((i : ℕ) → v.published i → i < n) → (ns : List ℕ) (curr : ℕ) → v.published curr → curr ≢ 1
       → Segment v 0 ns curr → length ns + 2 ≤ n

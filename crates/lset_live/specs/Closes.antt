@@ -9,8 +9,7 @@ use Rattle.lset_steps.specs.Steps.{Table}
 use Rattle.lset_steps.specs.Laws.{Lawful}
 use Rattle.lset_rule.specs.Runs.{end_of, IsRunOf}
 
--- The words of a closed set, as its threads have left them, and the sizes of the set (threads, quota, number of opening
--- keys).
+-- The final words of a closed set, and the sizes of the set (threads, quota, number of opening keys).
 pub record LastWords : Type 0 where
   pub sizes : Sizes
   pub words : List ℕ

@@ -321,7 +321,7 @@ impl<M: Machine> LiveSet<M> {
 impl<M: OpenContains> LiveSet<M> {
     /// Returns whether `key` is in the set, without blocking or allocating. `seat` must belong to this set.
     ///
-    /// The call is wait-free: whatever other threads do, it makes at most `bound` steps, each of them a load
+    /// The call is wait-free: whatever other threads do, it takes at most `bound` steps, each of them a load
     /// (`lset_steps::OpenReads`). Unlike `contains_now`, this function also exists for lists that are not `Running`.
     pub fn contains_within_bound(&self, seat: &mut Seat<M>, key: Key) -> bool
         requires { seat.old.set ≡ self.now }

@@ -38,8 +38,8 @@ pub record MayStep (m : Table) (b : Begun) (a : Action) (s : TableSeat) : Type 0
   pub acts : a ≡ m.next held
   pub goes_on : (n : ℕ) → (m.feed held n).answer ≡ None
 
--- States that the step from seat s to s' saw the value n in its word, and that call b is now at the row of the step
--- table that follows for this value.
+-- States that the step from seat s to s' saw the value n in its word. According to the step table, call b is now at the
+-- row that follows for this value.
 pub record HasStepped (m : Table) (b : Begun) (s : TableSeat) (n : ℕ) (s' : TableSeat) : Type 0 where
   pub leads : (l : Local) → Holds m b l s → Holds m b (m.feed l n).local s'
 
@@ -62,8 +62,8 @@ abbrev pub feeds : Table → Local → List (ℕ × ℕ) → Local
 feeds m l [] = l
 feeds m l ((word, value) ∷ more) = feeds m (m.feed l value).local more
 
--- States that a thread in the private state `l` makes these stores, given as (word, value) pairs, as its next steps
--- according to the step table, and that no store ends the call.
+-- States that according to the step table, a thread in the private state `l` makes these stores in its next steps, and
+-- that no store ends the call. The stores are given as (word, value) pairs.
 abbrev pub Stores : Table → Local → List (ℕ × ℕ) → Type 0
 Stores m l [] = Unit {0}
 Stores m l ((word, value) ∷ more) = (Store word value ≡ m.next l) × ((n : ℕ) → (m.feed l n).answer ≡ None)
@@ -81,8 +81,8 @@ pub record HasStored (m : Table) (b : Begun) (stores : List (ℕ × ℕ)) (s s' 
 abbrev pub slot_stores : OwnSlots → ℕ → ℕ → List (ℕ × ℕ)
 slot_stores own word x = (key_index (slot own), word) ∷ (link_index (slot own), 2 * x) ∷ []
 
--- Returns the stores that write the key `word` into the thread's next unused node (its slot) and link it between nodes
--- p and x.
+-- Returns the stores that write the key `word` into the thread's next unused node (its slot) and link this node between
+-- nodes p and x.
 abbrev pub put_stores : OwnSlots → ℕ → ℕ → ℕ → List (ℕ × ℕ)
 put_stores own word p x = (key_index (slot own), word) ∷ (link_index (slot own), 2 * x) ∷ (link_index p, 2 * slot own) ∷ []
 
@@ -164,7 +164,7 @@ Decides c own word d = (t : Targets) (l : Local) → l.call ≡ c → l.used ≡
 abbrev pub one_more : OwnSlots → OwnSlots
 one_more own = record own { used = own.used + 1 }
 
--- States that call b has ended. `answer` contains the slots of the thread after the call (nodes for the keys that it
--- adds), and the reply.
+-- States that call b has ended. `answer` contains the slots of the thread after the call (nodes for the keys that the
+-- thread adds), and the reply.
 abbrev pub HasAnswered : Table → Begun → OwnSlots × Reply → TableSeat → Type 0
 HasAnswered m b answer s = (l : Local) × Answered m b answer.1 l s × (answer.0 ≡ slots_of l)

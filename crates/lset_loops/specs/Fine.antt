@@ -24,6 +24,6 @@ abbrev pub StopsAt : Begun → OwnSlots → Found → TableSeat → Type 0
 StopsAt b own f s = (j : Rest) × Holds fine b (decided_on targets f.word (row own b.call 4 None f.pred.number f.curr.number j)) s
 
 -- States that the call is about to release the locks of the two nodes in f and then to end. `answer` contains the slots
--- of the thread after the call (nodes for the keys that it adds), and the reply.
+-- of the thread after the call (nodes for the keys that the thread adds), and the reply.
 abbrev pub Leaves : Begun → Found → OwnSlots × Reply → TableSeat → Type 0
 Leaves b f answer s = (j : Rest) × Holds fine b (row answer.0 b.call 12 (Some answer.1) f.pred.number f.curr.number j) s

@@ -90,8 +90,8 @@ fn side_of(standing: Standing, drawing: &Drawing) -> Option<Side> {
     }
 }
 
-/// Returns whether to print the entry `place`, which has no call in the history: only if all moments are drawn, or if
-/// the order was rejected because of this entry's call.
+/// Returns whether to print the entry `place`, which has no call in the history. The entry is printed only if all
+/// moments are drawn, or if the order was rejected because of this entry's call.
 fn is_told(picture: &Picture, drawing: &Drawing, place: Placed) -> bool {
     match &picture.refusal {
         _ if !drawing.is_cut() => true,

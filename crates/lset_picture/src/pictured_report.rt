@@ -27,7 +27,7 @@ fn first_points(
 }
 
 /// Returns the picture of a report. If the order explains the history and leaves exactly the final keys, each entry has
-/// a linearization point. Otherwise the picture has no linearization points, but the error that `check_order` finds.
+/// a linearization point. Otherwise the picture has the error that `check_order` finds, and no linearization points.
 ///
 /// Needs about as much time as `check_order`. Returns `AllocError` if an allocation fails. (Such pictures of histories
 /// are due to Herlihy and Wing.)

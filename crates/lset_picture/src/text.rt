@@ -197,7 +197,7 @@ fn fitted(
     Ok(drawing)
 }
 
-/// Writes the range of drawn moments unless all moments are drawn, and then the rows. Writes nothing for a history
+/// Writes the rows, below the range of drawn moments if some moments are not drawn. Writes nothing for a history
 /// without calls.
 fn put_drawn_rows(
     alloc: Global,

@@ -1,6 +1,6 @@
 -- Proof: freedom from livelock implies freedom from deadlock. If a thread's next step is not a failed attempt to take a
--- lock, this remains true until another thread makes a counted step (a step that is not such an attempt). Therefore, in
--- a fair run, counted steps are made again and again.
+-- lock, this remains true until some thread takes a counted step (a step that is not such an attempt). Therefore a fair
+-- run has a counted step again and again.
 use Rattle.std.specs.Prelude.{◌≡◌, ◌≢◌, ℕ, ◌+◌, ◌-◌, ◌/◌, ◌%◌, ◌<◌, ◌≤◌, ◌⊎◌, true, false, List, Option, Some, None}
 use Rattle.std.specs.Prelude.{if◌then◌else◌, ◌==◌, nat_lt, slice_index, slice_set, refl}
 use Rattle.std.proofs.Common.{arith, inl, inr, sym, ◌∙◌, ap, subst, zero, suc}
@@ -146,8 +146,8 @@ module _ (T : Table) (law : Lawful T) (S : Shape) (most : Sizes → ℕ) (shows 
       → moves calls T s (Go v) ≡ unless_failed s.words (T.next (local_of s v)) n
   weight_of s v n e = ap (unless_failed s.words (T.next (local_of s v))) e
 
-  -- Thread u is ready: its next step, which it has not made yet, is not a failed attempt to take a lock. Until u makes
-  -- this step, each event is a counted step or leaves u ready.
+  -- Thread u is ready if its next step is not a failed attempt to take a lock. Until u takes this step, each event is a
+  -- counted step or leaves u ready.
   module _ (m : ℕ) (again : (k t : ℕ) → Busy k t → Gather m k) (u : ℕ) where
     record Ready (k : ℕ) : Type 0 where
       busy : Busy k u
@@ -174,7 +174,8 @@ module _ (T : Table) (law : Lawful T) (S : Shape) (most : Sizes → ℕ) (shows 
     mine_counts : (k : ℕ) → Ready k → moves calls T (state_at T op es k) (Go u) ≡ 1
     mine_counts k g = weight_of _ u 1 g.busy.meant ∙ gets_weight _ (T.next _) g.gets_on.tries
 
-    -- The step from moment k + 1 back to k, by cases: the next event is a counted step, or it changes no shared word.
+    -- Concludes from moment k + 1 back to moment k. There are two cases: the next event is a counted step, or it
+    -- changes no shared word.
     by_event : (k : ℕ) → Ready k → (Ready (suc k) → Gather (suc m) (suc k)) → (e : Event) → es k ≡ e
         → Enabled (state_at T op es k) e → Gather (suc m) k
     by_event k g rest (Begin t c) ee en =

@@ -1,6 +1,6 @@
--- Proofs by two runs that are written out. In each run, two threads hinder each other forever. The first run has two
--- adds in a broken list without locks, which is therefore not lock-free. The second run has an add and a remove in a
--- broken list with locks, which is therefore free neither from livelock nor from deadlock.
+-- Proofs by two runs that are written out. In each run, two threads hinder each other forever. In the first run, two
+-- adds call a broken list without locks, so this list is not lock-free. In the second run, an add and a remove call a
+-- broken list with locks, so this list is free neither from livelock nor from deadlock.
 use Rattle.std.specs.Prelude.{◌≡◌, ℕ, ◌<◌, Bool, List, [], ◌∷◌, refl}
 use Rattle.std.proofs.Common.{arith, zero, suc}
 use Rattle.lset_words.specs.declared.Call.TheVariants.{Add, Remove}

@@ -50,8 +50,8 @@ abbrev pub left : ℕ → (ℕ → ℕ) → Local → ℕ
 left size key l = get_or (0 ∷ (2 * size + 1) ∷ (2 * rest_by size key l.curr + 4) ∷ (2 * rest_by size key l.curr + 3)
     ∷ (2 * rest_by size key l.curr + 3) ∷ 2 ∷ 1 ∷ 0 ∷ 2 ∷ 1 ∷ 0 ∷ []) l.pc (reads_left size key l)
 
--- States that the exchanges of the call's walk will succeed if no other thread makes a step: pred is not marked, and
--- curr is the next node.
+-- States that the exchanges of the call's walk will succeed if no other thread takes a step. While the walk uses pred,
+-- pred is not marked and curr is the node after pred.
 pub record Valid (link : ℕ → ℕ) (l : Local) : Type 0 where
   pub follows : 2 ≤ l.pc → l.pc ≤ 7 → link l.pred ≡ 2 * l.curr
   -- At rows 4 and 9 of the step table, curr is not marked and succ is the next node. At row 8, curr is not marked.

@@ -1,6 +1,7 @@
 -- Proof: LockFreeList is lock-free. As long as no call ends, no node is added. Therefore each thread marks at most one
--- node, and each node is unlinked at most once. Between two such exchanges, each thread makes at most the steps of its
--- current walk and of one additional walk. A potential, computed from these numbers, decreases with each counted step.
+-- node, and each node is unlinked at most once. Between two exchanges that mark or unlink a node, each thread takes at
+-- most the steps of its current walk and of one additional walk. A potential, computed from these numbers, decreases
+-- with each counted step.
 use Rattle.std.specs.Prelude.{◌≡◌, ◌≢◌, ℕ, ◌+◌, ◌*◌, ◌%◌, ◌<◌, ◌≤◌, ◌⊎◌, Bool, true, List, if◌then◌else◌, ◌==◌, refl}
 use Rattle.std.proofs.Common.{arith, inl, inr, sym, ◌∙◌, ap, subst, suc}
 use Rattle.lset_words.proofs.Numbers.{same_or_not, if_same, if_other}

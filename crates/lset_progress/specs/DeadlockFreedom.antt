@@ -37,7 +37,7 @@ IsLivelockFree calls T most = EndsAmong (moves calls T) T most
 abbrev pub each_call : Call → ℕ
 each_call call = 1
 
--- [Fair run]: states that the events are an infinite run, and that every thread with a pending call makes another step
+-- [Fair run]: states that the events are an infinite run, and that every thread with a pending call takes another step
 -- later.
 pub record IsFair (T : Table) (op : Opening) (es : ℕ → Event) : Type 0 where
   pub run : (n : ℕ) → Run T op es n
@@ -51,7 +51,7 @@ IsDeadlockFree calls T = (op : Opening) (k t : ℕ) (es : ℕ → Event) → IsF
     → (n : ℕ) × SomeEnds (moves calls T) T op es k n
 
 -- Returns the maximum number of counted steps of n threads until a call ends. A step is counted if it is not a failed
--- attempt to take a lock. After a call has decided what to change, it makes at most 5 steps. Between two such steps of
--- any threads, each thread makes at most `most` steps, the maximum for a call that runs alone.
+-- attempt to take a lock. After a call has decided what to change, it takes at most 5 steps. Between two such steps of
+-- any threads, each thread takes at most `most` steps, the maximum for a call that runs alone.
 abbrev pub lock_window : (Sizes → ℕ) → Sizes → ℕ
 lock_window most sz = sz.threads * most sz * (5 * sz.threads + 1)

@@ -30,7 +30,7 @@ NoOtherHolds sz s t = (u x : ℕ) → u < sz.threads → u ≢ t → Holds sz s 
 abbrev pub Answers : Table → State → ℕ → Type 0
 Answers T s t = (reply : Reply) × ((told T s (Go t)).answer ≡ Some reply)
 
--- [Ends alone]: states that if only thread t makes steps, its call ends within n steps.
+-- [Ends alone]: states that if only thread t takes steps, its call ends within n steps.
 abbrev pub EndsAlone : Table → State → ℕ → ℕ → Type 0
 EndsAlone T s t zero = ⊥
 EndsAlone T s t (suc n) = Enabled s (Go t) × (Answers T s t ⊎ EndsAlone T (after T s (Go t)) t n)
@@ -139,9 +139,9 @@ optimistic_steps sz = 8 * node_count sz + 9
 abbrev pub lock_free_steps : Sizes → ℕ
 lock_free_steps sz = 4 * node_count sz + 5
 
--- The maximum number of counted steps until a call of LockFreeList ends: the steps of each thread's pending call and,
--- for each successful exchange that ends no call, one additional walk of each thread. Few exchanges are of this kind,
--- since each thread marks at most one node, and each node is unlinked at most once.
+-- The maximum number of counted steps until a call of LockFreeList ends. Each thread takes at most the steps of its
+-- pending call and, after each successful exchange that ends no call, of one additional walk. There are few such
+-- exchanges, since each thread marks at most one node, and each node is unlinked at most once.
 abbrev pub lock_free_window : Sizes → ℕ
 lock_free_window sz =
     sz.threads * (2 * node_count sz + 2) * (node_count sz + sz.threads) + sz.threads * lock_free_steps sz

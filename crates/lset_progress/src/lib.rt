@@ -113,7 +113,7 @@ pub fn coarse_list_is_deadlock_free()
     ensures { IsDeadlockFree each_call coarse }
 {}
 
-/// Theorem: if a call of a FineList is pending, some thread can make a step that is not a failed attempt to take a
+/// Theorem: if a call of a FineList is pending, some thread can take a step that is not a failed attempt to take a
 /// lock, since all threads lock nodes in the order of the list. (The order is Herlihy and Shavit's.)
 #[tactic(auto, using(crate::proofs::FineProgress::fine_gets_on))]
 pub fn some_fine_call_gets_on()
@@ -148,7 +148,7 @@ pub fn optimistic_list_is_livelock_free()
     ensures { IsLivelockFree each_call optimistic (lock_window optimistic_steps) }
 {}
 
-/// Theorem: in a fair run of an OptimisticList (every thread with a pending call makes another step later), whenever a
+/// Theorem: in a fair run of an OptimisticList (every thread with a pending call takes another step later), whenever a
 /// call is pending, some call ends later. (Freedom from deadlock, as Herlihy and Shavit define it.)
 #[tactic(auto, using(crate::proofs::OptimisticProgress::optimistic_deadlock_free))]
 pub fn optimistic_list_is_deadlock_free()

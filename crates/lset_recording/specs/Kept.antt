@@ -63,8 +63,8 @@ IsFirst part.Calls judge = Unit {0}
 IsFirst part.Keys judge = Unit {0}
 IsFirst part.Done judge = Unit {0}
 
--- States that the reader's state j is correct after lines that led to the state s: its section, its recording and the
--- number of the next line.
+-- States that the reader's state j is correct after lines that led to the state s. Its section, its recording and its
+-- number of the next line must agree with s.
 pub record IsJudging (s : SoFar) (j : Judging) : Type 0 where
   pub kept : IsKept s.told j
   pub section : j.section ≡ s.section

@@ -181,8 +181,8 @@ impl Judging {
         }
     }
 
-    /// Accepts a line of a kind that the current section of the recording allows. If the line contradicts the recording
-    /// so far, returns the cause.
+    /// Adds a line to the recording so far, and continues with the next line. The current section must allow lines of
+    /// this kind. If the line contradicts the recording so far, returns the cause.
     #[inline(always)]
     pub(crate) fn put(&mut self, line: Line) -> Result<(), Cause>
         requires { IsFormed line }

@@ -182,8 +182,8 @@ following r number x l = if is_next r number x then Ok l else Err wrong.History
 abbrev pub increasing : ReportValue → ℕ → ReportLine → Result ReportLine Cause
 increasing r k l = if is_above r.history.opening.keys k then Ok l else Err wrong.Opening
 
--- Returns the line if it can follow the report r: the section of the line is not full, an opening key is greater than
--- the previous opening key, and a call can follow the previous calls. Otherwise returns the cause of the error.
+-- Returns the line if it can follow the report r, otherwise the cause of the error. The section of the line must not be
+-- full. An opening key must be greater than the previous one, and a call must be able to follow the previous calls.
 abbrev pub judged : ReportValue → ReportLine → Result ReportLine Cause
 judged r (told.Opening k) = counted MOST_OPENING (length r.history.opening.keys) (told.Opening k) >>= increasing r k
 judged r (told.Call number x) = counted MOST_CALLS (length r.history.calls) (told.Call number x) >>= following r number x

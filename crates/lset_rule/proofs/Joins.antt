@@ -1,6 +1,6 @@
 -- Proof: splitting and joining seats, and issuing and using receipts, preserve the invariant of the shared words and
--- all seats. A seat is the right to call as one thread. A receipt carries the events that a seat has seen to another
--- seat.
+-- all seats. A seat is the right to call as one thread. A receipt contains the events that a seat has seen, and is used
+-- by another seat.
 use Rattle.std.proofs.Common.{◌≡◌, ◌≢◌, ◌⊎◌, inl, inr, ⊎_elim, ℕ, ◌+◌, ◌<◌, ◌≤◌, ◌==◌, Bool, true, false, cond, List}
 use Rattle.std.proofs.Common.{[], ◌∷◌, ◌++◌, length, set, nat_le, Option, None, refl, sym, ap, ◌∙◌, subst, arith, rules, tests}
 use Rattle.std.proofs.Common.{append-nil, eq-eqb, ne_eqb}

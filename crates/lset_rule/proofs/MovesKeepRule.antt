@@ -47,7 +47,7 @@ module _ (m : Table) where
   still k log so j v f t h = ap (λ l. at_end m k l t) f.is ∙ still_quiet m k v v.seen f.rest t h f.quiet
 
   -- A view (a seat's knowledge of the run) still matches the events after event e is appended, if a thread of another
-  -- view made e.
+  -- seat executed e.
   pub others_fit : (k : Opening) (log : List Event) (so : ℕ → ℕ) (j : ℕ) (v : View) (e : Event) → ¬ (HasThread v (thread_of e)) →
       MatchesLog m k log so j v → MatchesLog m k (log ++ e ∷ []) so j v
   others_fit k log so j v e other f = record {

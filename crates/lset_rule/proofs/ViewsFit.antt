@@ -43,8 +43,8 @@ module _ {A : Type 0} where
   set_twice (x ∷ xs) zero a b = refl
   set_twice (x ∷ xs) (suc i) a b = ap (λ l. x ∷ l) (set_twice xs i a b)
 
--- Thread t is still in view j (a seat's knowledge of the run) after another view has changed, after view j has changed
--- but kept the thread, and after a view has been added.
+-- Three lemmas: thread t still belongs to view j (a seat's knowledge of the run) after a change of another view, after
+-- a change of view j that keeps the thread, and after a view is added.
 pub stands_else : (views : List View) (id j t : ℕ) (w : View) → j ≢ id → StandsIn views j t → StandsIn (set views id w) j t
 stands_else views id j t w ne st = (st.0, set_else views id j w ne ∙ st.1, st.2, st.3)
 

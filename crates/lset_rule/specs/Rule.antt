@@ -1,7 +1,7 @@
 -- The invariant of a list on shared words (the code calls it the rule). It holds between any two steps: some list of
 -- events is a run that ends with the words in memory, and the view of each seat (its knowledge of the run) matches
--- these events. A seat is the right to call as one thread. A receipt carries the events that a seat has seen to
--- another seat. The definitions after `Holds` are the views after actions that are not events: opening a set,
+-- these events. A seat is the right to call as one thread. A receipt contains the events that a seat has seen, and is
+-- used by another seat. The definitions after `Holds` are the views after actions that are not events: opening a set,
 -- splitting and joining seats, and issuing and using receipts.
 use Rattle.std.specs.Prelude.{◌≡◌, ℕ, zero, suc, ◌+◌, ◌-◌, ◌<◌, ◌≤◌, true, false, List, [], ◌∷◌, ◌++◌, length, None, cond, nat_le}
 use mathlib.Core.Option.{some}
@@ -19,14 +19,14 @@ use Rattle.lset_rule.specs.Runs.{StartsWith, end_of, IsRunOf}
 use Rattle.lset_rule.specs.Views.{HasThread, Stands}
 use Rattle.lset_words.specs.Words.{Opening}
 
--- States that no thread of the seat with view v made any of the events.
+-- States that no thread of the seat with view v executed any of the events.
 abbrev pub IsQuiet : View → List Event → Type 0
 IsQuiet v [] = Unit {0}
 IsQuiet v (e ∷ es) = ¬ (HasThread v (thread_of e)) × IsQuiet v es
 
 -- States that v, the view of seat j (its knowledge of the run), matches the events of all threads. The view has seen a
--- prefix of these events, and only threads of other seats made the later events. Seat j shares no thread with another
--- seat. The lists `ours` and `theirs`, which the view keeps after a join, are also prefixes of all events.
+-- prefix of these events, and only threads of other seats executed the later events. Seat j shares no thread with
+-- another seat. The lists `ours` and `theirs`, which the view keeps after a join, are also prefixes of all events.
 pub record MatchesLog (m : Table) (k : Opening) (log : List Event) (seat_of : ℕ → ℕ) (j : ℕ) (v : View) : Type 0 where
   pub shape : v.shape ≡ k
   pub rest : List Event

@@ -40,8 +40,8 @@ pub record Stands (m : Table) (v : View) : Type 0 where
   -- Each spare thread is idle, and has the registers that the view stores.
   pub others : AreIdle (at_end m v.shape v.seen) v.thread v.past v.others
   pub in_range : (t : ℕ) → HasThread v t → t < v.shape.threads
-  -- The record belongs to the seat's own thread. This record and those merged into it belong to different threads, all
-  -- of this seat.
+  -- The record belongs to the seat's own thread. This record and those merged into it belong to different threads, and
+  -- the seat has all these threads.
   pub of_thread : root v.past ≡ v.thread
   pub apart : Apart v.past
   pub named : (u : ℕ) → IsIn u v.past → HasThread v u

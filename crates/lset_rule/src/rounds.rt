@@ -19,7 +19,7 @@ impl Rounds for Countless {
     const MOST: u64 = u64::MAX;
 }
 
-/// Returns the result `answer` of a call that can make [`Countless`] rounds (2^64 - 1). Waits forever if `answer` is
+/// Returns `answer`, the result of a call with at most [`Countless`] rounds (2^64 - 1). Waits forever if `answer` is
 /// `None`.
 #[inline(always)]
 pub fn or_wait_forever<R: Wait>(rt: &R, answer: Option<(OwnSlots, Reply)>) -> (OwnSlots, Reply)

@@ -1,4 +1,4 @@
-//! Makes the next step of an interpreted call, with code that is compiled for the call's row of the step table.
+//! Executes the next step of an interpreted call, with code that is compiled for the call's row of the step table.
 ghost use Rattle.std.specs.Prelude.{◌≡◌};
 ghost use Rattle.lset_rule.specs.RowSteps.{HasStepped, MayStep};
 
@@ -22,8 +22,8 @@ pub(crate) fn has_failed(action: Action, seen: u64) -> bool {
     }
 }
 
-/// Makes the next step of a call at row `PC` of the step table. `PC` is a compile-time constant: the compiler removes
-/// the code of all other rows from `M::next` and `M::feed`.
+/// Executes the next step of a call at row `PC` of the step table. `PC` is a compile-time constant: the compiler
+/// removes the code of all other rows from `M::next` and `M::feed`.
 fn row_step<M: Machine, const PC: u8>(
     table: &Words<M>,
     place: &mut TableSeat,

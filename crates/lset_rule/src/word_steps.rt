@@ -1,5 +1,5 @@
-//! Single steps of a call on the shared words. Each function requires that its step is the next step of the call by the
-//! step table.
+//! Single steps of a call on the shared words. Each function requires that its step is the next step of the call
+//! according to the step table.
 ghost use Rattle.std.specs.Prelude.{◌≡◌, ◌<◌, ℕ};
 ghost use Rattle.lset_words.specs.Words.{target, tail_word};
 ghost use Rattle.lset_steps.specs.declared.Action.TheVariants.{Store};
@@ -47,7 +47,7 @@ pub fn step_on<M: Machine>(table: &Words<M>, place: &mut TableSeat, action: Acti
     }
 }
 
-/// Starts a call and makes its first step. The call starts after all events that the seat had seen.
+/// Starts a call and executes its first step. The call starts after all events that the seat had seen.
 ///
 /// `place` is an idle seat on the words `table`. The key of `call` must be smaller than the key of the tail. `action`
 /// is the action that the step table has at the call's first row. Returns the value to pass to the table's `feed`: the

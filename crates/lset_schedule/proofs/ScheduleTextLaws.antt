@@ -85,7 +85,7 @@ reads_text p is =
     let parts : List (List ℕ) = header_lines (title v) (header_in p) ++ rest in
     ap plan_of again.0 ∙ ap (λ w. plan_in w parts) (version_again schedules refl v (header_in p) rest) ∙ rw again.1 refl
 
--- ---- Proof of the contract of a function that reads a schedule
+-- ---- Proof of the contract of each function that reads a schedule
 
 is_memory : (c : Cause) → (c ≢ Memory → ⊥) → c ≡ Memory
 is_memory Memory h = refl

@@ -1,5 +1,5 @@
--- The results of the worker threads of a server. Each worker calls from its own seat: the right to call the set as one
--- thread.
+-- The results of the worker threads of a server. Each worker calls from its own seat (the right to call the set as one
+-- thread).
 use Rattle.std.specs.Prelude.{◌≡◌, ℕ, ◌+◌, List, [], ◌++◌, length, sum_by, Option, None}
 use Rattle.lset_words.specs.Records.{Record, CallMade, with_calls}
 use Rattle.lset_live.specs.Seats.{SeatValue, gather_onto}
@@ -8,7 +8,7 @@ use Rattle.lset_server.specs.Serving.{followed}
 use Rattle.lset_server.specs.Tallies.{tally}
 
 -- States that a worker has received `sessions` connections with its pass (a right to use the channel), and has made
--- `calls` calls on its seat, which changed from s to s'.
+-- `calls` calls from its seat, whose value changed from s to s'.
 pub record HasWorked (s s' : SeatValue) (v : Tally) (sessions calls : ℕ) : Type 0 where
   pub received : List ℕ
   pub view : v ≡ tally 1 [] received
@@ -19,8 +19,8 @@ pub record HasWorked (s s' : SeatValue) (v : Tally) (sessions calls : ℕ) : Typ
   pub held : s'.held ≡ s.held
 
 -- States the results of `workers` workers that have ended. Their passes (rights to use the channel) were joined to the
--- sender's pass, which changed its tally from v to v'. Their seats were merged into `end`. Their sessions and calls
--- were added up.
+-- sender's pass, whose tally changed from v to v'. Their seats were merged into `end`. Their sessions and calls were
+-- added up.
 pub record HaveWorked (starts : List Record) (end : Option Record) (v v' : Tally) (workers sessions calls : ℕ) : Type 0 where
   pub added : List (List CallMade)
   pub each : length added ≡ length starts

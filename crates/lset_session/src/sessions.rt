@@ -1,5 +1,5 @@
 //! Sessions: a session reads lines from a reader, makes the calls in them on a set, and writes the answers to a writer.
-//! The session calls from one seat of the set: the right to call as one thread.
+//! The session calls from one seat of the set. A seat is the right to call as one thread.
 ghost use Rattle.std.specs.Prelude.{◌≡◌, ◌≤◌, ◌↔◌, ◌∷◌, [], Bool, true, false, IsTrue, if◌then◌else◌, length, None};
 ghost use Rattle.lset_words.specs.Records.{with_calls};
 ghost use Rattle.lset_session.specs.Devices.{Writes};

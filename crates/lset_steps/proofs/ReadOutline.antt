@@ -1,6 +1,6 @@
 -- The proof outline of a `contains` or a `ceiling` without locks: an assertion for each row of the step table. This
--- file proves that each row preserves these assertions, and that the reply is correct at some moment of the call. At
--- that moment, another thread can be making a step (after O'Hearn and others).
+-- file proves that each row preserves these assertions, and that the reply is correct at some moment of the call. That
+-- moment can be a step of another thread (after O'Hearn and others).
 use Rattle.std.specs.Prelude.{◌≡◌, ◌≢◌, ℕ, suc, ◌-◌, ◌==◌, if◌then◌else◌, ◌/◌, ◌%◌, ◌<◌, ◌≤◌, ◌⊎◌, Bool, false, None, List, [], refl}
 use Rattle.std.proofs.Common.{arith, inl, inr, sym, ◌∙◌, ap, subst}
 use Rattle.lset_words.proofs.Numbers.{same_or_not, below_or_not, if_below, if_not_below, if_same, if_other}

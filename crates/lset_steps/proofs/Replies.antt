@@ -59,8 +59,8 @@ pub absent_between : (v : View) → IsOrdered v → (p k : ℕ) → InChain v p 
     → k + 1 < v.key (v.link p / 2) → InContent v k → ⊥
 absent_between v ord p k i d lo hi c = let e : v.key c.0 ≡ k + 1 = c.3 in gap v ord p c.0 i c.1 d (omega arith) (omega arith)
 
--- For a `ceiling` of a key above the first of two neighbours in the chain but not above the second, the second's key
--- is a correct reply (`Nothing` at the tail), unless the second node is marked.
+-- Let two nodes be neighbours in the chain, and let the key of a `ceiling` be above the first node's key but not above
+-- the second's. If the second node is not marked, its key is a correct reply (`Nothing` at the tail).
 pub ceiling_fits : (q t : ℕ) (v : View) (p c : ℕ) (k : Key) → IsOrdered v → v.key 0 ≡ 0 → v.key 1 ≡ tail_word → InChain v p
     → p ≢ 1 → v.key p < k.0 + 1 → c ≡ v.key (v.link p / 2) → k.0 + 1 ≤ c → (c < tail_word → v.link (v.link p / 2) % 2 ≡ 0)
     → FitsIn q v t (Ceiling k) (ceiling_at c)

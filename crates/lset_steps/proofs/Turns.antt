@@ -27,7 +27,7 @@ pub due_of : (done : Bool) (q : ℕ) (vs : ℕ → View) (first now t : ℕ) (ca
     → FitsSometime q (contents_of vs) (counts_of vs) first now t call r → Due done q vs first now t call r
 due_of done q vs first now t call r unchanged fits = rw unchanged fits
 
--- A reply that is correct now is a correct reply of the call, if the call has not changed the set.
+-- If the call has not changed the set, a reply that is correct now is a correct reply of the call.
 pub due_now : (done : Bool) (q : ℕ) (vs : ℕ → View) (first now t : ℕ) (v : View) (call : Call) (r : Reply)
     → done ≡ false → first ≤ now → vs now ≡ v → FitsIn q v t call r → Due done q vs first (suc now) t call r
 due_now done q vs first now t v call r unchanged from present fits = due_of done q vs first (suc now) t call r unchanged (record {
@@ -104,7 +104,7 @@ Stands P At = (q t : ℕ) (vs : ℕ → View) (first now : ℕ) (v w : View) (do
 abbrev pub Onward : Sizes → ℕ → Local → Local → Type 0
 Onward sz t l l' = Registers sz t l' × (l'.call ≡ l.call) × (l'.used ≡ l.used) × (l'.pc ≢ 0)
 
--- The proof obligation for one row of the step table: thread `t`, in private state `l`, makes the step. The row
+-- The proof obligation for one row of the step table: thread `t`, in private state `l`, takes its next step. The step
 -- continues the call, changes the set, ends the call, or changes the set and ends the call. Each case has the row's
 -- action, its effect on the words, the thread's next private state, and the assertion of the outline after the step.
 pub data Turn (T : Table) (P : Protocol T.marks) (At : Outline) (sz : Sizes) (t : ℕ) (vs : ℕ → View) (first now : ℕ) (ws : List ℕ)

@@ -1,5 +1,5 @@
--- The effect of unlinking the node after a node of the chain: on the order of keys, on the chain, and on the keys of
--- the set.
+-- The effect of unlinking a node that follows a node of the chain. Three things can change: the order of keys, the
+-- chain, and the keys of the set.
 use Rattle.std.proofs.Common.{◌≡◌, ◌≢◌, ℕ, ◌+◌, ◌*◌, ◌/◌, ◌%◌, ◌<◌, ◌≤◌, ◌⊎◌, inl, inr, List, [], ◌∷◌, sym, refl, ap, subst, ◌∙◌, arith}
 use Rattle.lset_words.proofs.Numbers.{same_or_not}
 use Rattle.lset_steps.specs.Chain.{View, Segment, InChain, InContent, IsOrdered}

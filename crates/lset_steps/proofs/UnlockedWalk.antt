@@ -15,7 +15,8 @@ pub record Spot (v : View) (key pred curr : ℕ) : Type 0 where
   pub below : v.key pred < key
   pub curr_published : v.published curr
 
--- States `Spot`, and that `ckey` is the key word of `curr`, as the walk read it, and is not smaller than the call's.
+-- States `Spot`. Also states that `ckey` is the key word of `curr` that the walk read, and that it is not smaller than
+-- the call's key word.
 pub record Found (v : View) (key pred curr ckey : ℕ) : Type 0 where
   pub spot : Spot v key pred curr
   pub is : v.key curr ≡ ckey

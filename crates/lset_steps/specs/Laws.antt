@@ -77,8 +77,8 @@ abbrev pub Answered : Bool → ℕ → (ℕ → View) → ℕ → ℕ → ℕ �
 Answered done q vs first now t call pc None = pc ≢ 0
 Answered done q vs first now t call pc (Some r) = (pc ≡ 0) × Due done q vs first now t call r
 
--- The laws of a step that thread `t`, in private state `l`, makes between moments k and k + 1. `change` is the key
--- that the step adds or removes according to the step table.
+-- The laws of a step that thread `t`, in private state `l`, takes between moments k and k + 1. `change` is the key that
+-- the step adds or removes according to the step table.
 pub record StepLaws (T : Table) (op : Opening) (es : ℕ → Event) (k t : ℕ) (s : State) (l : Local)
     (change : Option (Key × Bool)) : Type 0 where
   -- The step accesses one of the list's words.
@@ -134,8 +134,8 @@ pub record UnderWay (T : Table) (op : Opening) (es : ℕ → Event) (k t : ℕ) 
   pub thread : t < op.threads
   pub open_call : (local_of (state_at T op es k) t).pc ≢ 0
 
--- States that `l` is the private state of some thread with a pending call, at some moment of some run. `Sees` adds that
--- the thread's next step sees the value `seen`.
+-- States that `l` is the private state of some thread with a pending call, at some moment of some run. `Sees` also
+-- states that the thread's next step sees the value `seen`.
 abbrev pub Occurs : Table → Local → Type 0
 Occurs T l = (op : Opening) × (es : ℕ → Event) × (k : ℕ) × (t : ℕ) × UnderWay T op es k t
     × (local_of (state_at T op es k) t ≡ l)

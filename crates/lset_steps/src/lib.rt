@@ -82,7 +82,7 @@ pub struct Fed {
     pub answer: Option<Reply>,
 }
 
-/// An event of a run: a thread begins a call, or makes one atomic step of its pending call. Threads are numbered from
+/// An event of a run: a thread begins a call, or takes one atomic step of its pending call. Threads are numbered from
 /// 0.
 #[derive(Clone, Copy, Debug, PartialEq, Eq)]
 pub enum Event {

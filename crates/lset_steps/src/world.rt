@@ -382,7 +382,7 @@ impl<M: Machine> World<M> {
         }
     }
 
-    /// Makes the next step of thread `t`. `local` is the private state of this thread.
+    /// Executes the next step of thread `t`. `local` is the private state of this thread.
     #[inline(always)]
     fn go_holding(&mut self, t: u32, local: Local) -> Told
         requires call { Enabled self.old.state (Event.Go t) }
@@ -426,8 +426,8 @@ impl<M: Machine> World<M> {
         self.go_holding(t, held)
     }
 
-    /// Makes the next step of a thread with the code for its row of the step table. Each row of the five tables has a
-    /// match arm here. Rows of other tables work without an arm, but more slowly.
+    /// Executes the next step of a thread with the code for its row of the step table. Each row of the five tables has
+    /// a match arm here. Rows of other tables work without an arm, but more slowly.
     #[inline(always)]
     fn go(&mut self, t: u32) -> Told
         requires { Enabled self.old.state (Event.Go t) }

@@ -186,7 +186,7 @@ pub fn is_reply(version: Version, piece: &[u8]) -> bool
     }
 }
 
-/// Lemma: reading inverts writing for the names of list kinds and calls, and for replies: each name or reply is read
+/// Lemma: reading inverts writing for the names of list kinds and calls, and for replies. Each name or reply is read
 /// from its own text and from no other text. The function does nothing.
 pub fn words_read_back()
     ensures kinds { KindsReadBack }

@@ -64,7 +64,7 @@ pub record Linearizes (quota : ℕ) (start : SetState) (history : List CallRecor
   pub ended : (number : ℕ) (end : ℕ) (reply : Reply) → number < length history
       → (call_numbered history number).ended ≡ Some (end, reply)
       → Contains order (record { call = number; reply = reply })
-  -- If called in this order, the sequential set returns these replies.
+  -- If the calls are made in this order, the sequential set returns these replies.
   pub legal : IsLegal quota start (map (answered history) order)
   -- If a call ends before another call begins, it also precedes the other in the order.
   pub in_time : AllPairs (λ (p r : Placed). Precedes (call_numbered history r.call) (call_numbered history p.call) → ⊥) order

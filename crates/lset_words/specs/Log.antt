@@ -13,7 +13,7 @@ use Rattle.lset_words.specs.declared.history.CallRecord.{CallRecord}
 abbrev pub Change : Type 0
 Change = Key × Bool
 
--- An event: a thread begins a call, or makes a step. A step can change the set, and can end the call with a reply.
+-- An event: a thread begins a call, or takes a step. A step can change the set, and can end the call with a reply.
 pub data Entry : Type 0 where
   began : (thread : ℕ) → Call → Entry
   stepped : (thread : ℕ) → Option Change → Option Reply → Entry
@@ -81,7 +81,8 @@ abbrev pub maker : Entry → ℕ
 maker (began t call) = t
 maker (stepped t change reply) = t
 
--- Returns the last call of a thread after an entry of the thread. `moment` is the moment just after the entry.
+-- Returns the last call of a thread after an entry of the log by this thread. `moment` is the moment just after the
+-- entry.
 abbrev pub last_after : ℕ → Entry → LastCall → LastCall
 last_after moment (began t call) x = record { call = call; begun = moment; changed = false; pending = true; steps = 0 }
 last_after moment (stepped t change reply) x =

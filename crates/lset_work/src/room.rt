@@ -17,8 +17,8 @@ pub(crate) struct Program {
     ghost short: { length calls.items < 2 ^ 32 },
 }
 
-/// All vectors that the threads fill: the programs with space for the replies, space for the handles of the threads,
-/// and space for the vectors of replies.
+/// The vectors that the threads fill, with enough space: the programs with their replies, the handles of the threads,
+/// and the vectors of replies.
 #[derive(Drop)]
 pub(crate) struct Room<M: Running, G: Gate> {
     pub programs: Vec<Program>,

@@ -112,9 +112,9 @@ pub fn work<R: Threads + Wait + Sync, M: Running + Send + Sync, G: Gate + Sync>(
     ensures replies { IfOk result (λ o. map (λ v. length v.items) o.replies.items ≡ map (λ p. length p.items) programs.items) }
     ensures outcome { IfOk result (λ o. IsOneLegalOrder set.shape (worked
         (map (λ s. s.past) seats.items) (map (λ p. p.items) programs.items) (map (λ v. v.items) o.replies.items)) o.keys.items) }
-    // The legal order of all calls also linearizes a history that begins with the events that the seats had seen. Calls
-    // that had ended in these events precede calls that began later. (A seat can learn from a receipt that a call has
-    // ended: a receipt contains the events that another seat had seen.)
+    // The legal order of all calls also linearizes a history. The history begins with the events that the seats had
+    // seen before `work`. In the order, a call that had ended in these events precedes all calls that began later. (A
+    // seat can learn from a receipt that a call has ended: a receipt contains the events that another seat had seen.)
     ensures in_time { IfOk result (λ o. IsWorkInTime M.table set.shape seats.items (worked
         (map (λ s. s.past) seats.items) (map (λ p. p.items) programs.items) (map (λ v. v.items) o.replies.items)) o.keys.items) }
     // The cause is `Programs` if and only if the numbers of programs, seats and threads of the set do not match.

@@ -57,9 +57,9 @@ fn take_blocks(alloc: Global, count: u32) -> Result<(), AllocError> {
     Ok(())
 }
 
-/// Returns the two parts of the line to print after all calls had the expected results. If a call returned `Memory`,
-/// the line names this call. Otherwise allocates `blocks` blocks. If one of them is refused, the failing allocation
-/// comes after all calls, and the line states that.
+/// Returns the two parts of the line that the program prints after all calls had the expected results. If a call
+/// returned `Memory`, the line names this call. Otherwise allocates `blocks` blocks. If one of these allocations fails,
+/// the line states that the failing allocation comes after all calls.
 fn told(alloc: Global, calls: &Calls, blocks: u32) -> (&'static str, &'static str) {
     match calls.refused {
         Some(name) => (name, " asked for memory"),

@@ -133,8 +133,8 @@ fn is_explained(
     Ok(matches!(judge.close(keys_of(left))?, Verdict::Linearizable))
 }
 
-/// Returns `true` if the counted calls are among `calls` and prove a contradiction: fewer calls can change the key back
-/// than are needed.
+/// Returns `true` if the counted calls are among `calls` and prove a contradiction: too few calls can change the key
+/// back.
 fn names_enough(calls: &[StreamCall], count: &Count) -> bool {
     count.calls.iter().all(|call| calls.contains(call))
         && count.backs.iter().all(|call| calls.contains(call))

@@ -187,7 +187,8 @@ fn judge_of(alloc: Global, size: u32) -> Result<Judge, Fail> {
     Ok(judge)
 }
 
-/// Returns a recording with `size` opening keys, which are also the final keys. A call looks for each of them.
+/// Returns a recording with `size` opening keys, which are also the final keys. For each key, one call looks for the
+/// key.
 fn recording_of(alloc: Global, size: u32) -> Result<String, Fail> {
     let mut text = String::from_str(alloc, "listset-calls 1\n")?;
     for key in 0..size {

@@ -97,7 +97,7 @@ impl<'a, R: Clock> Gate for Meeting<'a, R> {
     }
 }
 
-/// Makes each thread wait after its first step until all threads have made a step.
+/// Makes each thread wait after its first step until all threads have taken a step.
 impl<'a, R: Clock> Pause for Meeting<'a, R> {
     fn moved(&self, thread: u32) {
         let _has_met = self.come(thread);

@@ -223,8 +223,8 @@ impl Model {
     }
 }
 
-/// Runs programs in threads on a set that opens with these keys. Asserts that the models return the same replies and
-/// have the same final keys. Returns the final keys.
+/// Runs programs in threads on a set that opens with these keys. Asserts that each thread's model, a sequential set of
+/// the thread's keys, returns the same replies and has the same final keys. Returns the final keys.
 pub fn runs_beside_models<M: Running + Send + Sync, R: Host>(
     rt: &R,
     alloc: Global,

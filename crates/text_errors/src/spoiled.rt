@@ -218,7 +218,8 @@ fn has_two_spaces(line: &[u8]) -> bool {
     false
 }
 
-/// Explains the end of a text: the last line has no newline (if `is_line`), or a last line such as `end` is missing.
+/// Explains a text that ends too early: its last line has no newline (`is_line`), or its final lines are missing, for
+/// example `end`.
 pub fn put_not_ended(
     out: &mut String,
     lines: &Lines<'_>,

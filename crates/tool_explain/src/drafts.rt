@@ -32,7 +32,7 @@ fn answer_on<T: Tool>(alloc: Global, tool: &T, text: &[u8]) -> Option<Vec<u8>> {
 }
 
 /// Expands the lines before the error, followed by `ending`, to a schedule. `ending` can have lines of a draft. Returns
-/// `None` if a line has an error: a thread in `ending` waits for a lock, or has no pending call.
+/// `None` if a line cannot be expanded, for example because its thread waits for a lock or has no pending call.
 fn schedule_up_to(
     alloc: Global,
     lines: &Lines<'_>,

@@ -155,8 +155,8 @@ fn put_refused_recording(
     )
 }
 
-/// Prints the commands that read a text without an error. `is_refused` is true if the text is a report and `check` refuses
-/// its order.
+/// Prints which commands can read a text that has no error. `is_refused` is true if the text is a report and `check`
+/// refuses its order.
 fn put_use(
     out: &mut String,
     file: &str,

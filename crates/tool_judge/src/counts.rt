@@ -6,7 +6,7 @@ use std::alloc::{AllocError, Global};
 /// A list with at most this many calls is printed in full.
 const NAMED: usize = 4;
 
-/// If a list is longer, this many calls are printed from its start, and as many from its end.
+/// A longer list is printed in part: this many calls from its start, and as many from its end.
 const NAMED_OF_MANY: usize = 2;
 
 /// Writes a call's thread, start and end.

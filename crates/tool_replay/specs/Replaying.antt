@@ -16,8 +16,8 @@ use Rattle.tool_base.specs.Trouble.{of_line_fault}
 use Rattle.tool_base.specs.declared.trouble.Trouble.TheVariants.{Line, Memory}
 use Rattle.tool_base.specs.Tools.{Made, OnInput}
 
--- States that the bytes are the text of the schedule `p`, and that `r` is the report of its run. The order in `r`
--- explains the history of `r` and leaves its final keys.
+-- States that the bytes are the text of the schedule `p`, and that `r` is the report of the run of `p`. The order in
+-- `r` explains the history of `r` and leaves its final keys.
 pub record IsReported (bytes : List ℕ) (p : Plan) (r : ReportValue) : Type 0 where
   pub schedule : IsSchedule p
   pub text : bytes ≡ schedule_text p

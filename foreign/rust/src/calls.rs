@@ -1,4 +1,5 @@
-//! Declares the judge's C functions as in `listset.h`, and calls them with a larger buffer if the text does not fit.
+//! Declares the judge's C functions as in `listset.h`, and calls them again with a larger buffer if the text does not
+//! fit.
 
 use crate::Wrong;
 

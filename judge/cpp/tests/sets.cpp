@@ -54,7 +54,8 @@ struct Set : Right<unsigned> {
         if ((is != "not known" && is != "again") || ++calls % 50 > 0) return reply;
         return is == "again" ? std::optional(call()) : std::nullopt;
     }
-    // Hangs, crashes, exits, throws or naps in a late `remove`, as the variable SET names it, while holding the lock.
+    // Hangs, crashes, exits, throws or naps during a later `remove`, while holding the lock. The variable SET selects
+    // which.
     void stop() {
         std::lock_guard held(lock);
         if (++calls != (is == "crashes late" ? 10'000 : 30)) return;

@@ -56,7 +56,7 @@ final class Sets {
             return call.getAsBoolean();
         }
 
-        /** Hangs, ends the JVM, throws or naps in a late remove, as the variable SET names it. */
+        /** Hangs, ends the JVM, throws or naps during a later remove. The variable SET selects which. */
         private synchronized void stop() {
             int due = is.equals("crashes late") ? 10_000 : 30;
             if (calls.incrementAndGet() != due) return;

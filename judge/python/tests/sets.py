@@ -75,7 +75,7 @@ class Named(Right):
         return call(key) if self.name == "again" else None
 
     def stop(self):
-        """Fails in a late `remove` while holding the lock. STOPS has what happens, by the name of the set."""
+        """Fails during a later `remove` while holding the lock. STOPS maps the name of a set to its way to fail."""
         self.calls += 1
         if self.calls >= (10_000 if self.name == "crashes late" else 30):  # (>= because two threads can count at the same time)
             with self.lock:

@@ -11,8 +11,8 @@
 //     break mark-in-add #list=lock-free&threads=2&quota=2&opening=3.7&s=b0.add.5,g0.5&event=6 named
 //     end
 //
-// The text is often sent by mail: lines can be quoted, wrapped or encoded, and surrounded by other lines. One file can contain the texts of a whole
-// class, and courses.
+// The text is often sent by mail: lines can be quoted, wrapped or encoded, and surrounded by other lines. One file can contain the texts of a whole class,
+// and also courses.
 import { CLASSICS, LACKING } from "../../made/classics.js";
 import { AddressFault, addressOf, readAddress } from "../run/address.js";
 import { askList, isTaskDone, NO_TASK, verdictOnLacking } from "../run/broken.js";

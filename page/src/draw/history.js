@@ -19,7 +19,8 @@ function windowOf(total, count, room) {
 
 const shownIn = ({ calls }, first, last) => calls.filter(({ begun, ended }) => begun <= last && (ended === null || ended >= first));
 
-// Returns the heights of bars, and the number of rows of labels. If there is little height (`isLow`), the labels are inside the bars.
+// Returns the height of a bar (`bar`), the space below it, and the maximum number of rows of labels. If there is little height
+// (`isLow`), the labels are inside the bars.
 function formOf(threads, isLow) {
   if (isLow && threads <= 6) return { bar: 19, below: 4, mostRows: 1 };
   if (threads > 12) return { bar: 9, below: 1, mostRows: 1 };

@@ -75,7 +75,8 @@ function unitsOf(state, room, slots, isFlat) {
   const fits = (at) => heightsOf(form.below[at], lanesAt(least)).height * least <= room.high;
   const first = form.below.findIndex((_, at) => at >= (room.tight ?? 0) && fits(at));
   const tight = first === -1 ? form.below.length - 1 : first;
-  // A larger unit leaves less room for hands side by side. Chooses the number of rows of hands that allows the largest unit.
+  // A larger unit leaves less room for the threads' hands side by side. Chooses the number of rows of hands that allows the
+  // largest unit.
   const sizeWith = (lanes) => {
     const high = room.high / heightsOf(form.below[tight], lanes).height;
     const own = form === SMALL ? Math.min(1, high, room.wide / (slots * form.slot)) : Math.min(room.wide / 880, high, room.wide / (slots * 128));

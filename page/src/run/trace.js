@@ -118,7 +118,8 @@ export function eventsInCommon(one, other) {
   return count;
 }
 
-// Sorts the calls by the moment when they take effect. At one moment the call that changes the set is first; the others are sorted by their numbers.
+// Sorts the calls by the moment when they take effect. Of the calls at one moment, the call that changes the set comes first. The others are sorted
+// by number.
 function orderOf(calls) {
   const placed = calls.filter((call) => call.at !== null);
   return placed.sort((one, other) => one.at - other.at || Number(other.changes) - Number(one.changes) || one.id - other.id);

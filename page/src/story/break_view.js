@@ -53,7 +53,8 @@ function looked() {
   setScene({ stage: "done", note: whyOf(verdict, wasShown) });
 }
 
-// Returns a hint if a key is missing in the list while calls are pending, or the reason why a run that looks broken is not broken.
+// Returns a hint about a run that is not broken. While calls are pending, the hint names the keys that are missing in the list.
+// Otherwise it states why the run is not broken.
 function notYet(run, { kind, isExplained }) {
   const lost = run.promised().filter((key) => !run.has().includes(key));
   if (run.trace.calls.some(({ ended }) => ended === null)) return lost.length === 0 ? "" : `${lost.join(" and ")} ${lost.length === 1 ? "is" : "are"} not in the list. Now let each call return.`;

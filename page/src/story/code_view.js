@@ -1,4 +1,5 @@
-// Step by the code: one list, two threads, any calls. The lines are buttons. The address has the run.
+// The activity Step by the code: two threads call one list, and the reader can begin any call. Each line of the code is
+// a button. The address contains the run.
 import { LISTS } from "../../made/rows.js";
 import { now } from "../page/now.js";
 import { addressOfCode, linesOfCode, linkTo, SET_OF_CODE, START_OF_CODE } from "../page/visit.js";

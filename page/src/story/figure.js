@@ -107,7 +107,8 @@ export class Figure {
     await this.play(thread, next.steps, before);
   }
 
-  // Handles the key of a thread: the thread steps, or begins the call that is entered in its fields.
+  // Handles a thread's key or button: the thread takes its next steps, or begins the call that is entered in its
+  // fields.
   press(thread) {
     if (!this.canStep || !this.shown.includes(thread)) return;
     const isFree = this.run.isIdle(thread) && this.left(thread).length === 0 && this.spec.free;

@@ -120,8 +120,8 @@ function notesOnNames(row, rows) {
 // Returns a schedule with one step on each line, so that schedules with the same steps are equal as texts.
 const oneByOne = (schedule) => schedule.replace(/^go (\d+) (\d+)$/gm, (_, thread, count) => Array(Number(count)).fill(`go ${thread}`).join("\n"));
 
-// Adds to each row the students with the same schedules: { count, of, isListed, rows }. A schedule that many students have is no sign of copying; these
-// schedules are returned. A single shared schedule can be chance, so it is listed only if the student has no other rare schedule.
+// Adds to each row the students with the same schedules: { count, of, isListed, rows }. Returns the schedules that many students have, since they are
+// no sign of copying. A single shared schedule can be chance, so it is listed only if the student has no other rare schedule.
 function noteCopies(rows) {
   const byText = new Map();
   const own = new Map(rows.map((row) => [row, [...row.solved].filter(([, schedule]) => schedule !== null).map((entry) => entry.join("\n"))]));
@@ -154,7 +154,7 @@ const namesOf = (rows) => rows.map(({ name, number }) => (number === "" ? name :
 export const sumsOf = ({ rows, columns }) => columns.map(({ id }) => rows.filter(({ solved }) => solved.has(id)).length);
 
 // Returns a table for a spreadsheet. `parted` separates the cells: German and French spreadsheets need semicolons. A cell that a spreadsheet would
-// compute becomes plain text.
+// read as a formula becomes plain text.
 export function csvOf({ rows, columns }, parted = ",") {
   const cell = (value) => {
     const text = String(value).replace(/^[=+\-@\t\r]/, "'$&");

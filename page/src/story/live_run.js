@@ -46,8 +46,8 @@ export class ShownRun {
 
 /**
  * A run to begin with. `lines` are the first lines of the schedule; lines of a draft are allowed. In a `free` run, the reader can begin any call. A `plain`
- * run ignores the list's lock and does not show it. The rows in `joined` are executed by the press before them, unless the run is
- * `free` and not `plain`.
+ * run ignores the list's lock and does not show it. One press executes the rows in `joined` together with the row before
+ * them, unless the run is `free` and not `plain`.
  * @typedef {{ list: string, lacks?: string | null, threads?: number, quota?: number, opening?: number[], lines?: string[], version?: number,
  *   free?: boolean, plain?: boolean, joined?: number[] }} RunSpec
  */
@@ -97,8 +97,8 @@ export class LiveRun extends ShownRun {
     this.state.moveTo(this.count);
   }
 
-  // Returns what the next press of a thread does after the shown event: the number of steps, their phase, and the holder of the lock if the thread waits
-  // for a lock. A thread waits once it has tried to take the lock and failed.
+  // Returns what the next press of a thread's button does after the shown event: the number of steps, their phase, and the holder of the lock if the
+  // thread waits for a lock. A thread waits once it has tried to take the lock and failed.
   nextOf(thread, call = null) {
     return (this.nexts[[this.count, thread, call].join()] ??= this.newNextOf(thread, call));
   }
@@ -136,7 +136,7 @@ export class LiveRun extends ShownRun {
     return { steps, phase: phase === "unlock" && last?.answer === undefined ? "restart" : phase, waits: false, last };
   }
 
-  // Returns the number of the last event that belongs to the same press as event `count + 1`.
+  // Returns the number of the last event that one press of a thread's button executes together with event `count + 1`.
   endOfBit(count) {
     this.moveTo(count);
     const { thread, deed, changes } = this.trace.event(count + 1);

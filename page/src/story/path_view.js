@@ -1,4 +1,5 @@
-// Shows the path, one screen at a time. Each screen has a task or a question. "Show me" makes the next press of a solution.
+// Shows the path, one screen at a time. Each screen has a task or a question. "Show me" presses the next button of a
+// solution.
 import { byId } from "../page/dom.js";
 import { isLecture, now } from "../page/now.js";
 import { Figure } from "./figure.js";

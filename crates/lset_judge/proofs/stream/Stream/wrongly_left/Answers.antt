@@ -19,8 +19,8 @@ use Rattle.lset_judge.specs.Stream.{state_or, state_for}
 use Rattle.lset_judge.proofs.KeyStates.{there_again}
 use Rattle.lset_judge.proofs.stream.Stream.wrongly_left.Goals as goal
 
--- A step of the loop over the keys: if the next key's final state is possible, the loop has found no further key with
--- an impossible final state.
+-- A step of the loop that searches for keys with an impossible final state: if the next key's final state is possible,
+-- the result of the search stays correct.
 right_more : (keys : List ℕ) (xs : List (Bor ℕ × Bor KeyState)) (x : Bor ℕ × Bor KeyState) (wrong : Option ℕ) (Q : ℕ → Type 0)
     → MatchOption wrong (All (λ p. may_be_left (has_key p.0.now keys) (state_of p.1.now) ≡ true) xs) Q → may_be_left (has_key x.0.now keys) (state_of x.1.now) ≡ true
     → MatchOption wrong (All (λ p. may_be_left (has_key p.0.now keys) (state_of p.1.now) ≡ true) (xs ++ x ∷ [])) Q
