@@ -107,7 +107,7 @@ size_t listset_check(const char *report, size_t length, char *room, size_t size,
 /// Returns the trace of a schedule.
 size_t listset_trace(const char *schedule, size_t length, char *room, size_t size, uint8_t *status);
 
-/// Returns the trace of a schedule, with the chain of nodes after each event that changed it.
+/// Returns the trace of a schedule, with the chain of nodes after each event that changed the chain.
 size_t listset_trace_with_chains(const char *schedule, size_t length, char *room, size_t size, uint8_t *status);
 
 /// Expands a draft into a schedule.

@@ -33,7 +33,7 @@ pub record EventLines (L : Type 0) : Type 0 where
   pub kinds : List (LineKind L)
   pub count : L → ℕ
 
--- The content of a text: its header, its opening keys and its event lines.
+-- The content of a schedule or draft: its header, its opening keys and its event lines.
 pub record BodyValue (L : Type 0) : Type 0 where
   pub header : Header
   pub keys : List ℕ

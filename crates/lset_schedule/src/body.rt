@@ -32,7 +32,7 @@ use std::alloc::Global;
 /// An event line of a schedule or a draft. Schedules and drafts are texts with opening keys followed by event lines.
 /// Each kind of text has its own type of event lines.
 pub trait EventLine: Copy {
-    /// The patterns of event lines, and how many events each line counts as.
+    /// The patterns of event lines, and the number of events that each line counts as.
     ghost lines: { EventLines Self };
 
     /// Reads an event line, without its newline, of a text of this version. Returns `Event` if the line matches no

@@ -72,7 +72,7 @@ loads_seen T At d rows shows op last k t a es r l th busy reads next =
     (local_of (state_at T op es k) t)
     (read_row T (lawful_of T At d) rows op last k t es r l th busy reads) (i.threads t th).at)
 
--- States that thread `t` has the same last call, begun at the same moment, at moments `at` and `k`.
+-- States that at the moments `at` and `k`, thread `t` has the same last call, which began at the same moment.
 record SameCall (log : Log) (t at k : ℕ) : Type 0 where
   begun : begun_at log t k ≡ begun_at log t at
   call : last_call log t k ≡ last_call log t at

@@ -41,7 +41,7 @@ pub enum Cause {
     Busy,
     /// The thread has no pending call, for example in `go 0 8` if its call has only seven steps.
     Idle,
-    /// A broken list (with a check removed) cannot make this step: it would access a word outside its table.
+    /// A broken list (with a check removed) cannot execute this step, which would access a word outside its table.
     Lost,
     /// The thread cannot reach the given step, for example in `go 1 out` if it waits for a lock that another thread
     /// holds.

@@ -16,7 +16,7 @@ pub trait SetCalls {
     /// Returns the record of a seat: its calls with their replies.
     ghost record_of: { Self.Seat → Record };
 
-    /// Returns the number of seats that this seat counts for: itself and those that were merged into it.
+    /// Returns the number of seats that this seat contains: itself, and the seats that were merged into it.
     ghost held_by: { Self.Seat → ℕ };
 
     /// Executes `call` for the thread of `seat`, which must belong to this set, and returns the reply. Appends the call

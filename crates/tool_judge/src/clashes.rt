@@ -153,7 +153,7 @@ fn leaves_text(alloc: Global, key: u32, was: Presence) -> Result<Vec<u8>, AllocE
     }
 }
 
-/// Returns the words that state whether the second call needs the key present or absent.
+/// Returns the words that state whether the second call needs the key to be present or absent.
 fn needs_text(alloc: Global, key: u32, need: Presence) -> Result<Vec<u8>, AllocError>
     ensures { IfOk result (λ text. text.items ≡ lines.needs_text key need) }
 {

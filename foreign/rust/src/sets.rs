@@ -342,7 +342,7 @@ impl Seat {
         (replied(unsafe { listset_ceiling(&mut self.raw, key, &mut at) }) == AT).then_some(at)
     }
 
-    /// Merges another seat of the set into this one. If the seat belongs to another set, the error returns it.
+    /// Merges another seat of the set into this one. If the seat belongs to another set, the error contains it.
     pub fn gather(&mut self, mut from: Seat) -> Result<(), Refused<Seat>> {
         let code = unsafe { listset_gather(&mut self.raw, &mut from.raw) };
         told(code).map_err(|fault| Refused { back: from, fault })

@@ -196,7 +196,8 @@ export class Figure {
     this.onStep?.(this);
   }
 
-  // Shows a run made elsewhere. A move by one event within the same run is animated.
+  // Shows a run that was created outside of this figure. A move by one event is animated if both runs are on the same
+  // list.
   showRun(run, moment = momentAt(run.state, run.count), hides = true) {
     const isNear = run.trace.kind === this.run.trace.kind && Math.abs(run.count - this.run.count) === 1;
     Object.assign(this, { run, hides });

@@ -33,7 +33,7 @@ export function toSlide(by) {
   return isThere;
 }
 
-// At the end of the last slide, the first press shows the answer, and the second press leaves the lecture.
+// At the end of the last slide, the first key press shows the answer, and the second leaves the lecture.
 function endLecture() {
   if (now.scene.note === "") setScene({ note: `The answer: ${LECTURE.at(-1)[4]} One more → ends the lecture.` });
   else location.hash = "#teachers";

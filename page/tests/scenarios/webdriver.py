@@ -43,7 +43,7 @@ def free_port():
 
 
 def started(words, folder):
-    """Starts a process that ends together with this one. `folder` contains its settings."""
+    """Starts a process that ends together with this one. `folder` contains the settings of the new process."""
     homes = {f"XDG_{it}_HOME": folder for it in ("CONFIG", "DATA", "CACHE")}
     silent = {"stdin": subprocess.DEVNULL, "stdout": subprocess.DEVNULL, "stderr": subprocess.DEVNULL}
     return subprocess.Popen([*processes.guarded(), *words], **silent, env={**os.environ, **homes})

@@ -7,7 +7,7 @@ use Rattle.lset_replay.proofs.EventLists.{rest_of}
 use Rattle.lset_replay.proofs.EventSteps.{IsOnWay}
 use Rattle.lset_replay.proofs.replaying.follow.Given as goal
 
--- For the steps of a list: all events of the first `index` lines were executed and recorded.
+-- The invariant of the loop for the steps of a list: all events of the first `index` lines were executed and recorded.
 abbrev pub invariant-loop-index : goal.invariant-loop-index
 invariant-loop-index g l = (T : Table) (state : g.row.W.Denot → WorldState) → AreSteps T g.row.W.Denot g.W.Steps.makes state
     → HasFollowed T l.fn.recorder.history.opening (events_from l.first l.lines) 0 (state l.fn.world) l.fn.recorder
