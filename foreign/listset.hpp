@@ -382,7 +382,7 @@ class renewed_set {
     return keys;
   }
 
-  // Calls `call` with an array of all seats. All places must be locked.
+  // Calls `call` with an array of all seats. All places (seats with their locks) must be locked.
   template <typename Call> void by_all(Call call) {
     std::array<listset_seat, 64> raws;
     now = stage::to_be_renewed;

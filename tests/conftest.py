@@ -88,8 +88,8 @@ def print_missing(items):
 
 @pytest.fixture(scope="session")
 def lacking(pytestconfig):
-    """Returns a function that ends a test because something is missing. It fails the test if the test was selected by
-    name, and skips it otherwise.
+    """Returns a function that ends a test because something is missing. The function fails the test if the test was
+    selected by name, and otherwise skips the test.
     """
     is_named = pytestconfig.option.keyword or any("::" in it for it in pytestconfig.args)
     return pytest.fail if is_named else pytest.skip

@@ -92,7 +92,7 @@ static bool is_filled(uint32_t seats, uint32_t quota) {
 }
 
 // Lets four threads add the same keys, exactly as many as all quotas together allow. Returns the number of adds that
-// return full. It must be 0: when all quotas are used up, all keys are present.
+// return full. This number must be 0: when all quotas are used up, all keys are present.
 static int full_too_soon() {
   const uint32_t many = 1000;
   listset::shared set(list::lazy, 2, many / 2);

@@ -195,7 +195,7 @@ func most(a, b int) int {
 	return b
 }
 
-// most returns the largest value of one size of a run in all presets, after the options have changed the presets.
+// most returns the largest value of the size that of selects, in all presets as modified by the options.
 func (o Options) most(of func(size) int) (most int) {
 	for i := range presets {
 		if its := of(o.shapeOf(int64(i + 1)).size); its > most {

@@ -12,7 +12,7 @@ import (
 	"strings"
 )
 
-// recording is the file with the calls of a run, which grows during the run.
+// recording is the file that records the calls of a run. It grows during the run.
 type recording struct {
 	seed   int64
 	name   string

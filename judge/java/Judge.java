@@ -496,7 +496,7 @@ public final class Judge {
             return new Shape("", get(SHAPE), get(SHAPE + 4), get(SHAPE + 8), get(SHAPE + 12), get(SHAPE + 16), get(SHAPE + 20) == 1);
         }
 
-        /** Prepares the memory for the run with this seed, and starts the run, which writes its calls to the file. */
+        /** Prepares the memory for the run with this seed, and starts the run. The run writes its calls to the file. */
         void begin(long seed, Shape of, Path file) {
             for (int at = 0; at < SIZE; at += 4) if (at != IS_HERE) memory.putInt(at, 0);
             memory.putLong(SEED, seed);
@@ -875,7 +875,7 @@ public final class Judge {
         }
     }
 
-    /** The file with the recording of a run, which grows during the run. */
+    /** The recording file of a run. It grows during the run. */
     private static final class Recording implements AutoCloseable {
         private final Path file;
         private boolean isKept;

@@ -225,7 +225,7 @@ function checkTraces(engine, names) {
 const areApart = (one, other) => one.x + one.wide <= other.x + 1 || other.x + other.wide <= one.x + 1 || one.y + one.high <= other.y + 1 || other.y + other.high <= one.y + 1;
 const ROOMS = [{ wide: 1280, high: 300 }, { wide: 900, high: 240 }, { wide: 351, high: 320 }];
 
-// Checks at each event of the examples, and of a run with many nodes, that everything on the stage is within its edges, and that that no node,
+// Checks at each event of the examples, and of a run with many nodes, that everything on the stage is within its edges, and that no node,
 // and no hand (the sign of a thread), covers another one.
 function checkStage(engine, texts) {
   let hands = 0;

@@ -48,7 +48,7 @@ def deciding_rows(section):
 
 
 def reads_of(section):
-    """Returns the rows of `contains` and `ceiling`, for lists that take no lock in these calls."""
+    """Returns the rows of the step table for `contains` and `ceiling`, for lists that take no lock in these calls."""
     rows = rows_of(section)
     ceiling = int(re.search(r"`ceiling` at row (\d+)", section)[1])
     return {"contains": {number: row for number, row in rows.items() if number < ceiling},
@@ -56,7 +56,7 @@ def reads_of(section):
 
 
 def registers_in(rows):
-    """Returns the registers that the steps in these rows set."""
+    """Returns the registers that the steps in these rows of a step table set."""
     return [name for name in REGISTERS if any(f"{name} = " in row["then"] for row in rows)]
 
 

@@ -152,7 +152,7 @@ class List:
         return 0 if node == "list" else 3 + 3 * self.node(t, node) + ["key", "link", "lock"].index(part)
 
     def value(self, t, name):
-        """Returns the value that a row stores or expects."""
+        """Returns the value that a row of the step table stores or expects."""
         if name in ("0", "K"):
             return 0 if name == "0" else self.threads[t].call.key + 1
         mark = self.threads[t].pkey if name.endswith("^") else name.endswith("*")
@@ -200,8 +200,8 @@ class List:
         return reply
 
     def do(self, it, done, seen):
-        """Executes one action of a row. Returns the reply if the call ends. (On an intact list, the changes of the set
-        are read from the chain.)
+        """Executes one action of a row of the step table. Returns the reply if the call ends. (On an intact list, the
+        changes of the set are read from the chain.)
         """
         if done.isdigit():
             it.pc = int(done)

@@ -123,7 +123,7 @@ def is_as_shown(told, printed):
 
 
 def print_what_the_page_has(page, steps, program, room):
-    """Checks that the commands of a test print exactly the lines that the page shows."""
+    """Checks that the commands of a test print the lines that the page shows."""
     for step, printed in zip(steps, printed_by_commands(page, steps, program, room)):
         told, where = step.told(), f"{page.relative_to(TOP)}:{step.number}"
         if not (page.parent != PAGES and is_as_shown(told, printed)):

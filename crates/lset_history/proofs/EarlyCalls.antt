@@ -1,5 +1,5 @@
--- The checker's loop, which goes from the end of an order to its start. The loop keeps the smallest end seen so far: a
--- call that begins after this end is too early in the order.
+-- The loop of the checker, from the end of an order to its start. It keeps the smallest end seen so far: a call that
+-- begins after this end is too early in the order.
 use Rattle.std.proofs.Common.{rules, ◌≡◌, ℕ, ◌<◌, ◌≤◌, List, length, Option, Some, None, refl, subst, inl, inr, ◌⊎◌}
 use Rattle.std.proofs.Common.{suc, arith}
 use Rattle.std.proofs.lemmas.Bool.{cases_order, cases_lt}

@@ -191,8 +191,8 @@ pub record IsAsGood (key : ℕ) (f : Facts) (p : Presence) (first : Option CallR
   pub standing : until_of (other p) f ≤ f.begun
   pub early : (moment : ℕ) → EndsBefore first moment → EndsBefore (record_if (first_of key f)) moment
 
--- States that the facts about a key suffice: if any completed call (or the opening state) can clash with a call that ends
--- later, the kept call can.
+-- States that the stored facts about a key suffice: if any completed call (or the opening state) can clash with a call
+-- that ends later, the stored call can.
 pub record AreComplete (opening : List ℕ) (calls : List CallRecord) (moment key : ℕ) (f : Facts) : Type 0 where
   pub latest : (there : Presence) → IsLatest calls key there (until_of there f)
   pub since : f.begun ≡ since_of (record_if (first_of key f))
@@ -200,8 +200,8 @@ pub record AreComplete (opening : List ℕ) (calls : List CallRecord) (moment ke
   pub best : (p : Presence) (first : Option CallRecord) → WasSo calls key (presence (has_key key opening)) p first → IsPast moment first
       → until_of (other p) f ≤ since_of first → IsAsGood key f p first
 
--- States that no clash was missed among the calls on the key that have ended by a moment: no call clashes with a later
--- one, that is, with a call that starts after it has ended.
+-- States that among the calls on the key that have ended by a moment, no clash was missed: none of these calls clashes
+-- with a call that had ended before it started, or with the opening state.
 abbrev pub NoneMissed : List ℕ → List CallRecord → ℕ → ℕ → Type 0
 NoneMissed opening calls moment key = (p : Presence) (first : Option CallRecord) (y : CallRecord) → EndsBefore first y.begun
     → Clashes calls key (presence (has_key key opening)) None p first (Some y) → IsPast moment (Some y) → ⊥

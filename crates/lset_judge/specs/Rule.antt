@@ -110,7 +110,7 @@ entered v None = None
 entered v (Some t) = Some (enters v t)
 
 -- Returns the state of a key after the event v, which happens at moment m + 1. Returns None if v is impossible: the
--- judge's rule has then failed.
+-- judge's rule (the test of one key's calls) has then failed.
 abbrev pub stepped : ℕ → Event → Option State → Option State
 stepped m v None = None
 stepped m v (Some s) = entered v (found m v s)
@@ -121,7 +121,7 @@ abbrev pub state_after : (ℕ → Event) → Bool → ℕ → Option State
 state_after ev opening zero = Some (opened opening)
 state_after ev opening (suc m) = stepped m (ev (suc m)) (state_after ev opening m)
 
--- Returns whether the judge's rule finds every event up to the moment `last` possible, and the final state `left` after
--- them.
+-- Returns whether the judge's rule (the test of one key's calls) finds every event up to the moment `last` possible,
+-- and then the final state `left`.
 abbrev pub may_leave : (ℕ → Event) → Bool → Bool → ℕ → Bool
 may_leave ev opening left last = is_some (stepped last (leaves left) (state_after ev opening last))

@@ -18,7 +18,7 @@ use lset_words::{Call, Reply};
 /// as the five lists do.
 ///
 /// - Precondition `MayCall`: `place` is a seat on the words `table` without a pending call, and `slots` are the slots
-///   of its thread.
+///   of its thread (nodes for its adds).
 /// - Postcondition `HasCalled`: `place` is still the same seat, the returned slots are the slots of its thread, and
 ///   exactly this call has been added to the seat's record. The call started after all events that the seat had seen,
 ///   and has ended. If `None` is returned, nothing is ensured.

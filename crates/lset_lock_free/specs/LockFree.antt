@@ -38,8 +38,8 @@ abbrev pub at_link : ℕ → Local → Fed
 at_link seen l =
     if seen % 2 == 0 then continued (record l { pc = 4; succ = seen / 2 }) else continued (record l { pc = 3; succ = seen / 2 })
 
--- Returns the outcome of the last step of a walk: the call ends with its reply, or continues at the row for adding or
--- removing its key.
+-- Returns the outcome of the last step of a walk: the call ends with its reply, or continues at the row of the step
+-- table for adding or removing its key.
 abbrev pub decision_of : Local → Fed
 decision_of l = record { local = l; answer = if l.pc == 0 then l.reply else None }
 

@@ -4,8 +4,8 @@
 ghost use Rattle.lset_lock_free.specs.LockFree.{lock_free};
 ghost use Rattle.lset_lock_free.specs.Rows.{LockFreeRows};
 
-/// Lemma: states the first row of each call and, for each row, the thread's access, its private state after the step,
-/// and the change of the set. The function does nothing. (Herlihy and Shavit's lock-free list.)
+/// Lemma: states the first row of the step table for each call and, for each row, the thread's access, its private
+/// state after the step, and the change of the set. The function does nothing. (Herlihy and Shavit's lock-free list.)
 pub fn rows()
     ensures { LockFreeRows lock_free }
 {}

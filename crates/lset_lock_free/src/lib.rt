@@ -50,7 +50,7 @@ pub fn next_action(local: &Local) -> Action
     }
 }
 
-/// Returns the outcome of a step if the walk is then at `curr`, the node after `pred`. The walk loads the link of
+/// Returns the outcome of a step that brings the walk to `curr`, the node after `pred`. The walk loads the link of
 /// `curr` next.
 #[inline(always)]
 fn at_node(pred: u64, curr: u64, local: &Local) -> Fed
@@ -78,8 +78,8 @@ fn at_link(local: &Local, seen: u64) -> Fed
     })
 }
 
-/// Returns the outcome of the last step of a walk: the call ends with its reply, or continues at the row for adding or
-/// removing its key.
+/// Returns the outcome of the last step of a walk: the call ends with its reply, or continues at the row of the step
+/// table for adding or removing its key.
 #[inline(always)]
 fn decision_of(local: Local) -> Fed
     ensures { result ≡ decision_of local }

@@ -56,8 +56,7 @@ pub record MayLock (m : Table) (b : Begun) (word thread : ℕ) (s : TableSeat) :
 abbrev pub slot : OwnSlots → ℕ
 slot own = slot_node own.quota own.thread own.used
 
--- Returns the private state of a thread after it has stored these (word, value) pairs, if it had the private state `l`
--- before.
+-- Returns the private state of a thread that had the private state `l` and has then stored these (word, value) pairs.
 abbrev pub feeds : Table → Local → List (ℕ × ℕ) → Local
 feeds m l [] = l
 feeds m l ((word, value) ∷ more) = feeds m (m.feed l value).local more

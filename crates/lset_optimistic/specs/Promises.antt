@@ -29,8 +29,8 @@ abbrev pub IsWalking : Local → Type 0
 IsWalking l = (l.pc ≡ 6) ⊎ (l.pc ≡ 7)
 
 -- States that the second walk of a call has arrived at pred, and that the thread has not yet released pred's lock. The
--- thread is at a row from 7 (the load of pred's key) to 14 (the release of pred's lock). A thread whose second walk
--- has failed is also at row 14, but its walk is at another node.
+-- thread is at a row of the step table from 7 (the load of pred's key) to 14 (the release of pred's lock). A thread
+-- whose second walk has failed is also at row 14, but its walk is at another node.
 pub record HasArrived (l : Local) : Type 0 where
   pub from : 7 ≤ l.pc
   pub upto : l.pc ≤ 14
@@ -90,7 +90,7 @@ pub record FitsAtALoad (op : Opening) (es : ℕ → Event) (first now t : ℕ) (
 
 -- [Optimistic replies fit]: states that if a call ends without having changed the set, its reply is correct at some
 -- moment of the call. At this moment, after its second walk had arrived at pred, the thread saw that pred's link leads
--- to curr (row 8).
+-- to curr (row 8 of the step table).
 abbrev pub OptimisticRepliesFit : Type 0
 OptimisticRepliesFit = (op : Opening) (last k t : ℕ) (es : ℕ → Event) (reply : Reply) → Run optimistic op es last → k < last →
     t < op.threads

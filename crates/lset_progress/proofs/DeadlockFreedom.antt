@@ -146,8 +146,8 @@ module _ (T : Table) (law : Lawful T) (S : Shape) (most : Sizes → ℕ) (shows 
       → moves calls T s (Go v) ≡ unless_failed s.words (T.next (local_of s v)) n
   weight_of s v n e = ap (unless_failed s.words (T.next (local_of s v))) e
 
-  -- Thread u is ready if its next step is not a failed attempt to take a lock. Until u takes this step, each event is a
-  -- counted step or leaves u ready.
+  -- Thread u is ready: it has a pending call, and its next step is not a failed attempt to take a lock. Until u takes
+  -- this step, each event is a counted step or leaves u ready.
   module _ (m : ℕ) (again : (k t : ℕ) → Busy k t → Gather m k) (u : ℕ) where
     record Ready (k : ℕ) : Type 0 where
       busy : Busy k u

@@ -284,7 +284,7 @@ module _ {sz : Sizes} {ws : List ℕ} {used : ℕ → ℕ} {t : ℕ} {vs : ℕ �
     both : {A B : Type 0} → A → B → A × B
     both a b = (a, b)
 
-    -- Each row of a `contains` or a `ceiling` brings the end of the call closer, as `From` requires.
+    -- Each row of the step table for a `contains` or a `ceiling` brings the end of the call closer, as `From` requires.
     read : (n : ℕ) {f : Fed} → IsReadRow n → Reads (round size) size key ws (record l { pc = n }) f → From n ws f
     read n {f} row a = (
       reads_then shape size key ws (reads_at size key ws) (record l { pc = n }) f row a,

@@ -155,8 +155,8 @@ module _ (T : Table) (events : List Event) (e : Event) (es : List Event) (led : 
     no_reply j r l = replies T (state_at T op run j) (run j) r (subst (λ s. is_silent T s (run j) ≡ true) (sym (is_at j))
         (behind T e es (is_silent T) S0 silent back events (opening op) refl j l))
 
-    -- If each of the events that repeat forever is a counted step and ends no call, then no number of counted steps is
-    -- enough for a call to end.
+    -- If each event of the repeated part is a counted step that ends no call, then no number of counted steps is enough
+    -- for a call to end.
     module _ (count : State → Event → ℕ) (counts : all_so (is_one count) T S0 (e ∷ es) ≡ true) where
       all_count : (n k : ℕ) → m ≤ k → steps_among count T op run k n ≡ n
       all_count zero k l = refl

@@ -55,8 +55,8 @@ fn number_before(text: &[u8]) -> Option<(u32, &[u8])>
     Some((value as u32, rest))
 }
 
-/// Returns the moment at the start of a text, and the bytes after the next space. Returns `None` if the text does not
-/// start with a moment and a space.
+/// Returns the moment (a number that dates a start or an end) at the start of a text, and the bytes after the next
+/// space. Returns `None` if the text does not start with a moment and a space.
 #[inline(always)]
 fn moment_before(text: &[u8]) -> Option<(u64, &[u8])>
     ensures { IfSome result (λ p. (text.now ≡ decimal p.0 ++ 32 ∷ p.1.now) × (1 ≤ p.0) × (p.0 ≤ LAST_MOMENT)) }

@@ -19,7 +19,7 @@ use Rattle.lset_rule.specs.Runs.{StartsWith, end_of, IsRunOf}
 use Rattle.lset_rule.specs.Views.{HasThread, Stands}
 use Rattle.lset_words.specs.Words.{Opening}
 
--- States that no thread of the seat with view v executed any of the events.
+-- States that no thread of the seat with view v (its knowledge of the run) executed any of the events.
 abbrev pub IsQuiet : View → List Event → Type 0
 IsQuiet v [] = Unit {0}
 IsQuiet v (e ∷ es) = ¬ (HasThread v (thread_of e)) × IsQuiet v es

@@ -63,9 +63,8 @@ done_at log t (suc k) = done_next (suc k) (log k) t (under_at log t k) (done_at 
 abbrev pub here_at : Table → Opening → (ℕ → Event) → ℕ → ℕ → Here
 here_at T op es t k = here (local_of (state_at T op es k) t) (under_at (log_of T op es) t k) (done_at (log_of T op es) t k)
 
--- `log_by` returns the log of a run, which is computed from its opening and its list of events. `end_of` returns the
--- last state of the run, and `at_end` the last state of a thread. `IsRunOf` states that each event was enabled when it
--- occurred.
+-- `log_by` computes the log of a run from its opening and its list of events. `end_of` returns the last state of the
+-- run, and `at_end` the last state of a thread. `IsRunOf` states that each event was enabled when it occurred.
 abbrev pub log_by : Table → Opening → List Event → Log
 log_by T k es = log_of T k (event_at es)
 

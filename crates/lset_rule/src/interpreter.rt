@@ -56,8 +56,8 @@ pub fn interpret_within<M: Machine, P: Pause, N: Rounds>(
         fed: M::feed(&begun, seen),
         failed: has_failed(action, seen),
     };
-    // A round has four steps. Within a round, the compiled code of one row jumps straight to the code of the next row.
-    // After a round, the code of the next row is found by its number.
+    // A round has four steps. Within a round, the compiled code of one row of the step table jumps straight to the code
+    // of the next row. After a round, the code of the next row is found by its number.
     for round in 0..N::MOST {
         ends_or_pauses!(last, pause);
         let second = one_step::<M, 1>(table, place, &last.fed.local);

@@ -56,8 +56,8 @@ abbrev pub turns_after : ℕ → Request → List Turn → List Turn
 turns_after left request.Quit later = line request.Quit ∷ []
 turns_after left other later = line other ∷ (if left == 1 then limit ∷ [] else later)
 
--- Returns the turns (answered lines) of an input, cut into lines, if the session can answer `left` lines. The last part
--- of the input has no newline, and causes a turn only if it is too long.
+-- Returns the turns (answered lines) of an input that was cut into lines. The session can answer `left` lines. The last
+-- part of the input has no newline, and causes a turn only if it is too long.
 abbrev pub turns_at : ℕ → List (List ℕ) → List Turn
 turns_at left [] = []
 turns_at left (rest ∷ []) = if nat_lt LONGEST_LINE (length rest) then long ∷ [] else []

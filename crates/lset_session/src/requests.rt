@@ -12,7 +12,7 @@ pub enum Request {
     Call(Call),
     /// `QUIT`, which ends the session.
     Quit,
-    /// Any other line, which is answered with `BAD`.
+    /// Any other line. Its answer is `BAD`.
     Bad,
 }
 

@@ -131,8 +131,8 @@ tally_on {v} {w} {size} {below} g a = record {
 abbrev IsCeilingRow : ℕ → Type 0
 IsCeilingRow pc = (pc ≡ 23) ⊎ (pc ≡ 24) ⊎ (pc ≡ 25)
 
--- The progress of a thread's call after `steps` steps. At rows 20 to 22 of a `contains`, the number of visited nodes
--- determines the number of steps.
+-- The progress of a thread's call after `steps` steps. At rows 20 to 22 of the step table, which execute a `contains`,
+-- the number of visited nodes determines the number of steps.
 data Walked (v : View) (size steps : ℕ) (l : Local) : Type 0 where
   resting : l.pc ≡ 0 → Walked v size steps l
   writing : (IsRead l.call → ⊥) → Walked v size steps l

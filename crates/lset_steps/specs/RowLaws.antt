@@ -30,8 +30,8 @@ pub record HasReading (T : Table) : Type 0 where
   pub row_21 : Does T 21 (λ l. Load (key_index l.curr)) read_key nothing
   -- Row 22: a `contains` that has found its key loads the node's mark, and replies.
   pub row_22 : Does T 22 (λ l. Load (link_index l.curr)) read_mark nothing
-  -- Rows 23 to 25: a `ceiling` walks and loads a mark, like a `contains` at rows 20 to 22. It also stores the key
-  -- word, and starts again from the head if it stops at a marked node.
+  -- Rows 23 to 25 of the step table: a `ceiling` walks and loads a mark, like a `contains` at rows 20 to 22. It also
+  -- stores the key word, and starts again from the head if it stops at a marked node.
   pub row_23 : Does T 23 (λ l. Load (link_index l.curr)) (λ l seen. continued (record l { pc = 24; curr = seen / 2 })) nothing
   pub row_24 : Does T 24 (λ l. Load (key_index l.curr)) ceiling_key nothing
   pub row_25 : Does T 25 (λ l. Load (link_index l.curr)) ceiling_mark nothing

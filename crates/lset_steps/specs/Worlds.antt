@@ -18,7 +18,7 @@ pub record WorldState : Type 0 where
   pub state : State
 
 -- States that the state of a world is the final state of some run. The run's set opens with the world's sizes: its
--- numbers of threads, slots and opening keys.
+-- numbers of threads, of slots (nodes for adds) and of opening keys.
 pub record IsRun (T : Table) (w : WorldState) : Type 0 where
   pub opening : Opening
   pub of_sizes : sizes opening ≡ w.sizes

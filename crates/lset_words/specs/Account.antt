@@ -117,7 +117,7 @@ Enters threads quota log contents counts k (stepped t change reply) = Steps thre
 -- States that `contents` and `counts` are the account of a run's first `last` events: they agree with the opening keys
 -- and with each entry of the log.
 pub record Account (o : Opening) (last : ℕ) (log : Log) (contents : Contents) (counts : Counts) : Type 0 where
-  -- The content at moment 0 consists of the opening keys. They increase strictly.
+  -- The content at moment 0 consists of the opening keys. The opening keys increase strictly.
   pub increasing : IsStrictlyIncreasing o.keys
   pub opens : (k : ℕ) → (contents 0 k → InList o.keys k) × (InList o.keys k → contents 0 k)
   -- At moment 0, no thread has added a key.

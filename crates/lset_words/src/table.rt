@@ -29,8 +29,9 @@ pub fn lock_index(node: u64) -> u64
     5 + 3 * node
 }
 
-/// Returns the number of the node that is slot `slot` of thread `thread`, if each thread has `quota` slots. Accepts all
-/// values: if `slot` is not below `quota`, the result is a slot of a later thread, or not a node at all.
+/// Returns the number of the node that is slot `slot` of thread `thread`. Each thread has `quota` slots (nodes for its
+/// adds). Accepts all values: if `slot` is not below `quota`, the result is a slot of a later thread, or not a node at
+/// all.
 pub fn slot_node(quota: u32, thread: u32, slot: u32) -> u64
     ensures { result ≡ slot_node quota thread slot }
 {

@@ -11,7 +11,7 @@ const LISTENING: &str = "listening 127.0.0.1:";
 /// The text after the first line if one client was served.
 const ONE_SESSION: &str = "sessions 1\ncalls 1\nkey 7\n";
 
-/// An upper limit for how often a server calls its output.
+/// An upper limit for the number of writes and flushes of a server on its output.
 const MOST_CALLS: usize = 100;
 
 /// The failures to try, each with the number of bytes that one call transfers.

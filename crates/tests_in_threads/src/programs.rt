@@ -24,7 +24,7 @@ pub fn worked<M: Running + Send + Sync, R: Host, G: Gate + Sync>(
     }
 }
 
-/// Opens an empty set for `seats` threads. Returns the set and a seat for each thread, which can add 4 keys each.
+/// Opens an empty set for `seats` threads. Returns the set and a seat for each thread. Each thread can add 4 keys.
 fn in_a_row<M: Running, R: Abort>(rt: &R, alloc: Global, seats: u32) -> (LiveSet<M>, Vec<Seat<M>>) {
     open::<M>(alloc, seats, 4).expect(rt, "not opened")
 }

@@ -96,8 +96,8 @@ impl Draft {
 /// # Errors
 ///
 /// Returns the first wrong line, and the first check that this line fails. The checks are the checks of `read_schedule`
-/// for version 2, in the same order. The cause is `Number` if a thread is not a number or a row is not a number from 1
-/// to 255. A line without a count is counted as one event.
+/// for version 2, in the same order. The cause is `Number` if a thread is not a number or a row of the step table is
+/// not a number from 1 to 255. A line without a count is counted as one event.
 pub fn read_draft(alloc: Global, bytes: &[u8]) -> Result<Draft, LineFault> {
     let (header, text) = read_header(TITLE.as_bytes(), bytes)?;
     let mut draft = Draft {

@@ -206,9 +206,9 @@ pub fn open(list: List, seats: u32, quota: u32, keys: &[u32]) -> Result<Seat, Fa
 /// The result of a failed renewal: the seats of the set or, if the set is closed, its keys.
 #[derive(Debug)]
 pub enum Left {
-    /// All seats of the set, which is still open.
+    /// All seats of the set. The set is still open.
     Seats(Vec<Seat>),
-    /// The final keys of the set, which is closed.
+    /// The final keys of the set. The set is closed.
     Keys(Vec<u32>),
 }
 

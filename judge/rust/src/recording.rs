@@ -9,7 +9,7 @@ use crate::judges::{Judge, Judged};
 use crate::words::*;
 use crate::{no_verdict, Failed, Failure, Options, Shape, Source};
 
-/// The file with the recording of a run, which grows during the run. It is deleted on drop unless it is kept.
+/// The recording file of a run. It grows during the run, and is deleted on drop unless it is kept.
 pub struct Recording<'a> {
     judge: &'a Judge,
     shape: Shape,

@@ -63,7 +63,10 @@ export function reduce(state, action) {
   return make(state, action);
 }
 
-/** Returns the key of an entry of the browser's history. Each place and each task has its own entry; steps of a run have none. @param {State} state */
+/**
+ * Returns the key of an entry of the browser's history. Each place (a scene or the bench) and each task has its own entry. A step of a run has none.
+ * @param {State} state
+ */
 export function entryOf({ place, task, exercise }) {
   const ofRun = place.screen === "stage" ? [task.kind, task.id, exercise !== null] : [place.id, JSON.stringify(place.given)];
   return [place.activity, place.screen, place.view, place.slide, ...ofRun].join("\n");

@@ -1,4 +1,4 @@
-// Writes the effects of an event. They follow the step in the sentence about the event.
+// Writes the effects of an event. In the sentence about the event, the effects follow the step.
 import { LISTS } from "../../made/rows.js";
 import { chipOf, keyText, valueText } from "./markup.js";
 import { keyNumber, linkTarget, ownerOf } from "./state.js";

@@ -85,7 +85,7 @@ class Walk:
         self.faults += [f"{where}: {fault}" for fault in self.visitor.script(FAULTS, self.least)]
 
     def boxes(self):
-        """Returns the positions of the list and of the threads' buttons, which steps must not move."""
+        """Returns the positions of the list and of the threads' buttons. A step must not move them."""
         return self.visitor.script("""return [...document.querySelectorAll("#figure :is(.list, .dock)")]
             .flatMap((it) => [it.getBoundingClientRect().top, it.getBoundingClientRect().height].map(Math.round))""")
 

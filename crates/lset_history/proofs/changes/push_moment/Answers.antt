@@ -19,7 +19,7 @@ returns-in_err-push-clause-unchanged c = MatchResult-from_err _ _ _ c.from_resid
     ∙ same_items (is_at (nat_cmp c.args.key)) c.args.moments.now.entries
     c.in-Some.moments.now c.push.new.self (sym c.in-Some.ensures.value) c.in_err-push.ensures.items))
 
--- The case that the key has no moments yet.
+-- The case that no moment is recorded for the key yet.
 pub returns-clause-noted : goal.returns-clause-noted
 returns-clause-noted c = noted_map c.args.moments.now c.insert.new.self c.args.key c.args.at c.push-2.new.self
     (subst (λ m. UpdatesBy nat_cmp (nat_cmp c.args.key) m c.insert.new.self (Some c.push-2.new.self))
