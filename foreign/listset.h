@@ -259,8 +259,8 @@ uint64_t listset_seats_within(listset_seat *seat, uint32_t *all);
 /// Merges `from`, including all seats that it contains, into `into`. `from` is empty afterwards.
 LISTSET_USED listset_fault listset_gather(listset_seat *into, listset_seat *from);
 
-/// Closes the set. `seat` must contain all seats of the set, and contains the final keys afterwards. If the allocation of
-/// these keys fails, the set stays open.
+/// Closes the set. `seat` must contain all seats of the set, and contains the final keys afterwards. If the allocation
+/// of these keys fails, the set stays open.
 LISTSET_USED listset_fault listset_close(listset_seat *seat);
 
 /// Copies the keys of a closed set to `room` in strictly increasing order, if they fit in the `places` elements of

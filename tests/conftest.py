@@ -123,8 +123,8 @@ def noting(pytestconfig, tmp_path_factory):
 
 @pytest.fixture(autouse=True)
 def uses_what_it_needs(request, noting, has_what_it_needs, tmp_path_factory, monkeypatch):
-    """If --tools is set, fails each test that runs a command but has no mark for this command. Such a test would fail on a
-    machine without this command.
+    """If --tools is set, fails each test that runs a command but has no mark for this command. Such a test would fail
+    on a machine without this command.
     """
     if not noting:
         yield

@@ -21,8 +21,8 @@ BUILDING = "building the program once WITHOUT A PROOF"
 NO_NODE = "no program is built here, and Node is missing. Install Debian's package nodejs (18 or later), or put the folder bin of the Rattle toolchain in PATH"
 # Arguments that ask for a help text, each with the command of the transcripts that prints this text
 HELP = {"--help": "--help", "help": "--help", "-V": "--version", "help judge": "help judge", "judge --help": "help judge", "judge -h": "help judge"}
-# A small program. For each argument, it looks up the table entry for the argument's length, adds one, and prints the sum.
-# For the argument "show" the addition overflows (255 + 1), and for "replay" the table has no entry.
+# A small program. For each argument, it looks up the table entry for the argument's length, adds one, and prints the
+# sum. For the argument "show" the addition overflows (255 + 1), and for "replay" the table has no entry.
 MAIN = """#![tactic(auto)]
 
 use std::io;

@@ -51,8 +51,8 @@ class Sharing:
         self.calls = sum(call is not None for _, call, _ in self.turns)
 
     def turn(self):
-        """Returns a line, its call (or None), and the right answers. For a ceiling, the third value is instead the client's
-        smallest own key at or above the call's key.
+        """Returns a line, its call (or None), and the right answers. For a ceiling, the third value is instead the
+        client's smallest own key at or above the call's key.
         """
         word, key, is_own = self.draw.choice(self.words), self.draw.randrange(SHARED), self.draw.random() < 0.5
         if self.draw.random() < 0.05:
@@ -117,8 +117,8 @@ def test_clients_at_once_receive_right_answers(program, kind):
 
 
 def test_more_clients_than_seats_are_served(program):
-    """Tests with many sessions: more than the server's seats, more than the threads of the largest set, and more than fit
-    into the queue. A session that ends with an error ends no other session. One client in ten resets its connection
+    """Tests with many sessions: more than the server's seats, more than the threads of the largest set, and more than
+    fit into the queue. A session that ends with an error ends no other session. One client in ten resets its connection
     without having read all answers.
     """
     def speak(key, connection):

@@ -1,5 +1,5 @@
-"""Tests the lists from Python. Four threads call a set and count their changes. Other tests expect errors from refused calls.
-PYTHONPATH must contain the folder of listset.py.
+"""Tests the lists from Python. Four threads call a set and count their changes. Other tests expect errors from refused
+calls. PYTHONPATH must contain the folder of listset.py.
 """
 
 import concurrent.futures

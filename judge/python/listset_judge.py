@@ -583,8 +583,8 @@ class Run:
             self.there.abort()
 
     def call(self, places, of_set, thread, number, draw):
-        """Executes calls, and records them in the slots `places`. Returns the thread's number. After an unknown reply, the
-        thread gets a new number.
+        """Executes calls, and records them in the slots `places`. Returns the thread's number. After an unknown reply,
+        the thread gets a new number.
         """
         before, keys, few = sys.gettrace(), self.shape.keys, min(HOT, self.shape.keys)
         drawn = [word for word, share in enumerate(self.how.shares) for _ in range(share)]

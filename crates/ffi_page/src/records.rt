@@ -125,8 +125,9 @@ pub fn judge_recording(alloc: Global, text: &[u8]) -> Result<Answer, Trouble> {
     })
 }
 
-/// Checks a report and returns a record. If the order explains the calls, the record is `verdict own`. Otherwise it has the
-/// order's error, and states whether another order explains the calls. Returns the same errors as the command `check`.
+/// Checks a report and returns a record. If the order explains the calls, the record is `verdict own`. Otherwise it has
+/// the order's error, and states whether another order explains the calls. Returns the same errors as the command
+/// `check`.
 pub fn judge_report(alloc: Global, text: &[u8]) -> Result<Answer, Trouble> {
     let input = Input::new(text)?;
     let report = read_report(alloc, input.bytes())?;

@@ -124,8 +124,8 @@ pub(crate) fn run_job<
     }
 }
 
-/// Runs a job on the file at `path` and returns the exit status. If the file cannot be opened, writes an error message to
-/// `stderr`.
+/// Runs a job on the file at `path` and returns the exit status. If the file cannot be opened, writes an error message
+/// to `stderr`.
 pub(crate) fn run_on_file<
     H: Files + Net<Listener = TcpListener, Stream = TcpStream> + Threads + Wait + Clock + Sync,
     W: Write,

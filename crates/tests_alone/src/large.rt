@@ -122,8 +122,8 @@ fn a_fault_at_the_end_of_a_long_order_is_found(rt: HostRuntime) -> Result<(), Fa
 /// The number of keys. There is one call for each key.
 const MANY_KEYS: u32 = 500_000;
 
-/// Judges two histories. In the first, all keys are added, but no key is a final key. In the second, all keys are removed
-/// from a set that opened empty. In both, the judge must name key 0, the first key.
+/// Judges two histories. In the first, all keys are added, but no key is a final key. In the second, all keys are
+/// removed from a set that opened empty. In both, the judge must name key 0, the first key.
 #[test]
 fn the_first_of_many_wrong_keys_is_named(rt: HostRuntime) -> Result<(), Fail> {
     let alloc = rt.alloc();

@@ -367,8 +367,8 @@ fn needs_and_leaves(
     Ok(text)
 }
 
-/// Returns the words for the case that the second of two overlapping calls takes effect first: no `add` or `remove` that
-/// would bring the key into the state `need` overlaps the printed moments.
+/// Returns the words for the case that the second of two overlapping calls takes effect first: no `add` or `remove`
+/// that would bring the key into the state `need` overlaps the printed moments.
 fn nor_text(alloc: Global, need: Presence) -> Result<Vec<u8>, AllocError>
     ensures { IfOk result (λ text. text.items ≡ lines.nor_text need) }
 {

@@ -293,8 +293,8 @@ fn a_renewed_set_keeps_what_its_threads_put_in() {
             let mut seat = set.split().unwrap();
             for key in (thread * OWN..(thread + 1) * OWN).cycle().take(2000) {
                 assert_eq!((seat.add(key), seat.contains(key)), (Ok(Added::True), Ok(true)));
-                // On the lock-free list, a ceiling can wait for an add of another thread, and perhaps no thread will call
-                // add again.
+                // On the lock-free list, a ceiling can wait for an add of another thread, and perhaps no thread will
+                // call add again.
                 assert!(list == List::LockFree || seat.ceiling(key) == Ok(Some(key)));
                 assert_eq!((seat.remove(key), seat.remove(key)), (Ok(true), Ok(false)));
             }
