@@ -151,7 +151,7 @@ def runs(asked, kind, size, made, words=()):
 
 @pytest.mark.parametrize("kind", KINDS)
 def test_schedules_of_each_size_are_drafted_replayed_and_checked(asked, few, kind):
-    """Runs short schedules of all sizes in SHAPES and NEAR, and long schedules of one size in NEAR."""
+    """Runs short schedules of each shape in SHAPES and NEAR, and long schedules of one shape in NEAR."""
     for shape in [*SHAPES.values(), *NEAR.values()]:
         runs(asked, kind, 0, shape(240))
     words = {"coarse": ["--lacks", "lock"], "lazy": ["--lacks", "mark-in-contains"]}.get(kind, ())  # (if calls do not overlap, these broken lists behave like the intact lists)

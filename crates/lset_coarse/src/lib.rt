@@ -15,7 +15,8 @@ use lset_words::{Call, HEAD, Key, Kind, LOCK, Reply};
 #[derive(Clone, Copy)]
 pub struct CoarseList;
 
-/// Rows of the step table after a walk: where a call adds its key, removes its key, or leaves with its reply.
+/// The rows of the step table where a call continues after its walk: to add its key, to remove its key, or to end with
+/// its reply.
 const TARGETS: Targets = Targets {
     adds: 5,
     removes: 8,

@@ -11,7 +11,8 @@ use Rattle.lset_steps.specs.declared.rows.Targets.{Targets}
 use Rattle.lset_steps.specs.Steps.{Table}
 use Rattle.lset_steps.specs.Rows.{own_slot, begun, decided_on}
 
--- Rows of the step table after a walk: where a call adds its key, removes its key, or leaves with its reply.
+-- The rows of the step table where a call continues after its walk: to add its key, to remove its key, or to end with
+-- its reply.
 abbrev pub targets : Targets
 targets = record { adds = 7; removes = 10; leaves = 12 }
 

@@ -14,7 +14,8 @@ use Rattle.lset_steps.specs.Steps.{Table}
 use Rattle.lset_steps.specs.Rows.{own_slot, decided_on}
 use Rattle.lset_steps.specs.ReadRows.{begun_reading, read_action, read_fed, continued, leaves_with}
 
--- Rows of the step table after a walk: where a call adds its key, removes its key, or leaves with its reply.
+-- The rows of the step table where a call continues after its walk: to add its key, to remove its key, or to end with
+-- its reply.
 abbrev pub targets : Targets
 targets = record { adds = 8; removes = 11; leaves = 13 }
 

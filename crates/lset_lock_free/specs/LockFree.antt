@@ -13,8 +13,8 @@ use Rattle.lset_steps.specs.Steps.{Table}
 use Rattle.lset_steps.specs.Rows.{own_slot, decided_on}
 use Rattle.lset_steps.specs.ReadRows.{begun_reading, read_action, read_fed, continued, leaves_with}
 
--- Rows of the step table after a walk: where a call adds its key or removes its key. A call that changes nothing ends
--- at once (`leaves`, row 0).
+-- The rows of the step table where a call continues after its walk: to add its key or to remove its key. A call that
+-- changes nothing ends at once (`leaves`, row 0).
 abbrev pub targets : Targets
 targets = record { adds = 5; removes = 8; leaves = 0 }
 

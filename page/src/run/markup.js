@@ -1,4 +1,4 @@
-// Builds elements as text, and the words shared by drawings and sentences.
+// Builds elements as text. Also has the words that drawings and sentences share.
 import { LISTS } from "../../made/rows.js";
 
 const SIGNS = { "&": "&amp;", "<": "&lt;", ">": "&gt;", '"': "&quot;" };

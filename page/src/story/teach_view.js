@@ -66,7 +66,7 @@ goal
   say The contains of thread 0 answers false. A remove of thread 1 begins after it, and answers true while it is pending.
 `;
 
-// ---- Homework: ticked lessons, levels and numbered runs become one link.
+// ---- Homework: the ticked lessons, levels and numbered runs are packed into one link.
 const FIRST_NUMBER = 17;
 const work = { seeds: [] };
 const piece = (name) => part(`#hw-${name}`);
