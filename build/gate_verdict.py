@@ -14,7 +14,7 @@ TRIED = ["crates/listset/out/listset.o", "foreign/out/lib/liblistset.a", "foreig
 
 
 def git(*words):
-    """Returns the output of git; empty if git fails or is missing."""
+    """Returns the output of git, or an empty string if git fails or is missing."""
     how = {"stdout": subprocess.PIPE, "stderr": subprocess.DEVNULL, "text": True}
     return subprocess.run(["git", "-C", TOP, *words], **how).stdout.strip() if shutil.which("git") else ""
 

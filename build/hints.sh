@@ -269,7 +269,7 @@ explain_unwritten() {
   fi
 }
 
-# Explains how a command can read a part of a standard input that is too long. (A part of a report is no report.)
+# Explains how to shorten a standard input that is too long for a command. (A part of a report is not a report.)
 print_shortening() {
   local text=schedule
   [ "$1" != draft ] || text=draft

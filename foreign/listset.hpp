@@ -152,7 +152,7 @@ private:
 };
 
 /// Returns the maximum number of steps of `seat::contains_now` on a list that was opened with `seats` seats, this quota
-/// and `opening` keys. Returns 0 if no set can be opened with these.
+/// and `opening` keys. Returns 0 if no set can be opened with these values.
 inline uint64_t most_reads(uint32_t seats, uint32_t quota, uint32_t opening) { return listset_most_reads(seats, quota, opening); }
 
 /// A thread's seat in a set (the right to call the set as one thread), or nothing. It can be moved but not copied, and

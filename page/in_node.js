@@ -12,7 +12,7 @@ const NOT_RUN = "this node does not run the WebAssembly module; version 18 does"
 
 const bundle = { names: null };
 
-// Node 18 has no global `crypto`, and its streams do not know the format of a course in a link. The streams of zlib know it.
+// Node 18 has no global `crypto`, and its CompressionStream does not support the format of a course in a link. The streams of zlib do.
 globalThis.crypto ??= require("crypto").webcrypto;
 try {
   new CompressionStream("deflate-raw");
@@ -25,7 +25,7 @@ try {
   };
 }
 
-// Evaluates an expression, in which all names can be used that the page's modules export. Often the expression is a single name.
+// Evaluates an expression, often a single name. The expression can use all names that the page's modules export.
 function inPage(words) {
   const textOf = (name) => fs.readFileSync(path.join(__dirname, name), "utf8");
   bundle.names ??= vm.runInThisContext(`${textOf("page.js")}\n${textOf("more.js")}\nObject.assign(listsets.more, MORE), listsets`, { filename: "page.js" });

@@ -7,9 +7,9 @@
 //     node page/listset.js explain [FILE]           node page/listset.js faults [CAUSE]
 //     node page/listset.js help [COMMAND]           and of replay, trace and show [--lacks NAME]; --help, --version
 //
-// FILE can be -, which means standard input. The output, the line about an error and the exit status are those of the program (docs/TEXTS.md).
-// At a terminal, a hint follows below an error. If node cannot run the module, and for run and serve, the script reads nothing, prints an error
-// and exits with status 70. With LISTSET_ENGINE=other it exits with status 70, without an error, whenever it would need the module.
+// FILE can be -, which means standard input. The output, the error message and the exit status are those of the program (docs/TEXTS.md). At a
+// terminal, a hint follows below an error. If node cannot run the module, and for run and serve, the script reads nothing, prints an error and exits
+// with status 70. With LISTSET_ENGINE=other it exits with status 70, without an error, whenever it would need the module.
 "use strict";
 
 const fs = require("fs");
@@ -240,7 +240,7 @@ function judged(engine, isBrief, only, file = "-") {
   return { ...verdict, bytes: Buffer.concat([verdict.bytes, more]) };
 }
 
-// Returns the diagnosis of the recording in a file, or a line that there is none. The verdict has `used` lines.
+// Returns the diagnosis of the recording in a file, or a line that states that there is none. `used` is the number of lines of the verdict.
 function whatIsWrong(engine, file, used) {
   try {
     const { status, bytes } = engine.whyFrom(opened(file), used);
@@ -327,7 +327,8 @@ function tellError(text, hint = noHint) {
 
 const noHint = () => "";
 
-// Returns a hint for an error of these arguments, or for the refusal in `bytes`; an empty text if there is none.
+// Returns a function that returns a hint for the error `said` in these arguments or, if `said` is empty, for the refusal in `bytes`. The hint can be
+// empty.
 function hintOn(engine, words) {
   return (said, bytes) => {
     const hint = asCalled(said === "" ? keysHint(words, bytes) : hintOf(engine, words, said));
@@ -501,7 +502,7 @@ function meant(engine, name, file) {
   return ["replay", "show", "trace"].includes(name) && isExample(engine, file) ? `If you mean the example: listset example ${file} | listset ${name}` : "";
 }
 
-// Returns the only file with this name and an ending; an empty text if there is none, or more than one.
+// Returns the file whose name is this name followed by an ending. Returns an empty string if there is no such file, or more than one.
 function onlyWithEnding(file) {
   try {
     const found = fs.readdirSync(path.dirname(file)).filter((it) => it.startsWith(`${path.basename(file)}.`));

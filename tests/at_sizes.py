@@ -163,7 +163,7 @@ def test_schedules_of_each_size_are_drafted_replayed_and_checked(asked, few, kin
 
 @pytest.mark.parametrize("kind", KINDS)
 def test_counts_of_runs_of_each_size_add_up(asked, few, kind):
-    """Runs the command `run` with one thread and with several, up to its limits."""
+    """Tests the counts that `run` prints, with one thread and with several, up to the limits of its arguments."""
     draw = random.Random(kind)
     drawn = [(threads, log_uniform(draw, MOST_QUOTA), log_uniform(draw, 200), log_uniform(draw, 10_000), log_uniform(draw, 2**64 - 1),
               log_uniform(draw, 100 if threads < 9 else 3)) for threads in ([5, 64] if few else [1, 2, 5, 17, 64])]

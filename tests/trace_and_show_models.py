@@ -87,9 +87,8 @@ class Compared:
         assert texts <= {it.text for it in svg.iter()}, f"{' '.join(words)} of {self.text!r}"
 
     def pictures(self, picture, below=()):
-        """Compares three text pictures and two SVGs. One picture shows all moments. The others begin at a random
-        moment, or begin or end exactly at the start or end of a call. Some options are missing.
-        """
+        """Compares three text pictures and two SVGs. One picture and one SVG show all moments. The others begin or end
+        near the start, effect or end of a call. Options are left out at random. """
         draw = random.Random(self.name)
         moments = Drawn(picture, 1, GREATEST).all or [1]
         first = max(1, draw.choice(moments) - draw.randrange(3))

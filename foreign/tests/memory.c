@@ -120,7 +120,7 @@ int main(int count, char **names) {
   size_t failed = count != 5;
   for (size_t at = 0; !failed && at < sizeof CALLS / sizeof *CALLS; at++) {
     read_text(names[CALLS[at].file]);
-    // The file functions have allocated too, so the counts start at 0 here.
+    // Reading the file has allocated memory too, so the counts are reset here.
     asked = blocks = 0;
     size_t told = tried(CALLS[at].name, CALLS[at].function);
     failed += told == 0;

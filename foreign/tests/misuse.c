@@ -176,7 +176,7 @@ static void refused_renewals(uint8_t kind) {
   listset_drop(&seats[0]);
 }
 
-// Renews a set while the allocation with the number `refused` fails. A second call must renew the set, with all its keys.
+// Renews a set while allocation number `refused` fails. A second call must renew the set with all its keys.
 static void one_renewal(uint8_t kind, size_t refused) {
   listset_seat seats[3] = {LISTSET_NONE, LISTSET_NONE, LISTSET_NONE};
   uint32_t room[8];

@@ -106,7 +106,8 @@ static int full_too_soon() {
   return full;
 }
 
-// Returns the private places of a shared set. (An explicit instantiation may name private members.)
+// Returns the private member `places` (the seats) of a shared set. (An explicit instantiation may name private
+// members.)
 static auto &places_of(listset::shared &set);
 template <auto Places> struct reach {
   friend auto &places_of(listset::shared &set) { return set.*Places; }

@@ -606,7 +606,7 @@ template <class Maker> std::string made_in_child(Maker &by, area &run) {
 }
 
 // Performs a run in threads of this process. Threads that hang keep running. Returns the reason if the run was cut short,
-// otherwise an empty text.
+// otherwise an empty string.
 template <class Maker> std::string made_here(std::shared_ptr<Maker> by, std::shared_ptr<area> run) {
     const auto is_over = std::make_shared<std::atomic<bool>>(false);
     std::thread leader([=] {
@@ -840,7 +840,7 @@ template <class Make, class Key> struct tester {
         return found;
     }
 
-    // Writes a small file beside the recording: calls on one key that no order explains. Returns the part of the
+    // Writes calls on one key that no order explains to a small file beside the recording. Returns the part of the
     // message that names this file.
     std::string alone(const std::string &path, const std::string &number) const {
         const std::string text = number.empty() || !by.only ? "" : by.only(path, number), file = path.substr(0, path.size() - 6) + "-key-" + number + ".calls";

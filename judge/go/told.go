@@ -90,7 +90,7 @@ func firstOf(lines string) string {
 }
 
 // keyLine describes the key that has this number in the recording and, if the run has several sets, the key's set. It
-// returns an empty text if the number itself is the key, and the run has a single set.
+// returns an empty string if the number itself is the key and the run has a single set.
 func keyLine(a *area, number int) string {
 	set, shown := "", a.source.shown(a.number(number%a.keys))
 	if a.sets > 1 {
@@ -102,7 +102,7 @@ func keyLine(a *area, number int) string {
 	return fmt.Sprintf(sayKeyIs, number, shown) + set
 }
 
-// alone writes a small file beside the recording: calls on one key that no order explains. It returns the part of the
+// alone writes calls on one key that no order explains to a small file beside the recording. It returns the part of the
 // message that names this file.
 func (r *recording) alone(by *judgeFound, key string) string {
 	if by.command == nil {
@@ -132,7 +132,7 @@ type judgeFound struct {
 	command     []string // empty if the judge is the library
 }
 
-// library is liblistset in a test with the tag `listset` (library.go), otherwise nil.
+// library is liblistset if the test is built with the tag `listset` (library.go), otherwise nil.
 var library *judgeFound
 
 func (j *judgeFound) String() string { return j.name + ", " + j.proof }

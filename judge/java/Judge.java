@@ -171,10 +171,8 @@ public final class Judge {
             return with(made -> { made.adds = add; made.removes = remove; made.finds = contains; });
         }
 
-        /**
-         * Sets whether sets are called in a JVM of their own. If not, sets are called in this JVM, which crashes or hangs
-         * with them. This is useful for debuggers and coverage.
-         */
+        /** Sets whether sets are called in a separate JVM. If not, sets are called in this JVM, which crashes or hangs
+         * with them. This is useful for debuggers and coverage. */
         public Options withOwnProcess(boolean it) { return with(made -> made.ownProcess = it); }
 
         /** Sets whether contains is called for each key before all other calls to record the opening keys. */
@@ -418,10 +416,8 @@ public final class Judge {
             }
         }
 
-        /**
-         * Writes a small file beside the recording: calls on one key that no order explains. Returns the part of the
-         * message that names this file.
-         */
+        /** Writes calls on one key that no order explains to a small file beside the recording. Returns the part of the
+         * message that names this file. */
         private String alone(Path file, String key) throws IOException {
             Answer answer = program.answer("judge", "--only", key, file.toString());
             if (answer.status != 0) return "";

@@ -322,9 +322,8 @@ class Tester:
         return KEY_IS % (number, key) + (IN_SET % (one + 1) if shape.sets > 1 else "")
 
     def alone(self, file: pathlib.Path, key: str) -> str:
-        """Writes a small file beside the recording: calls on one key that no order explains. Returns the part of the
-        message that names this file.
-        """
+        """Writes calls on one key that no order explains to a small file beside the recording. Returns the part of the
+        message that names this file. """
         text = self.by.only(file, key) if key else ""
         if not text:
             return ""
@@ -515,7 +514,7 @@ class Run:
                     if self.there.broken:  # (the run was cut short)
                         return
                     self.save(file, map(line_of, rows), rows[-1].begin)
-                # (lines not marked as saved: the run can still be cut short)
+                # (these lines are not marked as saved, because the run can still be cut short)
                 file.write("".join([*left, "end\n"] if None not in left else ["cut\n"]).encode())
         except threading.BrokenBarrierError:
             pass
@@ -526,7 +525,7 @@ class Run:
         """Appends lines to the file, and marks all calls that began at the moment `last` or earlier as saved."""
         text = "".join(lines).encode()
         file.write(text)
-        # (if the process ends before this step, its last calls are only in memory)
+        # (if the process ends before this statement, these calls count as not saved, and are read from memory)
         self.SAVED.pack_into(self.slots, self.at_saved, self.saved[0] + len(text), last)
 
     def opening(self, one):

@@ -23,8 +23,8 @@ const startOf = inPage("startOfLacking");
 const LOST = /^(\d+) was added once and never removed, and at the end the set does not have it$/; // as docs/CLASSIC.md summarizes it
 const isTask = (name) => name !== inPage("NO_TASK");
 
-// Checks that the schedule breaks the list as docs/CLASSIC.md says or, for one list, that only the order by linearization points is refused. The
-// schedule must not break the list before its last call.
+// Checks that the schedule breaks the list as docs/CLASSIC.md says. For one list, checks instead that only the order by linearization points is
+// refused. The schedule must not break the list before its last call.
 function checkBroken(ask, name) {
   const schedule = scheduleOf(name);
   const { kind, says } = verdictOnLacking(ask, name, schedule);

@@ -97,7 +97,7 @@ function checkOpenCalls(ask) {
   check("put in", judgedAs(4, "0-true,1-false").isRight === false);
 }
 
-// Returns the labels in the bars of a drawing, and the labels that cover an earlier one.
+// Returns the labels in the bars of a drawing, and those that cover an earlier label.
 function labelsOver(drawing) {
   const labels = [...drawing.matchAll(/<text class="call" x="([^"]*)" y="([^"]*)">(.*?)<\/text>/g)];
   const ends = {};
@@ -249,7 +249,7 @@ function checkDiagnosis() {
   check("no diagnosis", inPage("diagnosisIn")("") === null);
 }
 
-// Checks that the page reports an error in recorded calls with the program's line, and with its sentence about the cause.
+// Checks that the page reports an error in recorded calls with the program's message, and with its sentence about the cause.
 function checkFaultsOfCalls(ask) {
   const { kind, says } = saidOf(ask, `${TITLE}call 0 add 5 7 8 true\ncall 1 add 6 5 9 true\nend\n`);
   const told = "the call does not end after it begins; or a line above has one of its moments, or a call of the same thread that is pending";

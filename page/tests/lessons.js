@@ -1,6 +1,6 @@
-// node tests/lessons.js checks the lessons: their texts, their goals, and the sentences about an attempt. Prints as JSON how many checks passed,
-// and which failed. recorded.txt has schedules for each lesson, each with a digit for each condition of the goal: 1 if the run meets the condition,
-// otherwise 0.
+// node tests/lessons.js checks the lessons: their texts, their goals, and the sentences about a student's attempt. Prints as JSON how many checks
+// passed, and which failed. recorded.txt has schedules for each lesson, each with a digit for each condition of the goal: 1 if the run meets the
+// condition, otherwise 0.
 "use strict";
 
 const fs = require("fs");
@@ -154,7 +154,7 @@ function checkFaults() {
   }
 }
 
-// Checks that starts and answers can be drafts, which the engine turns into schedules.
+// Checks that the start and the answer of a lesson can be drafts, which the engine expands into schedules.
 function checkDrafts(ask, { lessons }) {
   const drafted = TEXT.replace("  go 1 7\n  begin 0 contains 5\n  go 0 3\n", "  go 1 to 12\n  begin 0 contains 5\n  go 0 out\n");
   const course = triedCourse(ask, drafted);

@@ -1,6 +1,6 @@
 """Compares page/listset.js in node with the program on random arguments: both outputs and the exit status must be equal. For wrong arguments, standard
-output must be empty, and the status, the first line of the error and the command in the usage must be equal. page/test compares the engine itself.
-"""
+output must be empty, and the status, the first line of the message and the command in the usage line must be equal. page/test compares the engine
+itself. """
 
 import os
 import random
@@ -25,7 +25,8 @@ def said(words, text=b"", output=subprocess.PIPE):
 
 
 def parts_of_error(text):
-    """Returns the first line of an error about wrong arguments, and the program and the command that its usage names."""
+    """Returns the first line of a message about wrong arguments, and the program and the command that its usage line
+    names."""
     lines = text.split(b"\n")
     return lines[0], [it.split()[:3] for it in lines if it.startswith(b"Usage: ")]
 

@@ -178,7 +178,7 @@ function checkAddresses(engine, texts) {
   check("two things", refusalOf("#example=snip&list=lazy") === 'the address names an example, and has "list" too');
 }
 
-// Checks that an address can name a broken list by its number or its name, and that the broken list must be of the address's kind of list.
+// Checks that an address can name a broken list by its number or its name, and that the broken list must be of the kind that the address names.
 function checkLacking(readAddress) {
   for (const [at, [name, kind]] of Object.entries(inPage("LACKING")).entries()) {
     const named = [name, at + 1].map((which) => readAddress(`#list=${kind}&threads=2&quota=4&lacks=${which}`).lacks);

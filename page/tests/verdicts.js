@@ -75,8 +75,8 @@ function asLook(call) {
   return { ...call, operation: "contains", key: Number(found ?? call.key), reply: String(found !== undefined) };
 }
 
-// Returns the states in which the calls on a key can leave the key if it starts in a given state. The search has nodes: a state of the key, and the pending
-// calls that have taken effect. A call that changes nothing takes effect as soon as it can.
+// Returns the states in which the calls on a key can leave the key if it starts in a given state. A node of the search is a state of the key with the
+// pending calls that have taken effect. A call that changes nothing takes effect as soon as it can.
 function waysLeft(calls, key, isThere) {
   const ofKey = calls.map(asLook).filter((call) => call.key === key && (call.ended !== null || mayChange(call)));
   const events = ofKey.flatMap((call) => [[call.begun, call, true], ...(call.ended === null ? [] : [[call.ended, call, false]])]).sort(([one], [other]) => one - other);
@@ -193,7 +193,7 @@ function checkSentences(properties, it, sentences) {
   for (const sentence of sentences) checkSentence(properties, it, sentence, said);
 }
 
-// Checks a sentence. `said` has the facts from earlier sentences, and `line` the other parts of the sentence's line.
+// Checks a sentence. `said` has the facts from earlier sentences. `line` has the other parts of the line that contains the sentence.
 function checkSentence(properties, it, sentence, said, line) {
   const [pattern, holds] = properties.find(([one]) => one.test(sentence)) ?? [null, () => false];
   met.add(pattern);
@@ -441,8 +441,8 @@ function isTold(it, { wrong, count: answers, isAll }, [operation, atLeast, count
   return Number(found) === someFound && Number(missed) === someMissed;
 }
 
-// Decides whether two calls on a key contradict each other although no calls overlap during this time: one call leaves the key in a state, and the later
-// call needs the opposite state. The opening or final state of the key can take the place of a call.
+// Decides whether some key has a contradiction without overlapping calls: one call leaves the key in a state, a later call needs the opposite state, and
+// no calls overlap from the start of the first to the end of the second. The opening or final state of the key can take the place of a call.
 function isWrongAlone(it) {
   return keysOf(it).some((key) => {
     const ended = ofKey(it, key).filter(holdsReply);
@@ -466,7 +466,7 @@ const isFoundAgain = (it) => it.calls.some((call) => call.ended !== null && !isC
 
 const IN_LIST = { "two adds true": "added twice", "two removes true": "removed twice" }; // the words of a short list
 const TALLIED = ["lost", "came back", "two adds true", "two removes true", "one wrong answer", "none of these"];
-// The words for each kind in the sentence that counts contradictions.
+// Maps the words in the sentence that counts contradictions to the kinds of contradictions.
 const KINDS = {
   "where a key was lost": "lost", "where a key came back": "came back", "with two adds that both returned true": "two adds true",
   "with two removes that both returned true": "two removes true", "with one wrong answer": "one wrong answer", "of no such kind": "none of these",

@@ -2,9 +2,8 @@
 row of a step table links to an event of an example that executes the row (traces.js), if there is one. Each broken list links to the schedule that
 breaks it (examples/schedules/lacks).
 
-Python-Markdown makes the HTML; this script changes its output. Text for the terminal is left out: in a block of code the lines that begin with `$`,
-and everything between the comments `<!-- terminal -->` and `<!-- end -->`.
-"""
+Python-Markdown makes the HTML; this script changes its output. Text for the terminal is left out: lines of code blocks that begin with `$`, and
+everything between the comments `<!-- terminal -->` and `<!-- end -->`. """
 
 import html
 import os
@@ -184,7 +183,7 @@ def page_of(source, text, document, framed):
     """Returns the HTML of a page."""
     body = document.body(LEFT_OUT.sub("", text))
     nav = [f'<a href="{PAGES[it]}">{name}</a>' if it != source else f"<b>{name}</b>" for it, name in NAMES.items()]
-    # (the contents follow the introduction, if no table there lists them)
+    # (the contents follow the introduction, unless the introduction already links to most sections)
     contents = [f'<a href="#{slug}">{re.sub("</?a[^>]*>", "", said)}</a>' for slug, said in re.findall(r'<h2 id="(.*?)">(.*?)</h2>', body)]
     before, sign, after = body.partition("<h2")
     if before.count('href="#') < len(contents) / 2:

@@ -84,9 +84,9 @@ pub extern "C" fn listset_ceiling(alloc: Global, seat: &mut CSeat, key: u32, at:
     ffi_sets::ceiling_at(alloc, seat, key, at)
 }
 
-/// Returns 1 if `key` is in the set, 0 if it is not, without blocking: whatever other threads do, the call makes at
-/// most `listset_most_reads` steps. Makes no call and returns 254 on a coarse, fine or optimistic list, 255 if `seat`
-/// is empty, a receipt or a closed set. Does not allocate.
+/// Returns 1 if `key` is in the set, 0 if it is not, without blocking: whatever other threads do, the call takes at
+/// most `listset_most_reads` steps. Makes no call on a coarse, fine or optimistic list, and returns 254. Returns 255 if
+/// `seat` is empty, a receipt or a closed set. Does not allocate.
 #[unsafe(no_mangle)]
 pub extern "C" fn listset_contains_now(alloc: Global, seat: &mut CSeat, key: u32) -> u8
     ensures made { result < 254 → HasMade seat.old.full seat.old.held (Contains (record { 0 = key })) result seat.new.full seat.new.held }

@@ -16,8 +16,8 @@ fn put(text: &[u8], room: &mut [u8]) -> usize
     count
 }
 
-/// Copies the result of a command into the caller's buffer `room`: the text of an answer, or the line about the error.
-/// Sets `status` to the exit status. Returns the length of the text.
+/// Copies the result of a command into the caller's buffer `room`: the text of an answer, or the error message. Sets
+/// `status` to the exit status. Returns the length of the text.
 pub fn hand(made: Result<Answer, Trouble>, room: &mut [u8], status: &mut u8) -> usize
     ensures { IsHanded (view made) room.old room.new status.new result }
 {

@@ -51,7 +51,7 @@ pub extern "C" fn listset_replay(
 
 /// Judges a recording. If some order explains the recorded calls, writes `ok N calls` and lines about the recording. If
 /// no order does, writes `not linearizable` and the calls that show why, with status 1. If the text has an error,
-/// writes the line about the first error.
+/// writes the message about the first error.
 #[unsafe(no_mangle)]
 pub extern "C" fn listset_judge(
     alloc: Global,

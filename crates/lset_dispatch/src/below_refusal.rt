@@ -64,8 +64,7 @@ pub(crate) fn explained<H: Files>(
     }
 }
 
-/// Appends the advice to use a file to the answer if the answer refuses a recording. Used for recordings that were read from
-/// a pipe.
+/// If the answer refuses a recording, appends the advice to use a file. Used for recordings that were read from a pipe.
 pub(crate) fn pointed(made: Result<Answer, Trouble>) -> Result<Answer, Trouble>
     ensures { (bytes : List ℕ) → Judges bytes (view made) → Judges bytes (view result) }
 {

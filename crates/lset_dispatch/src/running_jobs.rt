@@ -85,9 +85,9 @@ fn judge_file<H: Files, R: Read, W: Write, E: Write>(
     deliver(made, output, stderr)
 }
 
-/// Runs a job and returns the exit status. Writes the result to `output`, or one line about an error to `stderr`. Some
-/// jobs read `input`. Allocates. `run` and `serve` start threads on `rt` and block until these end. `serve` listens on
-/// `rt`.
+/// Runs a job and returns the exit status. Writes the result to `output`, or an error message of one line to `stderr`.
+/// Some jobs read `input`. Allocates. `run` and `serve` start threads on `rt` and block until these end. `serve`
+/// listens on `rt`.
 pub(crate) fn run_job<
     H: Net<Listener = TcpListener, Stream = TcpStream> + Threads + Wait + Clock + Sync,
     R: Read,

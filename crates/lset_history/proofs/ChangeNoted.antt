@@ -162,8 +162,8 @@ pub others_after : (key : ℕ) (old new : BTreeSet ℕ) → set.UpdatesBy nat_cm
     → IsTrue (contains nat_cmp old k) → IsTrue (contains nat_cmp new k)
 others_after key old new up k n has = up.2 k (sym (same_test key k) ∙ unequal_test k key n) ∙ has
 
--- A case distinction: if `P` holds for the moments of an opening key (only moment 0) and of any other key (none), then
--- `P` holds for the moments of every key when the set opens.
+-- Proof by cases: if `P` holds for the moments of an opening key (only moment 0) and of any other key (none), then `P`
+-- holds for the moments of every key when the set opens.
 opened_then : (P : List ℕ → Type 0) → P [] → P (0 ∷ []) → (b : Bool) → P ((if b then 0 ∷ [] else []) ++ [])
 opened_then P none one true = one
 opened_then P none one false = none

@@ -142,7 +142,7 @@ module _ (op : Opening) (last : ℕ) (log : Log) (contents : Contents) (counts :
       answer : CallRecord → Answered
       answer c = record { thread = c.thread; call = c.call; reply = reply_by s.traced.changed s.traced.ended }
 
-  -- ---- The set does not change between two changes of the log
+  -- ---- The set does not change between two changes in the log
   unchanged : (e : Entry) (s : SetState) → ((t : ℕ) (change : Change) (reply : Option Reply) → e ≡ stepped t (Some change) reply → ⊥)
       → set_after e s ≡ s
   unchanged (began t call) s none = refl

@@ -12,7 +12,7 @@ IsNextNote changes moment (Some n) = (moment < n.0)
     × ((j : ℕ) → All (λ m. moment < m → m ≤ n.0 → (m ≡ n.0) × (j ≡ n.1)) (changes j))
 
 -- States that no key between `key` and the result is present after the last change of the set. `None` states that no
--- key above `key` is.
+-- key above `key` is present.
 abbrev pub IsNextPresent : (ℕ → List ℕ) → ℕ → Option ℕ → Type 0
 IsNextPresent changes key None = (j : ℕ) → key < j → is_present_now changes j ≡ false
 IsNextPresent changes key (Some k) = (key < k) × ((j : ℕ) → key < j → j < k → is_present_now changes j ≡ false)

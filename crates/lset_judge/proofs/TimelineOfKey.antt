@@ -144,7 +144,8 @@ pub record IsAct (ev : ℕ → Event) (last : ℕ) (a : Act) : Type 0 where
   pub ends_later : a.begun < a.until
   pub told : (w : Bool) → a.does ≡ changes w → ev a.begun ≡ begins w a.until
 
--- States that changes with different starts have different ends, and that no event of the key is `leaves`.
+-- States that changes with different starts have different ends, and that no event of the key is `leaves`, which stands
+-- for the final state.
 pub record AreEvents (ev : ℕ → Event) : Type 0 where
   pub once : (i j : ℕ) (v w : Bool) (u : ℕ) → ev i ≡ begins v u → ev j ≡ begins w u → i ≡ j
   pub not_left : (i : ℕ) (w : Bool) → ev i ≡ leaves w → ⊥
@@ -167,8 +168,8 @@ same_self true b e = e
 same_self false b e = rw e refl
 
 module _ (ev : ℕ → Event) (last : ℕ) (left : Bool) (are : AreEvents ev) where
-  -- Relates the list xs of pending changes to the state w to the events up to moment m, and to the acts ys that have
-  -- not taken effect yet. (An act is the effect of a call.)
+  -- Relates xs, the ends of the pending changes to the state w, with the events up to moment m and with the acts ys
+  -- that have not taken effect yet. (An act is the effect of a call.)
   pub record Lists (w : Bool) (m : ℕ) (xs : List ℕ) (ys : List Act) : Type 0 where
     pub from_event : (u : ℕ) → has_key u xs ≡ true → (i : ℕ) × (i ≤ m) × (ev i ≡ begins w u)
     pub needed : (u : ℕ) → has_key u xs ≡ true → u ≤ last → (i : ℕ) × In (act i u (changes w)) ys

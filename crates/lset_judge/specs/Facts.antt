@@ -274,8 +274,8 @@ BeginIsKnown before key event after (Some f) None = (facts_for after f.key.0 ≡
     ⊎ ((facts_for after f.key.0 ≡ facts_for before f.key.0) × (f.key.0 ≢ key))
 BeginIsKnown before key event after (Some f) (Some c) = Unit {0}
 
--- States how the end of a call changes the stored facts about its key. If a clash is found, the facts before the end
--- show it, and the call is its second call.
+-- States how the end of a call changes the stored facts about its key. If a clash is found at this end, the facts
+-- before the end show the clash, and this call is its second call.
 pub record EndIsKept (before : States) (call : StreamCall) (after : States) (clash : Option Clash) : Type 0 where
   pub facts : IsEnded call (facts_for before (key_of call.call).0) (facts_for after (key_of call.call).0)
   pub found : IfSome clash (IsFound (facts_for before (key_of call.call).0) call)

@@ -144,7 +144,8 @@ impl Best {
 }
 
 impl Steps {
-    /// Returns the starts and ends of the calls in `calls` that matter to stretches with changes to the state `was`.
+    /// Returns the starts and ends in `calls` that matter for stretches (periods with too many calls). `was` is the
+    /// key's state after each change in a stretch.
     fn of(alloc: Global, calls: &[StreamCall], was: Presence) -> Result<Steps, AllocError> {
         let mut all = Steps {
             steps: Vec::new(alloc),

@@ -344,7 +344,7 @@ impl<M: RunningReads> LiveSet<M> {
     /// Returns whether `key` is in the set, without blocking or allocating. `seat` must belong to this set. The call is
     /// appended to the seat's record with the reply `True` or `False`.
     ///
-    /// The call is wait-free: whatever other threads do, it makes at most `bound` steps, each of them a load
+    /// The call is wait-free: whatever other threads do, it takes at most `bound` steps, each of them a load
     /// (`lset_steps::OpenReads`).
     pub fn contains_now(&self, seat: &mut Seat<M>, key: Key) -> bool
         requires { seat.old.set ≡ self.now }

@@ -121,7 +121,7 @@ module _ (op : Opening) (es : ℕ → Event) (fair : IsFair lazy op es) (t : ℕ
       en.0)
       ∙ (lazy_lawful.steps op (suc k) k t es (fair.run (suc k)) (omega arith) ee).same_call
 
-  -- The case that the next event is a step of the `ceiling`.
+  -- The case in which the next event is a step of the `ceiling`.
   mine : (m k : ℕ) → ((j : ℕ) → Waits j m → Ends j) → Waits k (suc m) → es k ≡ Go t → NoneCounts k op.threads → Ends k
   mine m k again w ee none =
       let row = row_at k (suc m) w in

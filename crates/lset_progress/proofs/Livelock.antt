@@ -22,8 +22,8 @@ pub claiming_is_not_lock_free : NotLockFree claiming
 claiming_is_not_lock_free reads most law = rounds_never_end claiming claims (Go 0) (Go 0 ∷ Go 1 ∷ Go 1 ∷ []) refl refl refl refl
     (steps_of reads) refl most law
 
--- The events before those that repeat forever: thread 0 has added 5. Then thread 0, which adds 3, and thread 1, which
--- removes 5, have both walked to the head and the node of 5.
+-- The events before those that repeat forever. Thread 0 has added 5. Now thread 0 adds 3 and thread 1 removes 5, and
+-- both walks have found the head and the node of 5.
 abbrev yields : List Event
 yields = Begin 0 (Add (record { 0 = 5 })) ∷ Go 0 ∷ Go 0 ∷ Go 0 ∷ Go 0 ∷ Go 0 ∷ Go 0 ∷ Go 0 ∷ Go 0 ∷ Go 0 ∷ Go 0 ∷ Go 0 ∷ Go 0
     ∷ Begin 0 (Add (record { 0 = 3 })) ∷ Go 0 ∷ Go 0 ∷ Begin 1 (Remove (record { 0 = 5 })) ∷ Go 1 ∷ Go 1 ∷ []

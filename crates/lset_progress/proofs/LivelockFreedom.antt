@@ -271,7 +271,7 @@ module _ (T : Table) (law : Lawful T) (S : Shape) (most : Sizes → ℕ) (shows 
               )
 
           -- If the thread has decided what to change, the potential (a bound on the counted steps until a call ends)
-          -- decreases, since the thread has made one of its 5 steps after the decision.
+          -- decreases, since the thread has taken one of its 5 steps after the decision.
           stores_on : LateBy S 5 L → (m : ℕ) → f.stores t ≡ suc m → S.left 0 (λ a. 0) L < suc m → Later
           stores_on x m e few =
               let fewer : total (put f.stores t m) op.threads + 1 ≤ total f.stores op.threads =

@@ -165,7 +165,7 @@ module _ (T : Table) (At : Outline) (follows : Discipline T T.marks At) (rows : 
           }
         ]
 
-    -- The case of a node that the step marks: the thread that makes this step is about to unlink the node.
+    -- The case of a node that the step marks: the thread that takes this step is about to unlink the node.
     as_now : (b : ℕ) → L.pc ≡ 11 → V.link b % 2 ≡ 0 → W.link b % 2 ≡ 1 → After b
     as_now b e even odd =
         let acts : T.next L ≡ Store (link_index L.curr) (2 * L.succ + 1) = (rows.marks L e).0 in

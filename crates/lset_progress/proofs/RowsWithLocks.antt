@@ -147,7 +147,7 @@ module _ (S : Shape) (size : ℕ) where
       pub mine : S.may (T.feed l 0).local w
       pub missed : (seen : ℕ) → seen ≢ 0 → (T.feed l seen).local ≡ l
 
-    -- States that a row of the step table makes an allowed step. In particular, the thread writes a word other than a
+    -- States that the step of a row of the step table is allowed. In particular, the thread writes a word other than a
     -- lock only after it has decided what to change.
     abbrev pub RowBy : Action → Type 0
     RowBy (Load w) = Loads ws l (T.feed l (slice_index ws w))
@@ -190,7 +190,7 @@ module _ {S : Shape} {size : ℕ} {key : ℕ → ℕ} {ws : List ℕ} {l : Local
       → S.left size key' l' < S.left size key l → Then S size key ws l O key' ws' (record { local = l'; answer = None })
   on busy early valid less = goes busy (λ h. absurd (early h)) valid less
 
-  -- The case of a step to the start of a new walk from the head. A walk that will succeed makes no such step.
+  -- The case of a step that starts a new walk from the head. A walk that will succeed takes no such step.
   pub again : Only (nat_lt 0 l'.pc) → (S.late l → ⊥) → (S.valid (node_link ws) l → ⊥) → S.valid (node_link ws') l'
       → S.left size key' l' < S.left size key l + S.round size
       → Then S size key ws l O key' ws' (record { local = l'; answer = None })

@@ -57,7 +57,7 @@ abbrev pub all_so : Test → Table → State → List Event → Bool
 all_so test T s [] = true
 all_so test T s (e ∷ es) = test s e && all_so test T (after T s e) es
 
--- Returns event number j of a run. The run has first the events of the third argument, and then repeats the events e
+-- Returns event number j of a run. The run begins with the events of the third argument, and then repeats the events e
 -- and es forever.
 abbrev pub turn : Event → List Event → List Event → ℕ → Event
 turn e es [] zero = e

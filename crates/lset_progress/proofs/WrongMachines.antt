@@ -37,9 +37,9 @@ pub spinning_is_not_lock_free : NotLockFree spinning
 spinning_is_not_lock_free reads most law = rounds_never_end spinning spins (Go 0) [] refl refl refl refl
     (steps_of reads) refl most law
 
--- The events before those that repeat forever: thread 0 has walked to the head and the tail, and thread 1 adds 7
--- between them. The validation of thread 0 fails, and thread 0 keeps the lock of the head. Its next walk leads to the
--- head again, and it waits forever for the lock of the head.
+-- The events before those that repeat forever. The walk of thread 0 has found the head and the tail, and thread 1 adds
+-- 7 between them. The validation of thread 0 fails, and thread 0 keeps the lock of the head. Its next walk leads to the
+-- head again, and thread 0 waits forever for the lock of the head.
 abbrev keeps : List Event
 keeps = Begin 0 (Add (record { 0 = 5 })) ∷ Go 0 ∷ Go 0 ∷ Begin 1
     (Add (record { 0 = 7 })) ∷ Go 1 ∷ Go 1 ∷ Go 1 ∷ Go 1 ∷ Go 1 ∷ Go 1
@@ -74,8 +74,8 @@ keeping_is_refused most law =
     (subst (λ s. IsPending s 0) (sym is) (λ z. omega arith)) (subst (λ s. NoOtherHolds (sizes op) s 0) (sym is) others) in
     never_ends_alone keeping 0 keeping_state 0 refl refl (most _) (subst (λ s. EndsAlone keeping s 0 (most (sizes op))) is e)
 
--- The events before the deadlock: both threads are at the head and the node of 5. Thread 0, which adds 3, holds the
--- lock of the head. Thread 1, which removes 5, holds the lock of the node of 5.
+-- The events before the deadlock. The walks of both threads have found the head and the node of 5. Thread 0, which adds
+-- 3, holds the lock of the head. Thread 1, which removes 5, holds the lock of the node of 5.
 abbrev crosses : List Event
 crosses = Begin 0 (Add (record { 0 = 5 })) ∷ Go 0 ∷ Go 0 ∷ Go 0 ∷ Go 0 ∷ Go 0 ∷ Go 0 ∷ Go 0 ∷ Go 0 ∷ Go 0 ∷ Go 0 ∷ Go 0
     ∷ Begin 0 (Add (record { 0 = 3 })) ∷ Go 0 ∷ Go 0 ∷ Go 0 ∷ Begin 1 (Remove (record { 0 = 5 })) ∷ Go 1 ∷ Go 1 ∷ Go 1 ∷ []

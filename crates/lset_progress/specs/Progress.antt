@@ -120,7 +120,7 @@ EndsAmong count T most = (op : Opening) (k n : ℕ) (es : ℕ → Event) → Run
     → most (sizes op) ≤ steps_among count T op es k n → SomeEnds count T op es k n
 
 -- [Lock freedom]: states that among any `most` successive steps of `add` and `remove`, at least one ends its call,
--- whichever threads make the steps and whatever other events happen in between. The same is required of the steps of
+-- whichever threads take the steps and whatever other events happen in between. The same is required of the steps of
 -- `add`, `remove` and `contains`.
 abbrev pub IsLockFree : Table → (Sizes → ℕ) → Type 0
 IsLockFree T most = (reads : Bool) → EndsAmong (steps_of reads) T most

@@ -77,7 +77,7 @@ pub fn lock_free_calls_end_alone()
 {}
 
 /// Theorem: among any `n(2N + 2)(N + n) + n(4N + 5)` successive steps of `add` and `remove` by the n threads of a
-/// LockFreeList, at least one ends its call, whichever threads make the steps and whatever else happens in between. The
+/// LockFreeList, at least one ends its call, whichever threads take the steps and whatever else happens in between. The
 /// same is true of steps of `add`, `remove` and `contains`. (Lock freedom of Harris's and Michael's list, as Herlihy
 /// and Shavit define it.)
 #[tactic(auto, using(crate::proofs::LockFreedom::lock_free_is_lock_free))]
@@ -127,7 +127,7 @@ pub fn fine_list_is_livelock_free()
     ensures { IsLivelockFree each_call fine (lock_window fine_steps) }
 {}
 
-/// Theorem: in a fair run of a FineList (every thread with a pending call makes another step later), whenever a call is
+/// Theorem: in a fair run of a FineList (every thread with a pending call takes another step later), whenever a call is
 /// pending, some call ends later. (Freedom from deadlock, as Herlihy and Shavit define it.)
 #[tactic(auto, using(crate::proofs::FineProgress::fine_deadlock_free))]
 pub fn fine_list_is_deadlock_free()

@@ -215,8 +215,8 @@ is_done section.Done = true
 abbrev pub cause_at_end : Section → Cause
 cause_at_end s = if is_title s then wrong.Header else wrong.NotEnded
 
--- Returns the result of reading if the text ends here. The last argument contains the bytes after the last newline,
--- which must be none.
+-- Returns the result of reading if the text ends here. The last argument contains the bytes after the last newline;
+-- there must be none.
 abbrev pub ending : ℕ → SoFar → List ℕ → Result Recording LineFault
 ending line s [] = if is_done s.section then Ok s.told else Err (fault line (cause_at_end s.section))
 ending line s (b ∷ bs) = Err (fault line wrong.NotEnded)

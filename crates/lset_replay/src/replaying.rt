@@ -125,7 +125,7 @@ impl Task for Replaying<'_> {
 ///
 /// `schedule` must be within the limits: 1 to 64 threads, a quota of 0 to 16,384, at most 1,048,576 opening keys in
 /// strictly increasing order, and at most 1,000,000 events. Every schedule from `read_schedule` is within these limits.
-/// The report has the version of the schedule. `write_report` accepts the report if this version has words for the
+/// The report has the version of the schedule. `write_report` accepts the report if this version can express the
 /// schedule's calls and opening keys.
 ///
 /// A call that changed the set takes effect at the event of its change, even if the call is pending. Any other

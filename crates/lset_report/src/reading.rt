@@ -221,7 +221,7 @@ fn report(alloc: Global, bytes: &[u8]) -> Result<Report, ReportFault>
 pub fn read_report(alloc: Global, bytes: &[u8]) -> Result<Report, ReportFault>
     // If a report is returned, its calls are a history, and `bytes` is the text of the report.
     ensures found { IfOk result (λ r. IsReport (view r) × (bytes.now ≡ report_text (view r))) }
-    // `write_report` can write every report that is returned: its version has words for all its contents.
+    // `write_report` can write every report that is returned: its version of the format can express all its contents.
     ensures words { IfOk result (λ r. HasWordsOfVersion (view r)) }
     // If `bytes` is the text of a report, the result is this report, unless an allocation fails.
     ensures only { (r : ReportValue) → IsReport r → bytes.now ≡ report_text r

@@ -197,7 +197,7 @@ module _ (m : Table) where
       (λ i. record v { spent = sym sp i; under = sym idle i; past = sym fresh i; others = sym there i }) (splits_at v o os k id)
 
   -- Lemmas about view v (a seat's knowledge of the run) after it has learned of more events, up to the end of the list
-  -- `to`. Threads of other seats made these additional events.
+  -- `to`. These additional events belong to threads of other seats.
   module _ (k : Opening) (log : List Event) (so : ℕ → ℕ) (i : ℕ) (v : View) (f : MatchesLog m k log so i v) (ran : IsRunOf m k log) (to : List Event) (begins : StartsWith log to) (le : length v.seen ≤ length to) where
     more : (d : List Event) × (to ≡ v.seen ++ d) × (f.rest ≡ d ++ begins.0)
     more = prefixes v.seen to f.rest begins.0 (sym f.is ∙ begins.1) le
@@ -209,7 +209,7 @@ module _ (m : Table) where
     still_there t h = ap (λ l. at_end m v.shape l t) more.1 ∙ still_quiet m v.shape v v.seen more.0 t h quiet.0
 
     -- After a view (a seat's knowledge of the run) has learned of the events `to`, it still matches all events. The two
-    -- lists that it keeps after a join can be any prefixes of the events.
+    -- lists that the view keeps after a join can be any prefixes of all events.
     sees : (mine theirs : List Event) → StartsWith log mine → StartsWith log theirs →
         MatchesLog m k log so i (record v { seen = to; ours = mine; theirs = theirs })
     sees mine theirs ours other = record {

@@ -40,8 +40,8 @@ abbrev pub later : View → List Event → Event → Local → Option PendingCal
 later v log e l u r = record v { local = l; under = u; past = r; seen = log ++ e ∷ [] }
 
 module _ (m : Table) where
-  -- Events that a view has not seen were made by threads of other views. Therefore the state of each thread of the
-  -- view is the same after all events as after the events that the view has seen.
+  -- Events that a view has not seen belong to threads of other views. Therefore the state of each thread of the view is
+  -- the same after all events as after the events that the view has seen.
   pub still : (k : Opening) (log : List Event) (so : ℕ → ℕ) (j : ℕ) (v : View) (f : MatchesLog m k log so j v) (t : ℕ) → HasThread v t →
       at_end m k log t ≡ at_end m k v.seen t
   still k log so j v f t h = ap (λ l. at_end m k l t) f.is ∙ still_quiet m k v v.seen f.rest t h f.quiet

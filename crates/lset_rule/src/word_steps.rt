@@ -20,7 +20,7 @@ pub type TableSeat = Seat<(), View>;
 /// The shared words of a set with the list `M`: the locks, the counts, and the keys and links of the nodes.
 pub type Words<M> = Shared<(), View, Opened, Follows<M>>;
 
-/// Makes a step of a pending call, but not its first step.
+/// Executes a step of a pending call, other than its first step.
 ///
 /// `place` is a seat on the words `table` with a pending call. `action` is the action that the step table has at the
 /// call's current row. Returns the value to pass to the table's `feed`: the value that was loaded or stored, or the

@@ -132,7 +132,7 @@ fn generated_lines<M: Machine, R: Rng>(
 ///
 /// `threads` must be 1 to 64, `quota` 0 to 16,384, and `keys` at least 1. All random numbers come from one generator,
 /// seeded with `seed`. The schedule is drawn in turns, at most 100,000. Each turn draws a thread. If the thread has a
-/// pending call, the call makes a step. Otherwise, if fewer than `calls` calls have begun, the thread begins a call,
+/// pending call, the call takes a step. Otherwise, if fewer than `calls` calls have begun, the thread begins a call,
 /// and two more numbers select its kind and its key below `keys`. The schedule ends when no call is pending and none
 /// can begin. Allocates.
 ///

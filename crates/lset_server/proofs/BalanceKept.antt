@@ -110,8 +110,8 @@ merges port v other u some_part items views b at two at' =
           b.2),
     )
 
--- If no pass (right to use the channel) has parts, and f is 0 for each pass without parts, then the sum of f over all
--- passes is 0.
+-- If every pass (a right to use the channel) has 0 parts, and f is 0 for each pass with 0 parts, then the sum of f over
+-- all passes is 0.
 no_parts : (f : Tally → ℕ) (views : List Tally) → ((j : ℕ) (u : Tally) → get_elem? views j ≡ some u → u.parts ≡ 0 → f u ≡ 0) →
     total (λ u. u.parts) views ≡ 0 → total f views ≡ 0
 no_parts f [] h none = refl

@@ -136,8 +136,8 @@ bound_next' s d most n n' total h e small =
 pub as_many : {H T : Type 0} (seat_of : H → T) (hs : List H) (ss : List T) → map seat_of hs ≡ ss → length hs ≡ length ss
 as_many seat_of hs ss e = sym (length-map hs seat_of) ∙ ap (λ l. length l) e
 
--- After all workers were joined, the sender's pass (a right to use the channel) has all parts again, and its tally
--- lists the numbers of all connections as sent.
+-- After all workers have been joined, the sender's pass (a right to use the channel) has all its parts again, and its
+-- tally lists the numbers of all connections that were sent.
 pub whole_again : (n many : ℕ) (v u x y : Tally) (received : List ℕ) (k : ℕ) → v ≡ tally PARTS [] [] → n ≤ MOST_THREADS →
     u ≡ tally (v.parts - n) v.sent v.received
     → x ≡ tally u.parts (u.sent ++ numbers_below many) u.received → k ≡ n →

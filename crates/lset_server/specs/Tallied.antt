@@ -1,4 +1,4 @@
--- The connections that a server has sent and received, for contracts about its result.
+-- The connections sent and received through a server's channel, for contracts about the server's result.
 use Rattle.crossbeam_channel.specs.Claims.{view}
 use Rattle.lset_server.specs.declared.channel.Tally.{Tally}
 use Rattle.lset_server.specs.declared.set_server.Served.{Served}

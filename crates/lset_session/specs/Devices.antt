@@ -1,4 +1,4 @@
--- Definitions for contracts of writers: a text was written completely, or only a prefix of it.
+-- Definitions for contracts of writers: whether a text was written completely, or only a prefix of it.
 use Rattle.std.specs.Prelude.{◌≡◌, ℕ, Bool, MatchBool, List, ◌∷◌, ◌++◌, Option}
 use Rattle.std.specs.Io.KnownBytes.{Appends}
 use Rattle.lset_session.specs.declared.devices.Device.{Device}

@@ -18,8 +18,8 @@ abbrev pub Wrote : EndReason → Option (List ℕ) → Option (List ℕ) → Lis
 Wrote why.WriteFault w w' talk = CutAnswers w w' talk
 Wrote end w w' talk = Appends w w' (answers_in talk)
 
--- Returns the reason that the bytes read so far give for the end of a session. The bytes do not show that a read
--- failed. Therefore the result for `ReadFault` is `End`. The result for any other reason is the reason itself.
+-- Returns the reason for a session's end as far as the bytes read show it. The bytes do not show that a read failed, so
+-- the result for `ReadFault` is `End`. Any other reason is returned unchanged.
 abbrev pub text_end : EndReason → EndReason
 text_end why.ReadFault = why.End
 text_end end = end

@@ -88,7 +88,7 @@ fn flush<O: Sink>(buffer: &RefCell<Buffer<O>>) -> bool {
     }
 }
 
-/// The reader of a buffered session. Writes the answers in the buffer before each read.
+/// The reader of a buffered session. Writes the buffered answers to the client before each read.
 #[derive(Drop)]
 struct Flushing<'a, I, O: Sink> {
     reader: I,

@@ -69,7 +69,7 @@ fn reply_line(reply: Reply) -> ArrayString<14>
     line
 }
 
-/// Makes the call of a request and writes the answer. Returns whether the whole answer was written.
+/// Executes the call of a request and writes the answer. Returns whether the whole answer was written.
 fn answer<R: Wait, W: Sink, S: SetCalls>(
     rt: &R,
     writer: &mut W,

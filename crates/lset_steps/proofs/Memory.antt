@@ -48,7 +48,7 @@ one_more_other used t u d = grind (arith, nat_tests)
 abbrev pub Writes : List ℕ → Action → ℕ → ℕ → Type 0
 Writes ws a i x = (a ≡ Store i x) ⊎ (a ≡ Exchange i (slice_index ws i) x)
 
--- The steps that thread `t` may make. Each constructor has the action, the words after it, each thread's number of
+-- The steps that thread `t` may take. Each constructor has the action, the words after it, each thread's number of
 -- successful adds after it, and the key that the step adds or removes.
 pub data WordStep (marks : Bool) (sz : Sizes) (t : ℕ) (ws : List ℕ) (used : ℕ → ℕ) : Action → List ℕ → (ℕ → ℕ)
     → Option (Key × Bool) → Type 0 where

@@ -53,7 +53,7 @@ pub outcome_on : (done : Bool) (q : ℕ) (vs : ℕ → View) (first now t : ℕ)
 outcome_on done q vs first now t call None o = o
 outcome_on done q vs first now t call (Some reply) o = due_on done q vs first now t call reply o
 
--- A protocol for sharing the words of a list: the steps that a thread may make (loads are always allowed), and the
+-- A protocol for sharing the words of a list: the steps that a thread may take (loads are always allowed), and the
 -- properties that such a step preserves for another thread (`rely`).
 pub record Protocol (marks : Bool) : Type 1 where
   pub step : (sz : Sizes) (t : ℕ) (ws : List ℕ) (used : ℕ → ℕ) → Action → List ℕ → (ℕ → ℕ) → Option (Key × Bool) → Type 0

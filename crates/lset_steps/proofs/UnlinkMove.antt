@@ -7,7 +7,7 @@ use Rattle.lset_steps.proofs.Moves.{Unlinks, KeepsNodes}
 use Rattle.lset_steps.proofs.Segments.{segment_increases, sides, one_key}
 use Rattle.lset_steps.proofs.QuietMove.{in_chain_published, chain_before, chain_on, segment_after, apart, apart'}
 
--- The keys and links in an unlinking: of the unlinked node `curr`, of `pred` before it, and of `s` after it.
+-- The keys and links of the three nodes of an unlinking: the unlinked node `curr`, `pred` before it, and `s` after it.
 pub record Facts (v w : View) (pred curr s : ℕ) : Type 0 where
   pub curr_is : v.link pred / 2 ≡ curr
   pub s_is : v.link curr / 2 ≡ s

@@ -108,7 +108,7 @@ from24_more vs n first now k curr r l a top above =
       above = above;
     }
 
--- Row 22 of the step table: a `contains` loads the mark of `curr`, the node with its key, and replies.
+-- Row 22 of the step table: a `contains` loads the mark of `curr`, the node with the call's key, and replies.
 pub from22_true : (vs : ℕ → View) (n first now k curr : ℕ) → Course vs n → now ≤ n → At22 vs first now k curr
     → 1 < curr → (vs now).link curr % 2 ≡ 0 → Had vs first now k
 from22_true vs n first now k curr r l a u e =

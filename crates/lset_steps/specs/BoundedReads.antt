@@ -1,4 +1,4 @@
--- Laws of lists whose `contains` makes only loads. With n threads of quota q and m opening keys, a `contains` makes at
+-- Laws of lists whose `contains` makes only loads. With n threads of quota q and m opening keys, a `contains` takes at
 -- most 2(nq + m) + 2 steps, whatever the other threads do. Each node that the call passes was in the chain at some
 -- moment of the call.
 use Rattle.std.specs.Prelude.{◌≡◌, ◌≢◌, ℕ, zero, suc, ◌+◌, ◌*◌, ◌<◌, ◌≤◌, if◌then◌else◌, ◌==◌}
@@ -12,7 +12,7 @@ use Rattle.lset_steps.specs.Chain.{Seen}
 use Rattle.lset_steps.specs.Laws.{views}
 use Rattle.lset_steps.specs.Promises.{IsContains, IsRead}
 
--- Returns the number of steps that thread `t` has made since its last call began, after an event. `before` is this
+-- Returns the number of steps that thread `t` has taken since its last call began, after an event. `before` is this
 -- number before the event.
 abbrev pub steps_after : Event → ℕ → ℕ → ℕ
 steps_after (Begin u call) t before = if u == t then 0 else before
@@ -26,8 +26,8 @@ steps_since es t (suc k) = steps_after (es k) t (steps_since es t k)
 abbrev pub most_reads : Sizes → ℕ
 most_reads sz = 2 * (sz.threads * sz.quota + sz.opening) + 2
 
--- [Bounded contains]: the next step of thread t's pending `contains` is a load, and the call has made fewer steps than
--- the bound. Therefore no `contains` makes more steps than the bound.
+-- [Bounded contains]: the next step of thread t's pending `contains` is a load, and the call has taken fewer steps than
+-- the bound. Therefore no `contains` takes more steps than the bound.
 pub record ReadsNext (T : Table) (op : Opening) (es : ℕ → Event) (k t : ℕ) : Type 0 where
   pub loads : (word : ℕ) × (T.next (local_of (state_at T op es k) t) ≡ Load word)
   pub few : steps_since es t k < most_reads (sizes op)

@@ -35,7 +35,7 @@ abbrev pub IsLockWord : ℕ → Type 0
 IsLockWord x = (x ≡ 0) ⊎ ((i : ℕ) × (x ≡ lock_index i))
 
 -- States that the private state `l` has the number of thread `t` and the quota of the set, and that its registers are
--- in range: each is a node of the list, or a key word up to the tail's.
+-- in range: each is a node of the list, or a key word that is at most the tail's.
 pub record Registers (sz : Sizes) (t : ℕ) (l : Local) : Type 0 where
   pub thread : l.thread ≡ t
   pub quota : l.quota ≡ sz.quota

@@ -110,7 +110,7 @@ pub fn listed_content<M: Machine>()
 {}
 
 /// Lemma: in a list whose reads take no locks (`OpenReads`), each step of a `contains` is a load, and a `contains`
-/// makes at most `bound` steps, whatever the other threads do. (Herlihy and Shavit's wait-free `contains`.)
+/// takes at most `bound` steps, whatever the other threads do. (Herlihy and Shavit's wait-free `contains`.)
 pub fn bounded_reads<M: OpenReads>()
     ensures { BoundedReads M.table }
 {}

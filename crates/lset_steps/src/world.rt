@@ -402,7 +402,7 @@ impl<M: Machine> World<M> {
         }
     }
 
-    /// Makes the next step of a thread at row `PC` of the step table. Since `PC` is a constant, the compiler keeps
+    /// Executes the next step of a thread at row `PC` of the step table. Since `PC` is a constant, the compiler keeps
     /// only this row of the machine's functions, and the step writes only the fields of the thread's state that this
     /// row changes.
     #[inline(always)]

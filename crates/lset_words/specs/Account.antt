@@ -91,7 +91,7 @@ pub record Begins (threads : ℕ) (log : Log) (contents : Contents) (counts : Co
   pub content : Same (contents k) (contents (suc k))
   pub same_counts : (u : ℕ) → u < threads → counts (suc k) u ≡ counts k u
 
--- States that thread `t` makes a step between moments `k` and `k + 1`. `change` and `reply` are `None` if the step
+-- States that thread `t` takes a step between moments `k` and `k + 1`. `change` and `reply` are `None` if the step
 -- makes no change or returns no reply.
 pub record Steps (threads quota : ℕ) (log : Log) (contents : Contents) (counts : Counts) (k t : ℕ) (change : Option Change)
     (reply : Option Reply) : Type 0 where

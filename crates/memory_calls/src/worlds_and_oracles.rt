@@ -4,8 +4,8 @@ use lset_history::{History, HistoryFault, Oracle};
 use lset_steps::{Event, StepFault, World};
 use lset_words::layout;
 
-/// Adds a key, at most 5, by making 15 steps of one thread. 15 steps are enough for the key 5. If the call ends earlier,
-/// the remaining steps return `Idle`, which is ignored.
+/// Adds a key, at most 5, in 15 steps of one thread. 15 steps are enough for the key 5. If the call ends earlier, the
+/// remaining steps return `Idle`, which is ignored.
 fn add(world: &mut World<CoarseList>, key: u32) -> Result<(), StepFault> {
     world.step(Event::Begin(0, Call::Add(Key(key))))?;
     for _ in 0..15 {

@@ -22,7 +22,7 @@ pub enum Failure {
 }
 
 impl Failure {
-    /// Returns the error of a failing call whose result is no number of bytes, such as a flush.
+    /// Returns the error of a failing call whose result is not a number of bytes, such as a flush.
     fn error(self) -> io::Error {
         io::Error::from(match self {
             Failure::Interrupted => ErrorKind::Interrupted,

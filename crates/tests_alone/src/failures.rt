@@ -16,7 +16,7 @@ type Row = (&'static [&'static str], &'static str);
 const SCHEDULE: &str =
     "listset-schedule 1\nlist coarse\nthreads 1\nquota 4\nbegin 0 add 5\ngo 0 7\n";
 
-/// A schedule with an error: a thread makes a step although it has no pending call.
+/// A schedule with an error: a thread takes a step although it has no pending call.
 const IDLE: &str =
     "listset-schedule 1\nlist coarse\nthreads 1\nquota 4\nbegin 0 add 5\ngo 0 1\ngo 0 7\n";
 

@@ -162,7 +162,7 @@ fn is_as_told<M: Running + Send + Sync, R: Host>(
     assert_eq!(rt; stopping.one.counts(), (one.3, one.4), "seat 1");
 }
 
-/// Asserts the results of a case twice: for the loops of the list, and for the interpreter of its step table.
+/// Asserts the results of a case for the loops of the list and for the interpreter of its step table.
 fn both_are<M: Running + Send + Sync, R: Host>(
     rt: &R,
     alloc: Global,

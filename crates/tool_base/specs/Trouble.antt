@@ -1,4 +1,4 @@
--- The errors that end the program, with their lines on stderr and their exit statuses.
+-- The errors that end the program, with their messages on stderr and their exit statuses.
 use Rattle.std.specs.Prelude.{ℕ, List, ◌++◌, codes}
 use Rattle.std.specs.Fmt.{decimal}
 use Rattle.lset_text.specs.declared.causes.Cause.{Cause}

@@ -153,7 +153,8 @@ impl FaultLine {
     }
 }
 
-/// Removes the prefix of a `FAULTS` line, such as `listset: line L: `, so that the line begins with its name.
+/// Removes the prefix of a `FAULTS` line, such as `listset: line L: `, so that the line begins with the name that it
+/// explains.
 fn from_name(line: &[u8]) -> &[u8] {
     let line = line.strip_prefix(b"  ").unwrap_or(line);
     let line = line.strip_prefix(b"listset: ").unwrap_or(line);

@@ -7,7 +7,8 @@ use text_errors::{Lines, Place, TextKind, field_or_empty, number_at};
 use tool_base::{Tool, answer_text};
 use tool_replay::{Expand, Trace};
 
-/// Returns a draft that has the lines from line 2 up to the error, followed by `ending`.
+/// Returns a draft (a schedule that can state where a thread stops) with the lines from line 2 to the line before the
+/// error, followed by `ending`.
 fn draft_up_to(
     alloc: Global,
     lines: &Lines<'_>,

@@ -396,8 +396,8 @@ fn turned_there(
     Ok(text)
 }
 
-/// Returns the words for the case that the second call takes effect first: no call that could bring the key into the
-/// state `back` overlaps the moments `from` to `to`.
+/// Returns the words for the case in which the second call takes effect first: no call that could bring the key into
+/// the state `back` overlaps the moments `from` to `to`.
 #[tactic(auto, unfolding(crate::specs::Clashes::turned_back))]
 fn turned_back(alloc: Global, back: Presence, from: u64, to: u64) -> Result<Vec<u8>, AllocError>
     ensures { IfOk result (λ text. text.items ≡ lines.turned_back back from to) }

@@ -63,7 +63,7 @@ fn maker(count: &Count, state: Presence) -> Call {
     }
 }
 
-/// Writes the calls of a contradiction by counting: calls that all need the key in the same state. If there are many,
+/// Writes the calls of a contradiction by counting. These calls need the key in the same state. If there are many,
 /// writes only the first and last calls, with the number of calls between them.
 fn put_calls(out: &mut String, count: &Count) -> Result<(), AllocError> {
     let (key, all) = (count.key.0, count.calls.len());

@@ -125,7 +125,7 @@ fn end_of(clash: Option<Clash>) -> Option<u64> {
 }
 
 /// Returns a line for a contradiction whose second call ended after the moment of the refusal. Otherwise returns an
-/// empty text.
+/// empty string.
 fn later_note(alloc: Global, refusal: Refusal, clash: Option<Clash>) -> Result<String, AllocError> {
     match (refusal.moment, end_of(clash)) {
         (Some(moment), Some(end)) if moment < end => format!(in alloc;

@@ -72,9 +72,9 @@ pub fn generate_for(alloc: Global, values: &[String]) -> Result<Answer, Trouble>
 /// Implements the command `gen`: writes a random schedule of version 1 to `output`, and returns the exit status.
 ///
 /// `values` are the command's arguments, as `read_random_request` reads them. The schedule has at most 10,000 events,
-/// so it can begin fewer calls than requested. The exit status is 0 if the schedule was written. Otherwise one line
-/// about the error is written to `faults`, if possible. The exit status is then 2 if an argument is missing or wrong
-/// (the line names the first such argument), 3 if an allocation failed, and 1 for any other error. Allocates.
+/// so it can begin fewer calls than requested. The exit status is 0 if the schedule was written. Otherwise an error
+/// message of one line is written to `faults`, if possible. The exit status is then 2 if an argument is missing or
+/// wrong (the message names the first such argument), 3 if an allocation failed, and 1 for any other error. Allocates.
 pub fn tool_gen<W: Write, F: Write>(
     alloc: Global,
     values: &[String],

@@ -14,8 +14,8 @@ use trace_lines::Output;
 use traced_run::trace_into;
 
 /// The command `trace`. The answer has a line for each event of a schedule. The exit status is 0 if all events were
-/// made, and 1 if an event was refused, which ends the trace. The command fails with `Line` if the text is not a
-/// schedule (on a broken list, as `read_broken_schedule` does), and with `Memory` if an allocation fails.
+/// executed, and 1 if an event was refused. A refused event ends the trace. The command fails with `Line` if the text
+/// is not a schedule (on a broken list, as `read_broken_schedule` does), and with `Memory` if an allocation fails.
 #[derive(Clone, Copy)]
 pub struct Trace {
     /// Whether to write the chain of nodes after each event that changed it.
@@ -33,9 +33,9 @@ impl Tool for Trace {
     }
 }
 
-/// Traces the schedule in `input` to `output`. Each event is written soon after it is made, so the whole text is never
-/// in memory. Returns an answer without text. Its status is 1 if an event was refused, otherwise 0. If an allocation
-/// or a write fails, a part of the trace can already have been written. Allocates.
+/// Traces the schedule in `input` to `output`. Each event is written soon after it is executed, so the whole text is
+/// never in memory. Returns an answer without text. Its status is 1 if an event was refused, otherwise 0. If an
+/// allocation or a write fails, a part of the trace can already have been written. Allocates.
 pub fn trace_events<R: Read, W: Write>(
     alloc: Global,
     trace: Trace,

@@ -46,7 +46,7 @@ impl Display for Wrong {
 
 impl Error for Wrong {}
 
-/// The part of a run to draw. `None` selects the beginning, the end, or the default width.
+/// The part of a run to draw. A field that is `None` selects the first moment, the last moment, or the default width.
 #[derive(Clone, Copy, Debug, Default)]
 pub struct Window {
     /// The first moment to draw.
@@ -77,7 +77,7 @@ pub fn judge_text(recording: impl AsRef<[u8]>) -> Result<String, Wrong> {
 }
 
 /// Returns a diagnosis of a recording that [`judge_text`] refuses: calls that show the error, which operation is wrong
-/// and how often, and a likely cause. Returns an empty text if some order explains the recording or the text is not a
+/// and how often, and a likely cause. Returns an empty string if some order explains the recording or the text is not a
 /// recording.
 pub fn why(recording: impl AsRef<[u8]>) -> Result<String, Wrong> {
     match of_text(calls::listset_why, recording.as_ref()) {

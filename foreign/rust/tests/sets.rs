@@ -284,7 +284,8 @@ fn a_set_is_renewed() {
     assert_eq!(seats.remove(0).close().unwrap(), [5, 8, 9]);
 }
 
-/// Tests threads that call a set that renews itself. Its quota is small, so it is renewed hundreds of times.
+/// Tests threads that share a set that renews itself. The quota is small, so the set is closed and opened again
+/// hundreds of times.
 #[test]
 fn a_renewed_set_keeps_what_its_threads_put_in() {
     for (list, quota) in LISTS.into_iter().zip([50, 50, 50, 1, 7]) {

@@ -69,7 +69,7 @@ impl<'a> Recording<'a> {
         }
     }
 
-    /// Writes a small file beside the recording: calls on one key that no order explains. Returns the part of the
+    /// Writes calls on one key that no order explains to a small file beside the recording. Returns the part of the
     /// message that names this file.
     fn alone(&self, key: u32) -> String {
         let stem = self.path.file_stem().unwrap_or_default().to_string_lossy();

@@ -35,7 +35,7 @@ mod timer {
     }
 
     thread_local! {
-        /// The run with the calls of this thread.
+        /// The run for which this thread makes calls.
         static RUN: Cell<*const Area> = const { Cell::new(null()) };
     }
 

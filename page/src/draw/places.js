@@ -150,7 +150,7 @@ function placeAside(state, chain, shown, places, { width, down, spare, isLow }) 
   }
 }
 
-// Puts the hands of a node into rows: each in the lowest row that has room.
+// Puts the hands (the threads' labels) on a node into rows, each into the lowest row that has room.
 function rowsOf(hands, most) {
   const rows = [];
   for (const own of hands) {

@@ -49,7 +49,7 @@ export function eventsAsked(text) {
 const MOST_TRIED = 1000; // steps that are tried until a thread reaches its row
 const DRAFT_LINE = /^go \d+ (?:out|to \d+)$/m;
 
-// Returns the schedule of a draft, or the engine's line about its first error. The engine reads drafts of correct lists only.
+// Returns the schedule of a draft, or the engine's message about the draft's first error. The engine reads drafts of correct lists only.
 export function scheduleOfDraft(ask, text, lacks = null) {
   if (!DRAFT_LINE.test(text)) return { text, fault: null };
   if (lacks !== null) return scheduleOfLackingDraft(ask, lacks, text);

@@ -36,7 +36,7 @@ function begin(place) {
   if (place.given.text !== undefined) looked();
 }
 
-// Decides whether the broken run came with the link, so that the reader has not found it.
+// Decides whether the broken run came with the link, so that the reader did not find it alone.
 const isShown = (run) => now.place.given.text !== undefined && run.lines.join() === run.first.join() && !isBrokenOnce(nameNow());
 
 function looked() {

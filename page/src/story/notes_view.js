@@ -1,4 +1,4 @@
-// For lecturers: notes in a second window, which shows the notes of the current slide, and a printable handout.
+// For lecturers: a second window with the notes of the current slide, and a printable handout.
 import { LECTURE, slideAddress } from "../data/lecture.js";
 import { drawStage } from "../draw/stage.js";
 import { HERE, keptUnder } from "../page/kept.js";

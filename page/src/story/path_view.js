@@ -108,8 +108,8 @@ async function guessed(index) {
   return playOn();
 }
 
-// Plays a screen after the guess. [thread] is one press of a thread, [thread, "out"] all presses until its call
-// returns. On a slide, each press waits for a key.
+// Plays a screen after the guess. [thread] presses a thread's button once; [thread, "out"] presses it until the thread's call returns. On a slide,
+// each press waits for a key.
 async function playOn() {
   const { figure } = scene;
   const { play, then } = here();

@@ -72,9 +72,9 @@ impl CallsSoFar {
         }
     }
 
-    /// Returns whether the call `made` can follow these calls. At moments after the start of the last call, the only
-    /// starts or ends are the ends of threads' last calls. The test therefore compares the moments of `made` with these
-    /// ends only, and no set of moments is stored.
+    /// Returns whether the call `made` can follow these calls. After the start of the last call, no call starts, and
+    /// only the last calls of threads end. It is therefore enough to compare the moments of `made` with these ends. No
+    /// set of moments is stored.
     pub fn may_follow(&self, made: CallRecord) -> bool
         ensures { result ≡ may_follow self.now.history.opening.threads self.now.history.calls made }
     {

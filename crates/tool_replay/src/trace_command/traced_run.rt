@@ -58,8 +58,8 @@ fn trace_on<M: Machine, S: Sink>(
     trace(schedule, run, sink)
 }
 
-/// Traces a schedule on the list that it names. A `match` selects the list, because a task of `on_list` cannot contain
-/// the destination.
+/// Traces a schedule on the list that it names. Uses a `match` instead of `on_list`, because a task of `on_list` cannot
+/// contain `sink`.
 fn trace_named<S: Sink>(
     alloc: Global,
     schedule: &Schedule,

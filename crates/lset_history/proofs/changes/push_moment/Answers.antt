@@ -12,7 +12,7 @@ returns-in-Some-clause-noted c = noted_map c.args.moments.now (c.get_mut.follows
     ((c.get_mut.follows.holds c.push.new.self).3 (rw (← c.in-Some.ensures.value) refl))
     (c.in_ok-push.ensures.items ∙ ap (λ z. items_in z ++ c.args.at ∷ []) c.in-Some.ensures.value)
 
--- The case that the allocation fails: no moment was appended.
+-- The case in which the allocation fails: no moment was appended.
 pub returns-in_err-push-clause-unchanged : goal.returns-in_err-push-clause-unchanged
 returns-in_err-push-clause-unchanged c = MatchResult-from_err _ _ _ c.from_residual.ensures.0 (λ _ opening.
     ap (λ es. record { opening = opening; entries = es }) (ap shown (c.get_mut.follows.holds c.push.new.self).0

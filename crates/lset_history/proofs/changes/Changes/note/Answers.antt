@@ -31,7 +31,7 @@ invariant_of-self-in_err-push_moment c = subst (λ d. AreKept d c.insert.new.sel
     (kept_beside (changes_in c.self.inside.opening.items c.self.inside.moments) c.args.key c.args.at (rw (← c.self.view_is) at c.requires.later)
     c.self.inside.keys_at c.insert.new.self c.self.inside.keys_now c.in_ok-insert.ensures.updates c.self.invariant))
 
--- The case of a removed key: the change is recorded, and the key still has to be removed from `keys_now`.
+-- The case in which a key was removed: the change is recorded, but the key has not been removed from `keys_now` yet.
 pub invariant_of-self-then-not-present : goal.invariant_of-self-then-not-present
 invariant_of-self-then-not-present c = kept_noted (changes_in c.self.inside.opening.items c.self.inside.moments) c.args.key c.args.at
     (rw (← c.self.view_is) at c.requires.later)
