@@ -34,7 +34,7 @@ function inPage(words) {
   return new Function(...Object.keys(names), `return (${words});`)(...Object.values(names));
 }
 
-// Starts the engine, which reads inputs by `read`. Returns null if node does not run it.
+// Starts the engine, which reads inputs with `read`. Returns null if node cannot run the engine.
 async function startedEngine(read) {
   const bytes = fs.readFileSync(path.join(__dirname, "listset.wasm"));
   if (!WebAssembly.validate(bytes)) return null;

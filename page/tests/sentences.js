@@ -64,7 +64,7 @@ function factsAfter(state, event, others) {
   return { ...others, event, thread: `t${event.thread}`, chain, keys, keyOf, lockOf, linkOf, locks: state.locks() };
 }
 
-// Patterns and tests of the short sentences of the path (story/said.js), in the same form as CLAIMS.
+// Patterns and tests of the short sentences of the path, the tour with live lists (story/said.js), in the same form as CLAIMS.
 const ownerOf = ({ word }) => word.split(".")[0];
 const isNextOn = (next, field, ...owners) => next === null || owners.some((owner) => next.word === `${owner}.${field}`);
 const isTrueOrKey = (answer) => answer === "true" || answer?.startsWith("at-") === true;

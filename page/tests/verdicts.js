@@ -781,8 +781,8 @@ function isToldSo(it, key, first, second) {
   return firsts.some((one) => seconds.some((other) => isNoneBetween(ofKey, key, isPresent ? "remove" : "add", one?.begun ?? 0, other?.ended ?? LAST)));
 }
 
-// Generates a random run of a broken list. It begins with no step, or with the schedule that breaks the list. Random lines are added if the list accepts
-// them.
+// Generates a random run of a broken list. The run starts with no steps, or with the schedule that breaks the list. Then random lines that the list
+// accepts are added.
 function drawnRun(ask, name) {
   const breaking = path.join(__dirname, "..", "..", "examples", "schedules", "lacks", `${name}.schedule`);
   const opening = [3, 7].filter(() => draw(3) > 0);
@@ -893,7 +893,7 @@ async function main() {
     checkOwn(ask);
   }
   for (const drawn of kindsOf({ draw, pick, replyOf, keysAfter, paddingAfter })) for (let number = 0; number < CASES; number++) checkKind(ask, drawn);
-  // (a recording with few calls contains few facts for a guess of the cause)
+  // (few calls contain too few facts to guess a cause)
   const isRare = (pattern) => /^\^because|which do not increase|have no order\\\.|at first, and/.test(pattern.source);
   const properties = [...OF_RECORDING, ...OF_SPLIT, ...OF_LACKING, ...OF_OWN];
   result.failed.push(...properties.filter(([pattern]) => CASES >= 150 && !met.has(pattern) && !isRare(pattern)).map(([pattern]) => `no case has ${pattern}`));

@@ -38,7 +38,7 @@ pub extern "C" fn listset_open(
 /// Splits a seat (the right to call as one thread) off `seat` and stores it in `out`, which must be empty.
 ///
 /// Returns `DONE`. On an error, changes nothing and returns the first that applies: `IS_SEAT` if `out` is not empty,
-/// `NO_SEAT` if `seat` is empty, `NO_MORE` if no seat can be split off it, or it is a receipt or a closed set,
+/// `NO_SEAT` if `seat` is empty, `NO_MORE` if no seat can be split off it, or it contains a receipt or a closed set,
 /// `OUT_OF_MEMORY` if an allocation failed. Does not block.
 #[unsafe(no_mangle)]
 pub extern "C" fn listset_split(alloc: Global, seat: &mut CSeat, out: &mut CSeat) -> u8 {
@@ -55,8 +55,8 @@ pub extern "C" fn listset_add(alloc: Global, seat: &mut CSeat, key: u32) -> u8
     ffi_sets::add_key(alloc, seat, key)
 }
 
-/// Removes `key` from the set. Returns 1 if the key was present, 0 if it was absent, and 255 if `seat` is empty, a
-/// receipt or a closed set. Blocks while another thread holds a lock that the call needs. Does not allocate.
+/// Removes `key` from the set. Returns 1 if the key was present, 0 if it was absent, and 255 if `seat` is empty or
+/// contains a receipt or a closed set. Blocks while another thread holds a lock that the call needs. Does not allocate.
 #[unsafe(no_mangle)]
 pub extern "C" fn listset_remove(alloc: Global, seat: &mut CSeat, key: u32) -> u8
     ensures { HasMade seat.old.full seat.old.held (Remove (record { 0 = key })) result seat.new.full seat.new.held }
@@ -74,9 +74,9 @@ pub extern "C" fn listset_contains(alloc: Global, seat: &mut CSeat, key: u32) ->
 }
 
 /// Finds the smallest key of the set that is at least `key`. Returns 3 and writes the key to `at`, or returns 4 if the
-/// set has no such key. Returns 255 if `seat` is empty, a receipt or a closed set. On a coarse, fine or optimistic list
-/// the call blocks while another thread holds a lock that it needs. On a lock-free list it can wait until another
-/// thread adds or removes a key. Does not allocate.
+/// set has no such key. Returns 255 if `seat` is empty or contains a receipt or a closed set. On a coarse, fine or
+/// optimistic list the call blocks while another thread holds a lock that it needs. On a lock-free list it can wait
+/// until another thread adds or removes a key. Does not allocate.
 #[unsafe(no_mangle)]
 pub extern "C" fn listset_ceiling(alloc: Global, seat: &mut CSeat, key: u32, at: &mut u32) -> u8
     ensures { HasCeiling seat.old.full seat.old.held (Ceiling (record { 0 = key })) result at.old at.new seat.new.full seat.new.held }

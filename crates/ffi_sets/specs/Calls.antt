@@ -79,8 +79,9 @@ abbrev pub HasNotedOf : Option SeatValue → Option ReceiptValue → Type 0
 HasNotedOf (Some s) (Some given) = given ≡ record { set = s.set; events = s.events }
 HasNotedOf s given = ⊥
 
--- States that a C handle with the value `h` has issued the receipt `given`, which has the number of the handle's set.
--- `h'`, the value afterwards, has the same list, set, number and seats as `h`.
+-- States that a C handle with the value `h` has issued the receipt `given` (the events that the handle's seat has
+-- seen), which has the number of the handle's set. `h'`, the value afterwards, has the same list, set, number and seats
+-- as `h`.
 pub record HasNotedHeld (h given h' : Held) : Type 0 where
   pub same : SameSet h h'
   pub spare : spare_in h' ≡ spare_in h

@@ -120,8 +120,8 @@ pub fn has_spare(held: &Held) -> bool {
     }
 }
 
-/// Splits a seat off the seat in `held`. Returns the error `NO_MORE` if no seat can be split off, or `OUT_OF_MEMORY` if
-/// the set's counter of owners is full.
+/// Splits a seat (the right to call as one thread) off the seat in `held`. Returns the error `NO_MORE` if no seat can
+/// be split off, or `OUT_OF_MEMORY` if the set's counter of owners is full.
 pub fn split_held(held: &mut Held, alloc: Global) -> Result<Held, u8> {
     Ok(match held {
         Held::Coarse(of) => Held::Coarse(of.split(alloc)?),

@@ -18,7 +18,7 @@ use std::alloc::Global;
 use std::mem::replace;
 use std::sync::Arc;
 
-/// Opens a set and returns one of its seats. All others can be split off this seat.
+/// Opens a set and returns a seat (the right to call as one thread). All other seats can be split off this seat.
 pub fn open_of<M: Bounded>(
     alloc: Global,
     seats: u32,

@@ -128,9 +128,9 @@ pub fn contains_key(alloc: Global, seat: &mut CSeat, key: u32) -> u8
 }
 
 /// Finds the smallest key of the set that is at least `key`. Returns 3 and writes the key to `at`, or returns 4 if the
-/// set has no such key. Returns 255 if `seat` is empty, a receipt or a closed set. On a coarse, fine or optimistic list
-/// the call blocks while another thread holds a lock that it needs. On a lock-free list it can wait until another
-/// thread adds or removes a key. Does not allocate.
+/// set has no such key. Returns 255 if `seat` is empty or contains a receipt or a closed set. On a coarse, fine or
+/// optimistic list the call blocks while another thread holds a lock that it needs. On a lock-free list it can wait
+/// until another thread adds or removes a key. Does not allocate.
 pub fn ceiling_at(alloc: Global, seat: &mut CSeat, key: u32, at: &mut u32) -> u8
     ensures { HasCeiling seat.old.full seat.old.held (Ceiling (record { 0 = key })) result at.old at.new seat.new.full seat.new.held }
 {
@@ -180,7 +180,8 @@ pub fn most_reads(seats: u32, quota: u32, opening: u32) -> u64
 /// and everything seen by the seats merged into it and by the receipts that it accepted. `seat` does not change.
 ///
 /// Returns `DONE`. On an error, changes nothing and returns the first that applies: `IS_SEAT` if `out` is not empty,
-/// `NO_SEAT` if `seat` is empty, a receipt or a closed set, `OUT_OF_MEMORY` if an allocation failed. Does not block.
+/// `NO_SEAT` if `seat` is empty or contains a receipt or a closed set, `OUT_OF_MEMORY` if an allocation failed. Does
+/// not block.
 pub fn give_receipt(alloc: Global, seat: &mut CSeat, out: &mut CSeat) -> u8
     ensures { result ≡ 0 → HasGiven seat.old.full seat.old.held out.new.full out.new.held seat.new.full seat.new.held }
 {
@@ -227,7 +228,7 @@ pub fn take_receipt(alloc: Global, seat: &mut CSeat, given: &mut CSeat) -> u8
 }
 
 /// Returns the number of seats that `seat` contains, itself included. Writes the number of all seats of the set to `all`.
-/// Both numbers are 0 if `seat` is empty, a receipt or a closed set. Does not block or allocate.
+/// Both numbers are 0 if `seat` is empty or contains a receipt or a closed set. Does not block or allocate.
 pub fn count_seats(alloc: Global, seat: &mut CSeat, all: &mut u32) -> u64 {
     let (within, of_set) = match take(alloc, seat) {
         Some(held) => {

@@ -94,8 +94,8 @@ fn add_and_tell<M: Running, R: Wait>(
 }
 
 /// Starts two threads on one LazyList. Each thread can add one key, and adds one. Seat one then accepts seat zero's
-/// receipt and looks for seat zero's key. In every order that `close` promises, seat zero's `add` precedes seat one's
-/// `contains`.
+/// receipt (a record of the events that seat zero has seen) and looks for seat zero's key. In every order that `close`
+/// promises, seat zero's `add` precedes seat one's `contains`.
 fn started_threads<R: Threads + Wait + Sync + Print>(rt: &R, alloc: Global) -> Result<()> {
     let (set, mut seats) = open::<LazyList>(alloc, 2, 1)?;
     let (Some(one), Some(zero)) = (seats.pop(), seats.pop()) else {

@@ -56,7 +56,7 @@ abbrev pub LogsTellHistories : Type 0
 LogsTellHistories = (op : Opening) (last : ℕ) (log : Log) (lists : ℕ → List ℕ) (counts : Counts)
     → Account op last log (contents_of_lists lists) counts → (k : ℕ) → k ≤ last → IsHistory op.threads (history_at log k)
 
--- States that the keys increase strictly if the call is a `Ceiling`. For the other calls nothing is required.
+-- States that the keys increase strictly if the call is a `Ceiling`. Nothing is required of other calls.
 abbrev pub IncreasesFor : Call → List ℕ → Type 0
 IncreasesFor (call.Add k) keys = Unit {0}
 IncreasesFor (call.Remove k) keys = Unit {0}

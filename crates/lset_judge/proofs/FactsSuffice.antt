@@ -129,7 +129,7 @@ latest_low calls key p n since second (inr y) none before =
     let u = ended_by_then since (until_if behind_all x.begun x.ended) behind_all x x.ended refl refl ended in
     let v = y.3 in omega (arith, u, v)
 
--- ---- When the set opens, the stored facts suffice to find a clash
+-- ---- When the set opens, the stored facts suffice to find a clash (two calls that no order can explain)
 
 pub complete_first : (opening : List ℕ) (k : ℕ) (f : Facts) → f ≡ facts_opened (presence (has_key k opening)) → AreComplete opening [] 0 k f
 complete_first opening k f e = subst (AreComplete opening [] 0 k) (sym e) (record {
@@ -541,7 +541,7 @@ module _ (threads : ℕ) (opening : List ℕ) (calls : List CallRecord) (s t : S
               (subst (λ (z : CallRecord). Clashes calls key (there key) None q first (Some z)) same c))
         ]
 
-    -- As long as the judge's rule has not failed, the facts show no clash.
+    -- As long as the judge's rule has not failed, the facts show no clash (two calls that no order can explain).
     none_shown : IsJudgedTo opening calls t.moment t.states None → IsClashing f call → ⊥
     none_shown judged shown =
         let c : Clash = clash_with key f (Some call) in
@@ -605,7 +605,8 @@ module _ (threads : ℕ) (opening : List ℕ) (calls : List CallRecord) (s t : S
       → AreCompleteBy opening calls t.moment t.states t.failed t.clash
   complete_end met kept missed known old = complete_after s.failed t.failed t.clash met kept missed is.judged now.judged known old
 
--- ---- If the verdict contains no clash, no call on the key clashes with a call that starts after it has ended
+-- ---- If the verdict contains no clash (two calls that no order can explain), no call on the key clashes with a call
+-- that starts after it has ended
 
 pub none_at_end : (s : Stream) (opening : List ℕ) (refusal : Refusal) (left : Option Presence) → IsToldBy s.failed (NotLinearizable refusal)
     → (IsSome left → refusal.moment ≡ None)

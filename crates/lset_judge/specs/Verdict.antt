@@ -24,7 +24,7 @@ is_truth True = true
 is_truth False = true
 is_truth r = false
 
--- Returns whether the judge can decide a completed call with this reply: the call is no `ceiling`, and its reply is
+-- Returns whether the judge can decide a completed call with this reply: the call is not a `ceiling`, and its reply is
 -- true or false.
 abbrev pub is_plain : Call → Reply → Bool
 is_plain (Ceiling k) r = false

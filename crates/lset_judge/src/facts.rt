@@ -159,7 +159,7 @@ impl KeyState {
     }
 
     /// Stores the result of `clash_of` in `clash`. This is a separate function so that processing other ends needs no
-    /// stack space for a `Clash`.
+    /// stack space for a `Clash` (two calls that no order can explain).
     pub(crate) fn store_clash(&self, second: StreamCall, clash: &mut Option<Clash>)
         ensures { MatchOption clash.new (IsClashing (facts_of self.now) second → ⊥) (IsFound (facts_of self.now) second) }
     {

@@ -21,8 +21,8 @@ pub enum Judged {
     /// Some order explains the calls: starting from the opening keys, it has the same replies and leaves the final
     /// keys.
     Linearizable,
-    /// No order explains the calls and leaves the final keys. Contains the reason, and two calls that clash, if the
-    /// judge found them.
+    /// No order explains the calls and leaves the final keys. Contains the reason and, if the judge found them, two
+    /// calls that clash (no order can explain both).
     NotLinearizable(Refusal, Option<Clash>),
     /// Not decided: a completed call is a `ceiling`, or returned neither true nor false. The judge replaced these calls
     /// by calls that it can decide, and some order explains the resulting history.

@@ -169,7 +169,8 @@ impl KeyState {
     }
 
     /// Processes the end of a call on the key, at moment `before` + 1. Returns whether the judge's rule (the test of
-    /// the key's calls) still succeeds. If the rule fails, searches for a call that clashes with this one.
+    /// the key's calls) still succeeds. If the rule fails, searches for a call that clashes with this one (no order can
+    /// explain both).
     pub(crate) fn meet_end(
         &mut self,
         alloc: Global,

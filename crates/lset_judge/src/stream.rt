@@ -323,7 +323,7 @@ fn meet_new_key_end(
 }
 
 /// Processes the end of a call at moment `before` + 1. If the judge's rule (the test of one key's calls) fails,
-/// searches for a call that clashes with this one.
+/// searches for a call that clashes with this one (no order can explain both).
 fn meet_key_end(
     states: &mut HashMap<u32, KeyState>,
     alloc: Global,
@@ -543,8 +543,9 @@ impl Stream {
     fn end(&mut self, next: Pending) -> Result<(), AllocError>
         ensures met { OnOk result (IsMet self.old (key_in next) next.end (event_of next) self.new) }
         ensures known { OnOk result (EndIsKnown self.old.states next.call self.new.states self.old.failed self.old.clash self.new.clash) }
-        // Suppose that the call's key has failed the judge's rule (the test of one key's calls) and that no clash is
-        // stored. Then the stored facts show no clash of this call with an earlier one.
+        // Suppose that the call's key has failed the judge's rule (the test of one key's calls) and that no clash (two
+        // calls that no order can explain) is stored. Then the stored facts show no clash of this call with an earlier
+        // one.
         ensures missed { OnOk result (IfSome self.new.failed (λ f. f.key.0 ≡ key_in next → self.new.clash ≡ None
             → IsClashing (facts_for self.old.states (key_in next)) next.call → ⊥)) }
     {

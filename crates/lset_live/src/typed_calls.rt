@@ -16,7 +16,7 @@ use std::sync::Wait;
 #[derive(Clone, Copy, Debug, PartialEq, Eq)]
 #[must_use]
 pub enum Added {
-    /// The key was absent and has been added. It counts against the quota of the seat's thread. The reply is `True`.
+    /// The key was absent and has been added. It counts against the thread's quota of adds. The reply is `True`.
     New,
     /// The key was already present. Nothing changed. The reply is `False`.
     Already,

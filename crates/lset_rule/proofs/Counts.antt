@@ -103,7 +103,7 @@ by_small : (s : State) (e : Event) → Enabled s e → thread_of e < length s.lo
 by_small s (Begin t c) en = en.0
 by_small s (Go t) en = en.0
 
--- If a seat has all threads of the set, it has seen all events of the run.
+-- If a seat (the right to call the set) has gathered all threads of the set, it has seen all events of the run.
 no_more : (m : Table) (law : Lawful m) (k : Opening) (v : View) (es rest : List Event) → ((t : ℕ) → t < k.threads → HasThread v t)
     → IsRunOf m k (es ++ rest) → IsQuiet v rest → rest ≡ []
 no_more m law k v es [] all r quiet = refl

@@ -86,8 +86,8 @@ St = table.State (Unit {0}) View
 pub each_fits : (m : Table) (k : Opening) (s : St) (h : Holds m k s) → Each (Fits m k h.log h.seat_of) s.views
 each_fits m k s h j x is = (h.each j x is, h.known j x is)
 
--- The invariant of the shared words and all seats holds if the words are those at the end of a run, and each view
--- satisfies `Fits`.
+-- The invariant of the shared words and all seats holds if the words are those at the end of a run, and the view of
+-- each seat (its knowledge of the run) satisfies `Fits`.
 abbrev pub holding : (m : Table) (k : Opening) (s : St) (log : List Event) → IsRunOf m k log → s.words ≡ (end_of m k log).words →
     (so : ℕ → ℕ) → Each (Fits m k log so) s.views → ((t : ℕ) → t < k.threads → StandsIn s.views (so t) t) → Holds m k s
 holding m k s log ran words so all placed = record {

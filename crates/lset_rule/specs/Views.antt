@@ -14,7 +14,8 @@ abbrev pub HasAside : List SpareThread → ℕ → Type 0
 HasAside [] t = ⊥
 HasAside (o ∷ os) t = (t ≡ o.thread) ⊎ HasAside os t
 
--- States that thread t belongs to the seat with view v: the seat calls as t, or t is one of its spare threads.
+-- States that thread t belongs to the seat with view v (its knowledge of the run): the seat calls as t, or t is one of
+-- its spare threads.
 abbrev pub HasThread : View → ℕ → Type 0
 HasThread v t = (t ≡ v.thread) ⊎ HasAside v.others t
 

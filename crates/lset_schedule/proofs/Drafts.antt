@@ -35,7 +35,8 @@ opening_rests n q t = idle_rests q t (range_with_len 0 n)
 abbrev pub Resting : State → ℕ → Type 0
 Resting s n = (t : ℕ) → t < n → (local_of s t).pc ≡ 0
 
--- The state of `generate` before its first turn: no event has happened yet, and all calls can still begin.
+-- The state of `generate` before its first turn (in a turn, it draws at most one event): no event has happened yet, and
+-- all calls can still begin.
 pub record IsUnbegun (turns n calls left : ℕ) (lines : List Line) (s : State) : Type 0 where
   pub turn : turns ≡ 0
   pub all_left : left ≡ calls

@@ -1,4 +1,5 @@
--- The lines that `generate` draws, as a function of the seed. The random generator determines each turn.
+-- The lines that `generate` draws, as a function of the seed. `generate` works in turns, and random numbers determine
+-- what happens in each turn.
 use Rattle.std.specs.Prelude.{◌≡◌, ℕ, zero, suc, ◌-◌, ◌%◌, ◌<◌, ◌⊎◌, ◌==◌, if◌then◌else◌, Option, Some, None, List, [], ◌∷◌, ◌++◌, length}
 use Rattle.rand_core.specs.Stream.{Stream, next_u32}
 use Rattle.lset_schedule.specs.declared.TheConstants.{MOST_GENERATED, MOST_TURNS}
@@ -62,8 +63,8 @@ after_turn T threads keys p =
 abbrev pub IsEnd : Progress → Type 0
 IsEnd p = IsOver p.state (length p.lines) p.left
 
--- States that `lines` are the lines of the schedule after at most `turns` further turns of `generate` from state p.
--- `generate` stops early if the schedule ends.
+-- States that `lines` are the lines of the schedule after at most `turns` further turns of `generate` from state p (a
+-- turn draws at most one event). `generate` stops early if the schedule ends.
 unfoldable pub AreDrawn : Table → ℕ → ℕ → ℕ → Progress → List Line → Type 0
 AreDrawn T threads keys zero p lines = lines ≡ p.lines
 AreDrawn T threads keys (suc turns) p lines =

@@ -168,8 +168,8 @@ pub(crate) fn take_back<S: Drop>(to: &Sender<S>, pass: &mut Token<S>, other: Tok
     to.absorb::<Parting>(pass, other)
 }
 
-/// States a lemma: if `pass` has all parts, the connections sent are exactly the connections received and the
-/// connections in the queue. Does nothing at run time.
+/// States a lemma: if `pass` (a right to use the channel) has all parts of the right, the connections sent are exactly
+/// the connections received and the connections in the queue. Does nothing at run time.
 pub(crate) fn balance<S: Drop>(to: &Sender<S>, pass: &mut Token<S>)
     requires channel { IsSeatAt (sends_on to.now) pass.old }
     requires all { (view pass.old).parts ≡ PARTS }

@@ -108,7 +108,7 @@ fn is_whole(bytes: &[u8], after: &str) -> Option<bool> {
     Some(ends && is_front(bytes, after)?)
 }
 
-/// Runs a server for one session. `plan` determines when the output fails. Returns `true` if a call of the output
+/// Runs a server for one session. `plan` determines which write or flush of the output fails. Returns `true` if one
 /// failed.
 fn output_fails<R: Host>(rt: &R, alloc: Global, plan: Plan) -> Result<bool, Fail> {
     let words = ["serve", "lazy", "1", "4", "0", "1"];

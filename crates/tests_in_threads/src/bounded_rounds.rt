@@ -13,8 +13,8 @@ impl<const N: u64> Rounds for UpTo<N> {
     const MOST: u64 = N;
 }
 
-/// The opening keys. To reach a key, a call compares one key per round: all smaller keys and the first key that is not
-/// smaller.
+/// The keys with which a set opens. To reach a key, a call compares one key in each round: each smaller key, and then
+/// the first key that is not smaller.
 const KEYS: [u32; 5] = [10, 20, 30, 40, 50];
 
 /// Opens a set and makes a call with at most `N` rounds in each loop. Returns the reply, or `None` if more rounds are

@@ -81,8 +81,8 @@ fn two_programs_return_their_replies_and_the_final_key(rt: HostRuntime) {
     at_each_list!(answers, rt);
 }
 
-/// Asserts that `work` failed because the number of programs differs from the number of seats. The error must return
-/// the set, which has two seats, and all `seats` seats that `work` received.
+/// Asserts that `work` failed because the number of programs differs from the number of seats (rights to call the set).
+/// The error must return the set, which has two seats, and all `seats` seats that `work` received.
 fn gave_all_back<R: Abort>(rt: &R, fault: WorkFault<LazyList>, seats: usize) {
     assert!(rt; fault.cause == WorkCause::Programs);
     let (set, back) = fault.back.expect(rt, "nothing came back");

@@ -112,7 +112,8 @@ fn each_list_opens_with_the_final_keys_of_each_list(rt: HostRuntime) {
     assert!(rt; left > 0);
 }
 
-/// Calls on a set that can add one key and opens with the maximum number of keys. All opening keys are even.
+/// Calls on a set that can add one key and opens with the maximum number of keys. Its opening keys (the keys at the
+/// start) are even.
 const CALLS_ON_A_MILLION: [(Call, Reply); 3] = [
     (Call::Contains(Key(2_097_150)), Reply::True),
     (Call::Add(Key(1)), Reply::True),

@@ -10,7 +10,8 @@ use lset_server::{ServeCause, Served, serve};
 /// The kind of set that the servers in these tests serve.
 type Set = LiveSet<LazyList>;
 
-/// Opens an empty set for `seats` threads. Returns the set and a seat for each thread. Each seat can add 4 keys.
+/// Opens an empty set for `seats` threads. Returns the set and, for each thread, a seat (the right to call the set)
+/// that can add 4 keys.
 fn opened<R: Abort>(rt: &R, alloc: Global, seats: u32) -> (Set, Vec<Seat<LazyList>>) {
     open::<LazyList>(alloc, seats, 4).expect(rt, "not opened")
 }
@@ -108,7 +109,7 @@ fn meets_on_each_seat<R: Host + Net<Listener = TcpListener, Stream = TcpStream>>
     made(rt, &served, u64::from(sessions), u64::from(sessions), &[]);
 }
 
-/// Serves fewer sessions than seats, as many sessions as seats, and more sessions than seats.
+/// Serves fewer sessions than seats, as many sessions as seats, and more. A seat serves one session at a time.
 #[test]
 fn as_many_sessions_as_seats_are_served_at_once(rt: HostRuntime) {
     for (seats, sessions) in [(2, 1), (3, 3), (5, 7), (64, 65)] {
@@ -129,7 +130,7 @@ fn two_pairs<R: Abort>(rt: &R, alloc: Global) -> (Set, Vec<Seat<LazyList>>) {
     (set, pairs)
 }
 
-/// The server must start one worker for each gathered seat, not one for each seat of the set.
+/// The server must start one worker for each seat that it receives, not one for each seat that was merged into these.
 #[test]
 fn each_gathered_seat_serves_a_session(rt: HostRuntime) {
     let (set, pairs) = two_pairs(&rt, rt.alloc());

@@ -277,8 +277,8 @@ fn a_call_waits_for_a_lock_that_another_seat_holds(rt: HostRuntime) {
     waits_at_a_lock::<LazyList, HostRuntime>(&rt, rt.alloc(), 2);
 }
 
-/// Waits until the other seat has stopped. Then looks for the key 10 with both `contains` functions, and for the first
-/// key above 10. Returns the replies.
+/// Waits until the call of the other seat has been stopped. Then looks for the key 10 with both `contains` functions,
+/// and for the first key above 10. Returns the replies.
 fn reads<M: RunningReads, R: Clock + Wait>(
     rt: &R,
     set: &LiveSet<M>,

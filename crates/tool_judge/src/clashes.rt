@@ -315,7 +315,7 @@ fn third_line(
     Ok(text)
 }
 
-/// Returns the three lines of a contradiction in one order: between two calls, or between a call and the key's first or
+/// Returns the three lines of a contradiction between two calls in this order, or between a call and the key's first or
 /// final state.
 fn lines_in_order(
     alloc: Global,

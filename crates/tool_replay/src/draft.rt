@@ -5,7 +5,7 @@ ghost use Rattle.lset_words.specs.declared.TheConstants.{MOST_OPENING, MOST_QUOT
 use lset_schedule::{FIRST_LINE, Line};
 use lset_words::Kind;
 
-/// The largest row of a step table that a line of a draft can name.
+/// The largest row of a step table that a line of a draft (a schedule that can state where a thread stops) can name.
 pub const MOST_ROW: u32 = 255;
 
 /// A line of a draft. `Plain` is a line of a schedule. `Out(thread)` steps a thread until its call has ended.

@@ -72,8 +72,8 @@ fn add_opening(opening: &mut Vec<u32>, key: u32) -> Result<(), Cause>
 }
 
 impl Draft {
-    /// Adds a line to the draft. `left` is the number of events that can still be added. Returns how many are left
-    /// after this line.
+    /// Adds a line to the draft, a schedule that can state where threads stop. `left` is the number of events that can
+    /// still be added. Returns how many are left after this line.
     fn add_line(&mut self, line: &[u8], left: u32) -> Result<u32, Cause> {
         if self.lines.is_empty()
             && let Some(key) = opening_piece(line)

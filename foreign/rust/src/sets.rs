@@ -284,8 +284,8 @@ pub(crate) fn keys_of(closed: &mut Raw) -> Option<Vec<u32>> {
 
 // SAFETY of each call below: `&mut self` is a seat that only this thread uses.
 impl Seat {
-    /// Splits a seat off this one. Returns [`Fault::NoMore`] if no seat can be split off: this seat contains no other seat,
-    /// or has [gathered](Seat::gather) a seat.
+    /// Splits a seat off this one. Returns [`Fault::NoMore`] if no seat can be split off, because this seat contains no
+    /// other seat or has [gathered](Seat::gather) a seat.
     pub fn split(&mut self) -> Result<Seat, Fault> {
         let mut made = Seat { raw: NONE };
         told(unsafe { listset_split(&mut self.raw, &mut made.raw) })?;

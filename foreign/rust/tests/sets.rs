@@ -144,7 +144,7 @@ fn sets_that_are_opened_at_once_are_told_apart() {
     }
 }
 
-/// Checks that a seat never gathers a seat of another set, among more sets than 16 bits can number.
+/// Checks that a seat cannot be merged with a seat of another set, even among more sets than 16 bits can number.
 #[test]
 fn sets_are_told_apart() {
     let mut mine = open(List::Lazy, 1, 0, &[]).unwrap();
@@ -248,8 +248,8 @@ fn receipts() {
     }
 }
 
-/// Renews a set as a set of another list, with different seats and a new quota. Checks that a refused renewal returns
-/// the seats or the keys.
+/// Renews a set as a different kind of list, with a different number of seats and a new quota. Checks that a refused
+/// renewal returns the seats or the keys.
 #[test]
 fn a_set_is_renewed() {
     let mut seats = vec![open(List::Lazy, 3, 1, &[5]).unwrap()];

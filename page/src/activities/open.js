@@ -101,7 +101,7 @@ export function openCourseFile(text) {
   showCourseText(text);
 }
 
-// Opens the address in the address bar after it has changed by a link, by typing, or by a move in the browser's history.
+// Opens the address in the address bar after a link, typing, or a move in the browser's history has changed it.
 export async function followAddress(event) {
   clearTimeout(visit.timer);
   const kept = event.state;

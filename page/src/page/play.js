@@ -47,7 +47,7 @@ function goToTurn(step) {
   goByHand(count);
 }
 
-// ---- The keys. Letters and digits can be switched off.
+// ---- The keys of the keyboard. Letters and digits can be switched off.
 export const keysOf = { scene: (event) => event, slide: (by) => by }; // handlers: of all keys in a scene, and of a presenter's keys on a slide
 const WAYS = { PageDown: 1, ArrowRight: 1, ArrowDown: 1, " ": 1, PageUp: -1, ArrowLeft: -1, ArrowUp: -1 };
 const isPress = ({ key, target }) => key === " " && target.matches(":is(button, a, summary):focus-visible"); // Space presses the focused button or link

@@ -82,7 +82,7 @@ export function addressOfCode(list, opening, lines, set = SET_OF_CODE) {
   return `#code=${list}${ofSet}${ofOpening}${lines.length > 0 ? `&s=${lines.map(shortLine).join()}` : ""}`;
 }
 
-// Adds the schedule of an attempt to the address of a task, if the reader has made one and the address does not become too long.
+// If the reader has attempted a task, adds the schedule of the attempt to the address of the task, unless the address becomes too long.
 function withTry(named, text) {
   const own = text === "" ? null : addressOf(text, eventsAsked(text));
   const whole = own === null ? named : `${named}&${own.slice(1)}`;

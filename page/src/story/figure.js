@@ -94,7 +94,8 @@ export class Figure {
     this.past.push([...this.run.lines]);
   }
 
-  // Executes the next steps of a thread. An idle thread begins its call first. If earlier steps are still being shown, waits until all of them were seen.
+  // Executes the next steps of a thread. An idle thread begins its call first. If earlier steps are still being shown, waits until all of them have been
+  // shown.
   async step(thread) {
     while (this.isOpen && this.isBusy && !this.isEnded) await this.hurry();
     if (!this.isOpen || this.isEnded) return;

@@ -17,7 +17,7 @@ class Learning {
     this.takeCourse(course.faults.length === 0 ? course : bookCourse());
   }
 
-  // Opens a course without errors, and packs its link in the background.
+  // Opens a course that has no errors, and computes the course's link in the background.
   takeCourse(course) {
     this.course = course;
     this.kept.course = course.name;

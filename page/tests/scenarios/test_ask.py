@@ -83,7 +83,7 @@ def test_old_addresses_open_the_questions(visitor):
 
 
 def test_sentences_are_whole(visitor):
-    """Checks that each event of each example has a whole sentence."""
+    """Checks that each event of each example has a complete sentence."""
     visitor.open("#ask")
     told = visitor.inside("""const { LiveRun, QUESTIONS, APPENDIX, saidOf, momentAt } = listsets;
         return [...QUESTIONS, ...APPENDIX].flatMap(({ list, opening, threads = 2, quota = 4, lines, rest }) => {

@@ -1,4 +1,6 @@
-"""Tests the bench: single steps, keys, playing a run, printing, frames, and the browser's history."""
+"""Tests the bench, the part of the page that runs any schedule: single steps, keys, playing a run, printing, frames,
+and the browser's history.
+"""
 
 
 def test_the_code_continues_from_the_current_event(visitor):
