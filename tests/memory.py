@@ -1,10 +1,9 @@
 """Tests that the program does not keep data in memory that it no longer needs. No contract states this.
 
 Each command runs in a limited address space and uses about two thirds of it. A command would need twice the limit if it
-kept data: `judge` the calls of a recording, `trace` its text, `draft`, `replay` and `show` each event, or `run` the
-replies of each round. A server that has served a thousand sessions with many calls may use at most a megabyte more than
-after the first 180.
-"""
+kept its data: the calls of a recording (`judge`), its text (`trace`), each event (`draft`, `replay` and `show`), or the
+replies of each round (`run`). A server that has served a thousand sessions with many calls may use at most a megabyte
+more than after the first 180. """
 
 import contextlib
 import pathlib

@@ -595,7 +595,8 @@ public final class Judge {
             isOver.set(true);
         }
 
-        /** Interrupts random threads during their calls: a thread waits while its stack is read. */
+        /** Interrupts random threads during their calls. Reads their stacks, because a thread waits while its stack is
+         * read. */
         private void interrupt(List<Thread> threads, AtomicBoolean isOver) {
             for (SplittableRandom draw = new SplittableRandom(area.memory.getLong(Area.SEED)); !isOver.get();) {
                 LockSupport.parkNanos(draw.nextInt(APART) * 1000L);

@@ -67,7 +67,7 @@ function leftByOrders(all, opening, quota = Infinity) {
   return left;
 }
 
-// Converts a call as the judge does: a ceiling, and an add that returned full, become a contains.
+// Converts a completed ceiling, or an add that returned full, to a contains, as the judge does. Returns other calls unchanged.
 function asLook(call) {
   if (call.reply === "full") return { ...call, operation: "contains", reply: "false" };
   if (call.operation !== "ceiling" || call.reply === null) return call;

@@ -1,6 +1,6 @@
--- The jobs that command lines ask for. A job is a command with its checked arguments. The output of some commands is
--- only tested, and nothing is proved about it: `judge --only`, for example, and commands that run a broken list (a list
--- without one of its checks).
+-- The jobs that command lines ask for. A job is a command with its checked arguments. Nothing is proved about the
+-- output of some commands, which is only tested. Examples are `judge --only` and commands that run a broken list (a
+-- list without one of its checks).
 use Rattle.std.specs.Prelude.{Bool, true, false, List, Option, Some, None, Result, Ok, Err}
 use Rattle.clap.specs.Words.{Text}
 use Rattle.lset_command.specs.CommandLine.{Choice, OptionValues}

@@ -20,7 +20,7 @@ IsJudgeOf threads opening calls j = IsStreamKept threads opening calls j.stream
 -- ---- The meaning of a verdict
 
 -- Returns the final state of a key if the reason of the verdict is about the final keys. Returns None if the reason has
--- a moment: such a reason is not about the final keys.
+-- a moment, since it is then not about the final keys.
 abbrev pub left_by : List ℕ → ℕ → Option ℕ → Option Presence
 left_by keys key (Some moment) = None
 left_by keys key None = Some (presence (has_key key keys))

@@ -90,9 +90,9 @@ pub record ArePending (calls : List CallRecord) (moment : ℕ) (pending : List P
   pub apart : AllPairs (λ (p q : Pending). p.end ≢ q.end) pending
   pub later : All (λ (p : Pending). moment < p.end) pending
 
--- States that the stored states of the keys are correct after a moment: the judge's rule (the test of one key's calls)
--- computes these states. If the rule has failed by then (Some f), states instead that it failed for the key `f.key` by
--- the moment `f.moment`, and for no key earlier.
+-- States that the stored states of the keys are correct after a moment: they are the states that the judge's rule (the
+-- test of one key's calls) computes. If the rule has failed by then (Some f), states instead that it failed for the key
+-- `f.key` by the moment `f.moment`, and for no key earlier.
 abbrev pub IsJudgedTo : List ℕ → List CallRecord → ℕ → States → Option Failed → Type 0
 IsJudgedTo opening calls moment states None =
     (k : ℕ) → state_after (event_at behind_all k calls) (has_key k opening) moment ≡ Some (state_for states k)

@@ -76,9 +76,9 @@ of_key key moment h = record {
   calls = calls_by key moment h.calls;
 }
 
--- States that the reason of a verdict (why no order explains the calls) is correct, with any quota. With a moment: no
--- order explains the calls on the key that start by this moment, whatever keys the order leaves. Without a moment: no
--- order explains all calls on the key and leaves the key's final state.
+-- States that the reason of a verdict (why no order explains the calls) is correct, with any quota. If there is a
+-- moment, no order explains the calls on the key that start by this moment, whatever keys the order leaves. Otherwise,
+-- no order explains all calls on the key and leaves the key's final state.
 abbrev pub IsRefusedBy : HistoryValue → List ℕ → ℕ → Option ℕ → Type 0
 IsRefusedBy h keys key (Some moment) = (quota : ℕ) (left : List ℕ) → IsUnexplained (of_key key moment (with_quota quota h)) left
 IsRefusedBy h keys key None = (quota : ℕ) (left : List ℕ) → has_key key left ≡ has_key key keys

@@ -231,8 +231,8 @@ fn last_before(calls: &[StreamCall], was: Presence, moment: u64) -> Option<Strea
     last
 }
 
-/// Searches for an earlier call that clashes with `second`: no order can explain both. The result has no `first` if the
-/// key's opening state already rules out `second`.
+/// Searches for an earlier call that clashes with `second` (no order can explain both). The result has no `first` if
+/// the key's opening state already rules out `second`.
 fn clash_with(calls: &[StreamCall], asked: Asked, second: StreamCall) -> Option<Clash>
     ensures { IfSome result (λ c. IsClash (records calls.now) asked.key.0 asked.there asked.left c.was (record_if c.first) (record_if c.second)) }
 {
@@ -259,7 +259,7 @@ fn clash_with(calls: &[StreamCall], asked: Asked, second: StreamCall) -> Option<
     None
 }
 
-/// Searches `calls` for two calls that clash: no order can explain both. If several pairs clash, returns the pair with
+/// Searches `calls` for two calls that clash (no order can explain both). If several pairs clash, returns the pair with
 /// the latest second call.
 fn last_clash(calls: &[StreamCall], asked: Asked) -> Option<Clash>
     ensures { IfSome result (λ c. IsClash (records calls.now) asked.key.0 asked.there asked.left c.was (record_if c.first) (record_if c.second)) }

@@ -386,8 +386,8 @@ fn smallest(key: u32, other: Option<u32>) -> u32
     }
 }
 
-/// Returns the verdict for a recording in which `key` has an impossible final state: `NotLinearizable`. If `key` is
-/// `None`, every final state is possible, and the verdict is `Linearizable`.
+/// Returns the verdict on a recording: `NotLinearizable` if `key` is a key with an impossible final state, and
+/// `Linearizable` if `key` is `None` because every final state is possible.
 fn verdict_of_key(key: Option<u32>) -> StreamVerdict
     ensures { result ≡ verdict_of_key key }
 {

@@ -42,8 +42,8 @@ new_seat set t = record { set = set; past = fresh t; held = 1; events = [] }
 abbrev pub IsOpened : SetValue → Opening → List SeatValue → Type 0
 IsOpened set opening seats = (set.shape ≡ opening) × (seats ≡ map (new_seat set) (range_with_len 0 opening.threads))
 
--- States that `open` returns this error for the sizes s: the first size that is out of range, or Memory if no size is
--- out of range.
+-- States that this error is correct for `open` with the sizes s: it names the first size that is out of range, or is
+-- Memory if no size is out of range.
 abbrev pub RefusesSeats : Sizes → OpenFault → Type 0
 RefusesSeats s fault.Seats = RefusesSizes s layout.Threads
 RefusesSeats s fault.Quota = RefusesSizes s layout.Quota

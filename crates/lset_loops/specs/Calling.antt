@@ -1,5 +1,5 @@
--- Conditions between two steps of a pending call: the private state of the thread, and the next step according to the
--- step table.
+-- Conditions that hold between two steps of a pending call, about the thread's private state and about the next step
+-- according to the step table.
 use Rattle.std.specs.Prelude.{◌≡◌, ◌≢◌, ℕ, ◌+◌, ◌*◌, List, [], ◌∷◌, Bool, true, false, Option, Some, None, MatchOption}
 use Rattle.lset_words.specs.declared.Call.{Call}
 use Rattle.lset_words.specs.declared.Reply.{Reply}

@@ -1,5 +1,5 @@
--- Conditions between the parts of a call on a FineList (lock the head, walk, act, unlock): the next row of the step
--- table, and the nodes in the thread's registers.
+-- Conditions that hold between the parts of a call on a FineList (lock the head, walk, act, unlock). They state the
+-- next row of the step table and the nodes in the thread's registers.
 use Rattle.std.specs.Prelude.{ℕ, Some, None}
 use Rattle.lset_words.specs.declared.Reply.{Reply}
 use Rattle.lset_steps.specs.Rows.{decided_on}

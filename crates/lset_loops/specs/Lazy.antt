@@ -1,5 +1,5 @@
--- Conditions between the parts of an `add` or `remove` on a LazyList (walk, lock, validate, act): the next row of the
--- step table, and the nodes in the thread's registers.
+-- Conditions that hold between the parts of an `add` or `remove` on a LazyList (walk, lock, validate, act). They state
+-- the next row of the step table and the nodes in the thread's registers.
 use Rattle.std.specs.Prelude.{ℕ, Option, Some, None}
 use Rattle.lset_words.specs.declared.Reply.{Reply}
 use Rattle.lset_steps.specs.Rows.{decided_on}

@@ -62,8 +62,8 @@ pub record WalksAreValid (op : Opening) (last t : ℕ) (es : ℕ → Event) : Ty
   pub passes : (k : ℕ) → k ≤ last → IsWalking (held_at op es k t)
       → WasInChain (views optimistic op es) (begun_at (log_of optimistic op es) t k) k t (held_at op es k t).pred
       (held_at op es k t).node
-  -- If a second walk has arrived at pred at moment `j`, then at this moment and at every later one, until the thread
-  -- releases pred's lock, pred is in the chain and the thread holds its lock.
+  -- Suppose that a second walk has arrived at pred at moment `j`. From this moment until the thread releases pred's
+  -- lock, pred is in the chain and the thread holds the lock.
   pub arrives : (j k : ℕ) → j ≤ k → k ≤ last → HasArrived (held_at op es j t)
       → ((i : ℕ) → j ≤ i → i < k → GivesBack op es i t (held_at op es j t).pred → ⊥)
       → IsLockedInChain (world_at op es k) t (held_at op es j t).pred

@@ -1,5 +1,5 @@
--- Proof: a `ceiling` of LockFreeList can run forever although every other thread is idle. The proof is a run that is
--- written out: after 27 events, five steps of the `ceiling` lead back to the same state.
+-- Proof: a `ceiling` of LockFreeList can run forever although every other thread is idle. The proof is an explicit run.
+-- After 27 events, five steps of the `ceiling` lead back to the same state.
 use Rattle.std.specs.Prelude.{◌≡◌, ◌≢◌, ℕ, ◌<◌, List, [], ◌∷◌, length, refl}
 use Rattle.std.proofs.Common.{arith, sym, subst, zero, suc}
 use Rattle.lset_words.specs.declared.Call.TheVariants.{Add, Remove, Ceiling}

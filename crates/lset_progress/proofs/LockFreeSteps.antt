@@ -1,4 +1,4 @@
--- Proof: how a step of LockFreeList that does not end its call can change the nodes. Only the step that ends an `add`
+-- Proves how a step of LockFreeList that does not end its call can change the nodes. Only the step that ends an `add`
 -- links a node.
 use Rattle.std.specs.Prelude.{◌≡◌, ◌≢◌, ℕ, ◌<◌, ◌≤◌, ◌⊎◌, Bool, true, false, Option, Some, None, ◌||◌, refl}
 use Rattle.std.proofs.Common.{arith, inl, inr, sym, ◌∙◌, ap, subst, suc}

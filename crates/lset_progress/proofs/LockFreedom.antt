@@ -302,8 +302,8 @@ module _ (reads : Bool) (op : Opening) (last k : ℕ) (es : ℕ → Event) (r : 
         markers_then
         (λ a an ia. f.nodes a an (quiet_keeps W V (quiet-ordered V W i.memory.ordered q) (quiet_back V W q) a ia))
 
-    -- A successful exchange makes up for the additional walks: one thread fewer can still mark a node, or one node
-    -- fewer can still be unlinked.
+    -- A successful exchange makes up for the additional walks that it causes: after it, one thread fewer can mark a
+    -- node, or one node fewer can be unlinked.
     disturbs : (mark leave : ℕ → ℕ) → total leave size + total mark op.threads + 1 ≤ total f.may_leave size + total f.may_mark
         op.threads
         → ((u : ℕ) → u < op.threads → (local_of S' u).pc ≢ 10 → mark u ≡ 1)

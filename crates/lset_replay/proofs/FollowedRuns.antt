@@ -18,7 +18,7 @@ use Rattle.lset_replay.proofs.ReplayKept.{Follows}
 use Rattle.lset_replay.proofs.KeyChanges.{HoldsKeys}
 use Rattle.lset_replay.proofs.RecorderReady.{follows}
 
--- A run without its words and registers: its log, and for each moment the content of the set and the number of keys
+-- A run without its words and registers: its log and, for each moment, the content of the set and the number of keys
 -- that each thread has added.
 pub record Shown : Type 1 where
   pub log : Log

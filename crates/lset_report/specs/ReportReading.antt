@@ -282,8 +282,9 @@ ReportsReadBack = (r : ReportValue) (bytes : List ℕ)
 
 -- ---- Errors from failed allocations
 
--- A result of reading: the error Memory, at a line that passed all other checks. `parts` are the lines of the text from
--- line `first` on, followed by the bytes after the last newline. `read` is the result if no allocation fails.
+-- The result of a failed allocation: the error Memory, at a line that passed all other checks. `parts` are the lines of
+-- the text from line `first` on, followed by the bytes after the last newline. `read` is the result if no allocation
+-- fails.
 pub record RunsOut (first : ℕ) (parts : List (List ℕ)) (read : Result ReportValue LineFault) (e : LineFault) : Type 0 where
   pub cause : e.cause ≡ wrong.Memory
   -- An allocation can fail at the last line of the header or at a later line. The lines before need no memory.

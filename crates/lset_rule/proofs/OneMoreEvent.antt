@@ -1,4 +1,4 @@
--- Proofs about appending an event to a run: how the event changes the state of each thread.
+-- Proofs about how an event that is appended to a run changes the state of each thread.
 use Rattle.std.proofs.Common.{◌≡◌, ◌≢◌, inl, inr, ℕ, zero, suc, ◌+◌, ◌<◌, ◌≤◌, ◌==◌, Bool, true, false, List, [], ◌∷◌, ◌++◌, length}
 use Rattle.std.proofs.Common.{Option, Some, None, refl, sym, ap, ◌∙◌, subst, arith, slice_index, slice_set, get_or-set_other}
 use Rattle.std.proofs.Common.{get_or-set_same, if◌then◌else◌, length-append}

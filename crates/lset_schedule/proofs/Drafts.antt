@@ -43,7 +43,7 @@ pub record IsUnbegun (turns n calls left : ℕ) (lines : List Line) (s : State) 
   pub none : lines ≡ []
   pub rest : Resting s n
 
--- The invariant of `generate` after `turns` turns, if `left` calls can still begin: the events of the lines are a run
+-- The invariant of `generate` after `turns` turns, when `left` calls can still begin: the events of the lines are a run
 -- that leads to the state in w.
 pub record IsDraft (T : Table) (n q calls keys turns left : ℕ) (lines : List Line) (w : WorldState) : Type 0 where
   pub sized : w.sizes ≡ sizes (empty n q)

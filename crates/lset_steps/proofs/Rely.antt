@@ -19,9 +19,10 @@ use Rattle.lset_steps.proofs.Memory.{at_lock, at_own_key, at_own_link}
 use Rattle.lset_steps.proofs.AfterWrite.{set_other, key_after_link, link_after_link, lock_after_link, list_lock_after_link, link_after_key}
 use Rattle.lset_steps.proofs.AfterWrite.{key_after_key, lock_after_key, list_lock_after_key, key_after_lock, link_after_lock}
 
--- The properties that a step of another thread, from view `v` (the list before) to view `w` (the list after),
--- preserves for thread `u` with quota `q`: keys, the locks that `u` holds, the links of the nodes that `u` has locked
--- and whether they are in the chain, the number of successful adds of `u`, and the node for its next add.
+-- The properties that a step of another thread preserves for thread `u` with quota `q`. The step leads from view `v`
+-- (the list before) to view `w` (the list after). It preserves keys, the locks that `u` holds, the links of the nodes
+-- that `u` has locked and whether they are in the chain, the number of successful adds of `u`, and the node for its
+-- next add.
 pub record Rely (v w : View) (q u : ℕ) : Type 0 where
   pub goes : KeepsNodes v w
   pub used : w.used u ≡ v.used u

@@ -13,9 +13,9 @@ use Rattle.lset_steps.proofs.Memory.{WordStep, Memory, reads, fails, takes, give
 use Rattle.lset_steps.proofs.Memory.{drops, own_of, row_once, no_own, moved, goes_on, others_counted}
 use Rattle.lset_steps.proofs.AfterWrite.{key_after_link, link_after_link, link_after_key, key_after_key, key_after_lock, link_after_lock}
 
--- The properties that a step of another thread, from view `v` (the list before) to view `w` (the list after),
--- preserves for thread `u` with quota `q`, even without locks: keys, the links of marked nodes, the number of
--- successful adds of `u`, and the node for its next add.
+-- The properties that a step of another thread preserves for thread `u` with quota `q`, even without locks. The step
+-- leads from view `v` (the list before) to view `w` (the list after). It preserves keys, the links of marked nodes, the
+-- number of successful adds of `u`, and the node for its next add.
 pub record Remains (v w : View) (q u : ℕ) : Type 0 where
   pub goes : KeepsNodes v w
   pub marked : (a : ℕ) → v.published a → v.link a % 2 ≡ 1 → w.link a ≡ v.link a

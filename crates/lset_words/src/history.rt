@@ -17,8 +17,8 @@ pub struct Placed {
     pub reply: Reply,
 }
 
-/// When a call takes effect (its linearization point): the moment (the number of events so far), and whether the call
-/// changes the set at this moment.
+/// The linearization point of a call: the moment when the call takes effect (the number of events so far), and whether
+/// the call changes the set at this moment.
 #[derive(Clone, Copy, Debug, PartialEq, Eq)]
 pub struct Point {
     pub moment: u32,

@@ -62,7 +62,7 @@ fn the_first_fault_of_a_call_is_named(rt: HostRuntime) -> Result<(), Fail> {
     }
     let taken = add_of_six(3, 5, Some((7, Reply::False)));
     assert_eq!(rt; judge.add(taken), Err(StreamFault::Taken));
-    // The call has two errors: another call also ends at moment 8, and an earlier call of thread 3 overlaps it.
+    // The call has two errors: another call also ends at moment 8, and an earlier call of thread 3 overlaps this call.
     judge.add(add_of_six(4, 3, Some((8, Reply::True))))?;
     let both = add_of_six(3, 5, Some((8, Reply::True)));
     assert!(rt; judge.add(both) == Err(StreamFault::Taken));

@@ -24,7 +24,7 @@ const LESSON_WORDS = {
 };
 const WORDS = Object.keys(LESSON_WORDS);
 
-// Returns the lines of a text without their common indentation: a course copied from a page is indented.
+// Returns the lines of a text without their common indentation. (A course that is copied from a page is indented.)
 function withoutIndent(text) {
   const lines = text.replace(/^\ufeff/, "").split("\n").map((line) => line.replaceAll("\t", "  ").trimEnd());
   const first = lines.findIndex((line) => line !== "");

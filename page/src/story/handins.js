@@ -1,4 +1,4 @@
-// Checks the hand-ins of a class: makes a table of students and tasks from the texts of many files. check_lessons.js prints the same table.
+// Checks the hand-ins of a class, and makes a table of students and tasks from the texts of many files. check_lessons.js prints the same table.
 import { LISTS } from "../../made/rows.js";
 import { judgedSolution, readHandIn, textsIn } from "../course/hand_in.js";
 import { triedCourse } from "../course/lesson.js";

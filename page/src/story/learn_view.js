@@ -1,4 +1,4 @@
-// Solve it: one lesson. After each step, the conditions that hold are ticked. The answer is shown only on request.
+// The activity "Solve it" with one lesson. After each step, the conditions that hold are ticked. The answer is shown only on request.
 import { conditionTexts } from "../course/lesson.js";
 import { setHtml } from "../page/dom.js";
 import { now } from "../page/now.js";

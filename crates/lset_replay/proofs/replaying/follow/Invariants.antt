@@ -14,8 +14,8 @@ invariant-loop-index g l = (T : Table) (state : g.row.W.Denot → WorldState) �
     → IsOnWay T l.fn.recorder.history.opening (events_from l.first l.lines) (events_from (l.first + l.index) (drop l.index l.lines))
     (state l.world) l.recorder
 
--- For the steps of a list: all events of the first `index` lines, and `_done` events of the next line, were executed
--- and recorded.
+-- If the steps are those of a list, all events of the first `index` lines, and `_done` events of the next line, were
+-- executed and recorded.
 abbrev pub invariant-loop-done : goal.invariant-loop-done
 invariant-loop-done g l = (T : Table) (state : g.row.W.Denot → WorldState) → AreSteps T g.row.W.Denot g.W.Steps.makes state
     → HasFollowed T l.fn.recorder.history.opening (events_from l.first l.lines) 0 (state l.fn.world) l.fn.recorder
