@@ -29,7 +29,7 @@ def script(main):
 
 def become(program, words):
     """Replaces this process by a program with these arguments."""
-    # (Python ignores these two signals. The program would inherit this.)
+    # (Python ignores these two signals, and the program would inherit this setting.)
     for it in (signal.SIGPIPE, signal.SIGXFSZ):
         signal.signal(it, signal.SIG_DFL)
     os.execv(program, [program, *words])

@@ -21,7 +21,7 @@ const LONGEST = 67108864; // the maximum number of bytes of an input that is no 
 const WRONG = 2; // the exit status for wrong arguments
 const MORE = "For more information, try '--help'.";
 
-// The program's help and version texts, by --help, --version and command.
+// The program's help and version texts, keyed by --help, --version and command.
 const HELP = require("./help.json");
 
 const ORIGIN = `commit ${"0".repeat(40)}\nproof unknown\n`; // the lines of a program without a known commit and proof
@@ -492,7 +492,7 @@ function tooLongHint(name) {
   return `Standard input has more than ${LONGEST} bytes, and only judge reads more. ${shortened}`;
 }
 
-// Returns a hint for the name of a missing file, if it is `help`, an example, or the name of a single file without its ending.
+// Returns a hint for the name of a missing file, if the name is `help`, an example, or the name of a single file without its ending.
 function meant(engine, name, file) {
   if (file === "help") return `To read about this command: listset help ${name}`;
   if (file.startsWith("~")) return "A shell replaces ~ by your folder only outside of quotes";
@@ -606,7 +606,7 @@ function ofThisFile(engine, { texts, values: [file = "-"] }, value) {
   return all || drawn ? `; of this file, 1 to ${all ?? drawn}` : "";
 }
 
-// Returns a hint in which each command begins with the way this script was called, in place of `listset`.
+// Returns a hint in which each command begins with the command that started this script, instead of with `listset`.
 function asCalled(hint) {
   const [from, whole] = [path.relative("", process.argv[1]), process.argv[1]];
   const called = `node ${quoted(from.length < whole.length ? from : whole)}`;

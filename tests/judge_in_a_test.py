@@ -553,7 +553,7 @@ def test_a_project_uses_the_package_of_rust(room):
 # ---- Tests with published sets
 
 
-# The parts of judge/real-sets/run, with the commands that each part needs, and the number of its sets that are correct.
+# The parts of judge/real-sets/run, with the commands that each part needs, and how many of its sets are correct.
 PUBLISHED = {"libcds": (["g++"], 9), "others": (["g++"], 3), "java": (["javac", "java"], 9), "go": (["go"], 2), "redis": (["redis-server"], 1), "erlang": ([], 1)}
 WRONG = r"libcds .* SkipList|JCTools NonBlocking|without a lock|read at a replica"
 

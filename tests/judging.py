@@ -55,7 +55,8 @@ def with_pending(rng, calls):
 
 
 def spread(rng, calls, opening, keys):
-    """Spreads the calls over more keys. In some recordings, a final key is missing, or an absent key is a final key."""
+    """Spreads the calls over more keys. In some recordings, a final key is missing, or an absent key is listed as a
+    final key."""
     names = rng.sample(range(3 * KEYS), 3 * KEYS)
     others = [it for it in names[KEYS:] if rng.random() < 0.5]
     opened, left = [names[it] for it in opening] + others, {names[it] for it in keys} | {*others}
@@ -176,9 +177,8 @@ def call_in(line, form, of_key):
 
 
 def may_be_made(of_key, word, since, until):
-    """Returns whether some call of the operation `word` can have changed the key between `since` and `until`: the call
-    returned true or is pending, and overlaps this time.
-    """
+    """Returns whether some call of the operation `word` can have changed the key between `since` and `until`: such a
+    call returned true or is pending, and overlaps this time. """
     return any(it.word == word and changes(it) and it.begin < until and since < (it.end or LAST + 1) for it in of_key)
 
 

@@ -3,9 +3,8 @@
 For an SVG, the tests compare its texts and its numbers of points and bars.
 
 The schedules are the files in examples/schedules/, and random schedules for the lists and the broken lists. The reports have
-random calls; most are damaged, so that each error of an order occurs. The options --from, --to and --width are random,
-and sometimes missing.
-"""
+random calls; most are damaged, so that every kind of error in an order occurs. The options --from, --to and --width are
+random, and sometimes missing. """
 
 import collections
 import random

@@ -1,4 +1,5 @@
-// Judges the five lists and a wrong set, as `shared` sets with eight seats, as docs/YOUR-SET.md judges a user's set.
+// Judges `shared` sets with eight seats, of the five lists and of a wrong set, in the way described in
+// docs/YOUR-SET.md.
 #include "listset.hpp"
 
 #include "listset_judge.hpp"

@@ -1,4 +1,4 @@
-//! Judges the five lists, as `Shared` sets with eight seats, as docs/YOUR-SET.md judges a user's set.
+//! Judges `Shared` sets of the five lists, with eight seats each, in the way described in docs/YOUR-SET.md.
 use listset::{Added, List, Shared};
 use listset_judge::Options;
 

@@ -47,8 +47,8 @@ static void call_shared(task *it, uint32_t kind, uint32_t key) {
   wrong += !may || (reply == LISTSET_FULL && it->adds < QUOTA);
 }
 
-// Calls an operation with a key that only this thread uses: key `k` of the OWN keys from SHARED + t * OWN on, for
-// thread t.
+// Calls an operation with a key that only this thread uses. Thread t uses the OWN keys from SHARED + t * OWN on; `k` is
+// the key's index among these.
 static void call_own(task *it, uint32_t kind, uint32_t k) {
   uint32_t base = SHARED + it->number * OWN, at = 0, next = k;
   uint8_t want;

@@ -1,4 +1,4 @@
-"""Makes page/help.json: the program's help texts, for page/listset.js in Node."""
+"""Generates page/help.json, which contains the program's help texts for page/listset.js in Node."""
 
 import json
 import re

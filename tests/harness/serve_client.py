@@ -62,7 +62,7 @@ def read_all(connection):
 
 
 def read_lines(connection, count):
-    """Returns `count` answers, and checks that no further byte has arrived."""
+    """Reads and returns `count` answers, and checks that no further byte has arrived."""
     text = b""
     while text.count(b"\n") < count:
         piece = connection.recv(4096)

@@ -1,4 +1,4 @@
-//! Creates broken lists (lists with one check removed) for running schedules.
+//! Creates broken lists (lists with one check removed) on which schedules are run.
 ghost use Rattle.lset_schedule.specs.Plan.{opening_in, view};
 ghost use Rattle.lset_words.specs.Words.{Opens};
 

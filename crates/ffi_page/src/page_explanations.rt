@@ -8,7 +8,7 @@ pub fn fault_by(alloc: Global, cause: &[u8]) -> Result<Answer, Trouble> {
     explain_fault(alloc, name)
 }
 
-/// Explains a text that is the content of a file with this name.
+/// Explains `text`, the content of a file with this name.
 pub fn explain_by(alloc: Global, file: &[u8], text: &[u8]) -> Result<Answer, Trouble> {
     let file = String::from_utf8_lossy(alloc, file)?;
     explain_text(alloc, &file, text)

@@ -90,7 +90,7 @@ pub record SameSet (h h' : Held) : Type 0 where
 abbrev pub Gathers : Held → Held → Type 0
 Gathers h h' = number_in h ≡ number_in h' → set_in h ≡ set_in h'
 
--- States `Gathers` for the values of two C handles, if both handles are full.
+-- States that `Gathers` holds for the values of two C handles if both handles are full.
 abbrev pub GathersAt : Bool → Held → Bool → Held → Type 0
 GathersAt true h true h' = Gathers h h'
 GathersAt into h from h' = Unit {0}

@@ -179,7 +179,7 @@ pub fn close_held(alloc: Global, held: Held) -> Result<Vec<u32>, (Held, u8)> {
     }
 }
 
-/// Copies `keys` to the start of `room` if they fit. Returns the number of keys in any case.
+/// Copies `keys` to the start of `room` if they fit. Returns the number of keys, whether or not they fit.
 fn put_keys(keys: &[u32], room: &mut [u32]) -> usize {
     let count = keys.len();
     if count <= room.len() {

@@ -103,7 +103,7 @@ pub enum Command {
 /// option, the flag is off and the option is `None`.
 #[derive(Drop)]
 pub struct Options {
-    /// The argument FILE, which `values` of `Words` contains too. Without FILE, `serve` reads nothing, and the other
+    /// The argument FILE, which is also in `values` of `Words`. Without FILE, `serve` reads nothing, and the other
     /// commands that have this argument read standard input.
     pub file: Option<String>,
     /// Whether `show` draws an SVG.
@@ -185,7 +185,7 @@ fn and_arg<'a>(
     command?.arg(arg)
 }
 
-// Adds a subcommand to `command` if both were created.
+// Adds a subcommand to `command` if both were created without an error.
 fn and_subcommand<'a>(
     command: Result<clap::Command<'a>, AllocError>,
     subcommand: Result<clap::Command<'a>, AllocError>,

@@ -78,8 +78,8 @@ stays_left left s b (p ∷ ys) e turns n = stays_left left (becomes s p.does) b 
 abbrev pub Leaves : Bool → Kind → Type 0
 Leaves b k = (s : Bool) → suits s k → becomes s k ≡ b
 
--- Let act x leave the key in the state b before act t. If no act that can be between them changes the key to the other
--- state, then t finds the key in the state b. (An act is the effect of a call.)
+-- Suppose that act x precedes act t and leaves the key in the state b. If no act that can come between them changes the
+-- key to the other state, then t finds the key in the state b. (An act is the effect of a call.)
 after : (left s b : Bool) (x t : Act) (ys : List Act) → TakeTurns left s ys → Pairs Apart ys → Before x t ys → Leaves b x.does
     → ((a : Act) → In a ys → a.does ≡ changes (not b) → x.begun < a.until → a.begun < t.until → ⊥) → suits b t.does
 after left s b x t [] turns pairs i l n = absurd i
@@ -168,7 +168,7 @@ module _ (threads : ℕ) (calls : List CallRecord) (history : IsHistory threads 
   positive a i = let l = (is_act a i).ends_later in omega (arith, l)
 
   -- Suppose that no call can change the key to the other state between `since` and the end of the call `second`. Then
-  -- no act (the effect of a call on the key) does so in this time.
+  -- no act (the effect of a call on the key) changes the key to the other state in this time.
   none : (p : Presence) (since : ℕ) (second : Option CallRecord) → NothingTurns calls k (other p) since second
       → (a : Act) → In a ys → a.does ≡ changes (not (is_there p)) → since < a.until → is_before a.begun second ≡ true → ⊥
   none p since second n a i d s b =

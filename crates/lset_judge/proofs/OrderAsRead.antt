@@ -31,7 +31,7 @@ use Rattle.lset_judge.specs.Reading.{call_as, reply_as, call_if, end_as, read_as
 
 -- ---- The judge accepts the next call of a history
 
--- If call y does not end when call x starts, `until_if` does not return the start of x as the end of y either. (For a
+-- If call y does not end when call x starts, the end that `until_if` returns for y is not the start of x either. (For a
 -- pending call, `until_if` returns an end after all moments.)
 apart_of : (y x : CallRecord) → IsBefore x → IfSome y.ended (λ (d : ℕ × Reply). d.0 ≢ x.begun) → (o : Option (ℕ × Reply)) → y.ended ≡ o
     → (until_if behind_all y.begun o ≢ x.begun)

@@ -24,7 +24,7 @@ or_zero (Some n) = n
 abbrev pub last_end : Busy → ℕ → ℕ
 last_end b t = if nat_lt t 65536 then slice_index_or b.low.items t 0 else or_zero (get nat_eq b.high t)
 
--- For each call in the hash table, states that the heap `ends` contains its end, and that `busy` stores this end as the
+-- States that, for each call in the hash table, the heap `ends` contains its end, and `busy` stores this end as the
 -- last end of the call's thread.
 pub record AreHeld (calls : List (ℕ × StreamCall)) (ends : List ℕ) (busy : Busy) : Type 0 where
   pub known : All (λ (e : ℕ × StreamCall). last_end busy e.1.thread ≡ e.0) calls

@@ -35,7 +35,7 @@ struct Best {
     size: usize,
 }
 
-/// The start or the end of a call, as the search for stretches of time uses it.
+/// The start or the end of a call, as used in the search for stretches of time.
 #[derive(Clone, Copy)]
 enum Step {
     /// A call that can change the key back starts. The field is the moment when this call ends.
@@ -44,7 +44,7 @@ enum Step {
     Change(u64),
     /// A call that saw the state other than `was` starts. The field is its index in `looks`.
     Begins(usize),
-    /// A call that saw the state other than `was` ends. The field is its index in `looks`.
+    /// A call that saw the state other than `was` ends. The field is the call's index in `looks`.
     Ends(usize),
 }
 

@@ -31,8 +31,8 @@ new_value z k t s new i = record {
   events = (new.1 i).0.seen;
 }
 
--- If a list has the new seats of all threads below t, and the new seat of thread t is appended, the list has the new
--- seats of all threads up to t.
+-- If a list has the new seats of all threads below t, and the new seat of thread t is appended, the list then has the
+-- new seats of all threads up to t.
 pub seats_more : (z : TableId) (k : Opening) (t : ℕ) (s : Seat (Unit {0}) View) (before after : List SeatValue) →
     before ≡ map (new_seat (opened z k)) (range_with_len 0 t) → IsNew z k t s
     → after ≡ before ++ value_of s ∷ [] → after ≡ map (new_seat (opened z k)) (range_with_len 0 (t + 1))

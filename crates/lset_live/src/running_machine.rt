@@ -18,9 +18,9 @@ use std::sync::Wait;
 ///
 /// A list that is `Bounded` implements this trait without a body: `impl Running for MyList {}`.
 pub trait Running: Bounded {
-    /// Executes a call of any kind, with as many rounds as it needs. Blocks with the runtime `rt` while another thread
-    /// holds a lock that the call needs. The other arguments, the precondition and the postcondition are the same as
-    /// in `Bounded::make_within`.
+    /// Executes a call of any kind, with as many rounds as it needs. Blocks, using the runtime `rt`, while another
+    /// thread holds a lock that the call needs. The other arguments, the precondition and the postcondition are the
+    /// same as in `Bounded::make_within`.
     fn make_on<R: Wait, P: Pause>(
         rt: &R,
         table: &Words<Self>,

@@ -46,7 +46,7 @@ module _ (m : Table) (b : Begun) where
         local = come.0;
       }
 
-  -- If a step does not end the call, the call is then at the row of the step table that follows.
+  -- If a step does not end the call, the call is then at the row that the step table prescribes.
   pub leads : (a : Action) (s : TableSeat) (n : ℕ) (s' : TableSeat) → MayStep m b a s → IsSeat s s' → Goes m s.me.0 n s'.me.0 →
       HasStepped m b s n s'
   leads a s n s' h seat g = record {

@@ -45,7 +45,7 @@ pub(crate) fn line_y(threads: u32, number: usize) -> u64 {
     40 * u64::from(threads) + 126 + 16 * number.min(1_000_000) as u64
 }
 
-/// Appends a text element with these classes that starts at `start`.
+/// Appends a text element that starts at `start` and has these CSS classes.
 pub(crate) fn put_text(
     out: &mut String,
     class: &str,

@@ -69,7 +69,7 @@ module _ (T : Table) (law : Lawful T) (May : Local → ℕ → Type 0) (may : Ma
   Known k = (u : ℕ) → slice_index (state_at T op es k).words x ≡ u + 1
       → (u < op.threads) × May (local_of (state_at T op es k) u) x
 
-  -- If `May` allows lock x to the thread that holds it, this remains true after the next event.
+  -- If `May` allows the holder of lock x to hold this lock, this remains true after the next event.
   known_after : (k : ℕ) → k < last → (e : Event) → es k ≡ e → Enabled (state_at T op es k) e → Known k → Known (suc k)
   known_after k l (Begin t call) ee en i u h =
       let old : slice_index (state_at T op es k).words x ≡ u + 1 = sym (word_next k l (Begin t call) ee) ∙ h in

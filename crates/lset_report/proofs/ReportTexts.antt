@@ -327,7 +327,7 @@ reads_text r is =
       again.1,
     )
 
--- ---- Lemmas: the two postconditions of `read_report` about its text
+-- ---- Lemmas: the two postconditions of `read_report` about the text of a report
 
 pub found_in : (bytes : List ℕ) (r : Result Report LineFault) → Gives view r bytes
     → IfOk r (λ s. IsReport (view s) × (bytes ≡ report_text (view s)))

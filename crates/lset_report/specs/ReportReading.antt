@@ -287,7 +287,7 @@ ReportsReadBack = (r : ReportValue) (bytes : List ℕ)
 -- fails.
 pub record RunsOut (first : ℕ) (parts : List (List ℕ)) (read : Result ReportValue LineFault) (e : LineFault) : Type 0 where
   pub cause : e.cause ≡ wrong.Memory
-  -- An allocation can fail at the last line of the header or at a later line. The lines before need no memory.
+  -- An allocation can fail at the last line of the header or at a later line. Earlier lines need no memory.
   pub after_header : last_of_header ≤ e.line
   -- The line that caused the failed allocation is complete: it ends with a newline.
   pub index : ℕ

@@ -24,7 +24,7 @@ pub record Here : Type 0 where
 abbrev pub here : Local → Option PendingCall → List OwnCall → Here
 here l u d = record { local = l; under = u; done = d }
 
--- Returns the completed call when event n ends the pending call u with the reply r.
+-- Returns the completed call that results when event n ends the pending call u with the reply r.
 abbrev pub own : PendingCall → Reply → ℕ → OwnCall
 own u r n = record { call = u.call; reply = r; begun = u.begun; ended = n }
 

@@ -33,7 +33,7 @@ impl Asking for Brand {
     ghost call = { Contains (record { 0 = 0 }) };
 }
 
-/// How a later step of a call (not its first) changes the view of its seat (the seat's knowledge of the run).
+/// How a step of a call, other than the first step, changes the view of its seat (the seat's knowledge of the run).
 pub struct Step<M> {
     machine: PhantomData<M>,
 }

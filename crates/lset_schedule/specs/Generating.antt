@@ -28,7 +28,7 @@ is_begin (line.Begin t call) = true
 is_begin (line.Go t steps) = false
 
 -- States that a line is one event of one of the threads. If the event begins a call, the key of the call is below
--- `keys`, and version 1 of the format has this call.
+-- `keys`, and version 1 of the format can express this call.
 abbrev pub IsGeneratedLine : ℕ → ℕ → Line → Type 0
 IsGeneratedLine threads keys (line.Begin t call) = (t < threads) × ((key_of call).0 < keys) × HasCall One call
 IsGeneratedLine threads keys (line.Go t steps) = (t < threads) × (steps ≡ 1)

@@ -114,8 +114,8 @@ SchedulesReadBack = (p : Plan) (bytes : List ℕ)
     → (IsSchedule p → reading (schedule_text p) ≡ Ok p)
     × (reading bytes ≡ Ok p → IsSchedule p × (bytes ≡ schedule_text p))
 
--- States that a function returned the result `read`, or failed to allocate. `view` maps the value that the function
--- returned to the value in `read`.
+-- States that a function returned the result `read`, or that an allocation failed. `view` maps the value that the
+-- function returned to the value in `read`.
 abbrev pub Gives : {X Y : Type 0} → (X → Y) → Result X LineFault → Result Y LineFault → Type 0
 Gives view (Ok x) read = read ≡ Ok (view x)
 Gives view (Err e) read = e.cause ≢ Memory → read ≡ Err e

@@ -115,7 +115,7 @@ fn schedule(alloc: Global, bytes: &[u8]) -> Result<Schedule, ScheduleFault>
 pub fn read_schedule(alloc: Global, bytes: &[u8]) -> Result<Schedule, ScheduleFault>
     // If a schedule is returned, it is within the limits, and the bytes are its text.
     ensures found { IfOk result (λ s. IsSchedule (view s) × (bytes.now ≡ schedule_text (view s))) }
-    // The text of every schedule within the limits is read as this schedule, unless an allocation fails.
+    // If the text is that of a schedule within the limits, the result is this schedule, unless an allocation fails.
     ensures only { (p : Plan) → IsSchedule p → bytes.now ≡ schedule_text p
         → MatchResult result (λ s. view s ≡ p) (λ e. e.cause ≡ Cause.Memory) }
     // The result is the result that `reading` defines, unless an allocation fails.

@@ -108,8 +108,8 @@ fits_lacked q vs first now t call c a = record {
 pub even_or_odd : (x : ℕ) → (x % 2 ≡ 0) ⊎ (x % 2 ≡ 1)
 even_or_odd x = grind arith
 
--- Lemmas about rows 20 to 25 of the step table, the rows of `contains` and `ceiling`. They hold for every protocol by
--- which threads share the words.
+-- Lemmas about rows 20 to 25 of the step table, the rows of `contains` and `ceiling`. They hold for every protocol that
+-- threads use to share the words.
 module _ (T : Table) (P : Protocol T.marks) (At : Outline) (sz : Sizes) (t : ℕ) (vs : ℕ → View) (first now : ℕ) (ws : List ℕ)
     (used : ℕ → ℕ) (done : Bool) (l : Local)
     (h : Here T.marks sz vs now ws used) (th : Thread At sz t vs first now ws used done l)

@@ -58,8 +58,8 @@ module _ {A : Type 0} (answers : ChainKey → Option A → Type 0) (v : View) (o
             ∙ sym (ap (λ ks. filter_map pick ks) (chain_keys-append v w.nodes (curr ∷ [])));
       })
 
-  -- The loop invariant still holds after the walk passes a node with a key, and collects the answer for this key, if
-  -- any.
+  -- The loop invariant still holds after the walk has passed a node with a key and has collected the answer (if any)
+  -- for this key.
   pub picked_more : (items : List A) (curr next : ℕ) (met : ChainKey) (answer : Option A) → v.key 0 ≡ 0 → curr ≢ 1
       → next ≡ v.link curr / 2 → met ≡ record { key = v.key curr - 1; marked = v.link curr % 2 == 1 } → answers met answer
       → HasPicked answers v items curr → HasPicked answers v (items ++ option_to_list answer) next

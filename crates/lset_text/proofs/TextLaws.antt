@@ -66,8 +66,8 @@ good_after g bytes rest h (Err e) is good = λ m.
 
 -- ---- Proof that reading and writing are inverse
 
--- If reading a file returns a state, the file is the text of this state. If also `P` holds for the header's start
--- state and each line preserves `P`, then `P` holds for the returned state.
+-- If reading a file returns a state, the file is the text of this state. If, in addition, `P` holds for the header's
+-- start state and each line preserves `P`, then `P` holds for the returned state.
 pub text_found : {S : Type 0} (g : TextGrammar S) (P : S → Type 0) (text : S → List (List ℕ))
     → ((h : Header) → IsHeader h → P (g.start h) × (text (g.start h) ≡ header_lines g.title h))
     → ((s t : S) (x : List ℕ) → P s → g.lines.step s x ≡ Ok t → P t × (text t ≡ text s ++ x ∷ []))

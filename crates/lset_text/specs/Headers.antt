@@ -36,7 +36,7 @@ header_lines title h =
 abbrev pub IsHeader : Header → Type 0
 IsHeader h = IsWithin (record { threads = h.threads; quota = h.quota; opening = 0 })
 
--- ---- How the version of a text is found; `title` is the title of version 2
+-- ---- Finding the version of a text; `title` is the title of version 2
 
 abbrev pub version_in : List ℕ → List (List ℕ) → Version
 version_in title [] = One

@@ -112,7 +112,7 @@ abbrev pub is_reply_in : Version → List ℕ → Bool
 is_reply_in One piece = is_some (reply_of (plain_in One) piece)
 is_reply_in Two piece = is_some (reply_of (plain_in Two) piece) || begins_at piece
 
--- States that this version of a file format has this reply.
+-- States that this version of a file format can express this reply.
 abbrev pub HasReply : Version → Reply → Type 0
 HasReply version reply.True = Unit {0}
 HasReply One (reply.At k) = ⊥

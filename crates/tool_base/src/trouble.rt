@@ -145,7 +145,7 @@ impl<T: Drop> From<AllocFailed<T>> for Trouble {
 }
 
 impl ValueName {
-    /// Returns the name that error lines on stderr use for the argument or option.
+    /// Returns the name that error messages on stderr use for the argument or option.
     pub fn word(self) -> &'static str
         ensures word { result.now ≡ value_word self }
         ensures short { length result.now ≤ 45 }

@@ -49,7 +49,8 @@ fn each_list_keeps_what_its_threads_put_in() {
             let split = seats[0].split().unwrap();
             seats.push(split);
         }
-        // On a lock-free list, several threads in `ceiling` calls could wait for a `remove` that no thread calls.
+        // Threads do not call `ceiling` on a lock-free list, since they could all wait for a `remove` that no thread
+        // calls.
         let kinds = if list == List::LockFree { 3 } else { 4 };
         let left: BTreeSet<u32> = scope(|threads| {
             let run = |(thread, seat)| threads.spawn(move || calls_of(seat, thread, kinds));

@@ -1,7 +1,7 @@
 //! Performs a run, and records its calls in memory that can be shared with the set's own process.
 //!
-//! A call is recorded with two moments, its begin and its end. A moment is a value of the counter `Tickets`, which
-//! grows at each begin and each end of a call.
+//! A call is recorded with two moments, its start and its end. A moment is a value of the counter `Tickets`, which
+//! grows at each start and each end of a call.
 use std::any::Any;
 use std::fs::File;
 use std::io::{self, Seek, SeekFrom, Write};

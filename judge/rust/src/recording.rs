@@ -86,7 +86,7 @@ fn key_in(refused: &str) -> Option<u32> {
     refused.split("of key ").nth(1)?.split(' ').next()?.parse().ok()
 }
 
-/// Returns the first line of `lines`, and how many more lines there are.
+/// Returns the first line of `lines`, followed by the number of further lines.
 fn first_of(lines: &str) -> String {
     match lines.lines().count() {
         0 => "no call".to_string(),

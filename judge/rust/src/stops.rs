@@ -57,7 +57,7 @@ mod timer {
             Some(Stops(timer))
         }
 
-        /// Interrupts this thread once after this many nanoseconds, wherever the thread is then.
+        /// Interrupts this thread once after this many nanoseconds, whatever the thread is doing then.
         pub fn after(&self, nanoseconds: u32) {
             let once = [0i64, 0, 0, i64::from(nanoseconds)];
             // SAFETY: the array has the layout of an `itimerspec`.

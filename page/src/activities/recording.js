@@ -1,4 +1,4 @@
-// Judges calls recorded from the reader's own set, pasted or opened as a file, with the proved judge.
+// Judges recorded calls of the reader's own set with the proved judge. The recording is pasted or opened as a file.
 import { drawRecorded } from "../draw/judged_bars.js";
 import { byId } from "../page/dom.js";
 import { onFile } from "../page/files.js";

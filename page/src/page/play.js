@@ -79,7 +79,7 @@ export function toggleKeys() {
   byId("keys").setAttribute("aria-expanded", String(!byId("key-help").hidden));
 }
 
-// Opens or leaves the lecture view. After leaving, the button that opens it has the focus.
+// Opens or leaves the lecture view. After leaving, the focus is on the button that opens the view.
 export function toggleLecture() {
   if (now.place.slide > 0) return void (location.hash = "#teachers");
   const isLeft = document.activeElement === byId("leave");

@@ -36,7 +36,7 @@ function freshBox() {
   return box;
 }
 
-// ---- What if: from any event, the reader can continue a run differently. Each of these branches is kept.
+// ---- "What if": from any event, the reader can continue a run differently. All these branches are stored.
 function takeOwnBranch(branch) {
   const figure = takeBranch({ ...branch, isFree: true });
   Object.assign(figure, { onFork: fork, onStep: grow });

@@ -32,7 +32,7 @@ export function frameOf({ box, spec }) {
   box.classList.toggle("undoes", spec.again !== false && spec.dock !== false);
 }
 
-// Draws a figure without reading its layout: each read would lay out the whole page again.
+// Draws a figure without reading its layout, because each read would make the browser lay out the whole page again.
 export function drawFigure(figure, moment, isNear) {
   const { run, spec, box } = figure;
   placeTheList(figure, moment, isNear);

@@ -141,7 +141,7 @@ export function drawLedger(run, count = run.trace.total) {
 
 export const isOddRun = (run) => run.promised().join() !== run.has().join();
 
-// Returns the thread with this letter as its key, or -1.
+// Returns the thread whose letter is this key, or -1 if there is none.
 export function threadOfKey({ key, ctrlKey, metaKey, altKey, repeat }) {
   if (!now.prefs.letters || repeat || ctrlKey || metaKey || altKey || !/^[a-z]$/.test(key)) return -1;
   return key.charCodeAt(0) - "a".charCodeAt(0);

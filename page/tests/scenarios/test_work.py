@@ -134,7 +134,7 @@ def test_a_numbered_run_is_the_same_for_everyone(visitor, another):
 
 
 def test_a_slow_network(visitor):
-    """Checks that the page describes itself while the engine is loaded."""
+    """Checks that the page shows a description of itself while the engine is being loaded."""
     visitor.go(f"{visitor.place}/slow.html#example=snip&event=3")
     assert "Two threads share one list" in visitor.text("#scene") and not visitor.is_seen("#bench")
     visitor.wait("return document.body.dataset.ready === 'yes'")

@@ -22,7 +22,7 @@ NEEDS = {"chromium": ("chromium-driver", ["chromedriver"]), "firefox": ("firefox
 KEYS = {"Enter": "\ue007", "Tab": "\ue004", "Escape": "\ue00c", "Left": "\ue012", "Up": "\ue013", "Right": "\ue014", "Down": "\ue015",
         "Home": "\ue011", "PageUp": "\ue00e", "PageDown": "\ue00f", "End": "\ue010", "Space": " ", "Backspace": "\ue003"}
 SHIFT, CONTROL = "\ue008", "\ue009"
-# The names of each command in WebDriver over HTTP (method and path) and in Marionette.
+# For each command, its name in WebDriver over HTTP (method and path) and its name in Marionette.
 COMMANDS = {"go": ("POST", "url", "WebDriver:Navigate"), "back": ("POST", "back", "WebDriver:Back"),
             "reload": ("POST", "refresh", "WebDriver:Refresh"), "script": ("POST", "execute/sync", "WebDriver:ExecuteScript"),
             "act": ("POST", "actions", "WebDriver:PerformActions"), "picture": ("GET", "screenshot", "WebDriver:TakeScreenshot"),
@@ -129,7 +129,7 @@ def connection(name, path, folder):
 
 
 class Browser:
-    """A browser with its own profile. It ends with the `with` block."""
+    """A browser with its own profile. The browser is closed at the end of the `with` block."""
 
     def __init__(self, name):
         self.name, self.folder = name, tempfile.TemporaryDirectory(ignore_cleanup_errors=True)

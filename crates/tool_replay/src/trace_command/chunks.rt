@@ -12,7 +12,7 @@ const MOST_OF_LINE: usize = 1_024;
 /// The part of a trace that has not been written to its destination yet.
 pub(crate) type Chunk = ArrayString<ROOM>;
 
-/// Returns `true` if the buffer can be too full for another line.
+/// Returns `true` if the next line might not fit into the buffer.
 pub(crate) fn is_full(chunk: &Chunk) -> bool {
     ROOM - MOST_OF_LINE < chunk.as_str().len()
 }
