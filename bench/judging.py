@@ -62,10 +62,11 @@ def ratio(ours, hand):
 
 
 def instructions(programs, room, whole, calls, *asked):
-    """Returns the table cells about instructions. The first three are the instructions per call of `judge` and of the judge
-    written by hand, both counted in a recording with a tenth of the calls, and their ratio. The last cell is the number of
-    instructions of `judge` for the whole recording, divided by its number for this tenth, or `-` for a recording of more
-    than a million calls. """
+    """Returns the table cells about instructions. The first three are the instructions per call of `judge` and of the
+    judge written by hand, both counted in a recording with a tenth of the calls, and their ratio. The last cell is the
+    number of instructions of `judge` for the whole recording, divided by its number for this tenth, or `-` for a
+    recording of more than a million calls.
+    """
     file = write(f"{room}/tenth", calls // 10, *asked)
     ours, hand = (instructions_of(words, file) or 0 for words in programs)
     all_ours = (instructions_of(programs[0], whole) or 0) if calls <= MILLION else 0

@@ -437,7 +437,8 @@ class Seat:
 
 def most_reads(seats, quota, keys=0):
     """Returns the maximum number of steps of `Seat.contains_now` on a list that was opened with `seats` seats, this
-    quota and `keys` keys. Returns 0 if no set can be opened with these values. """
+    quota and `keys` keys. Returns 0 if no set can be opened with these values.
+    """
     return _MOST_READS(_number(seats, "number of seats"), _number(quota, "quota"), _number(keys, "number of keys"))
 
 

@@ -173,7 +173,8 @@ def made_with_tools(make, *words):
 @pytest.fixture(scope="session")
 def once(tmp_path_factory, worker_id):
     """Returns a function that calls another function with a new folder and caches the result for all tests of the run,
-    including tests in parallel processes. """
+    including tests in parallel processes.
+    """
     of_run = tmp_path_factory.getbasetemp()
     of_run = of_run if worker_id == "master" else of_run.parent
 

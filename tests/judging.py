@@ -178,7 +178,8 @@ def call_in(line, form, of_key):
 
 def may_be_made(of_key, word, since, until):
     """Returns whether some call of the operation `word` can have changed the key between `since` and `until`: such a
-    call returned true or is pending, and overlaps this time. """
+    call returned true or is pending, and overlaps this time.
+    """
     return any(it.word == word and changes(it) and it.begin < until and since < (it.end or LAST + 1) for it in of_key)
 
 

@@ -3,7 +3,8 @@
 Each command runs in a limited address space and uses about two thirds of it. A command would need twice the limit if it
 kept its data: the calls of a recording (`judge`), its text (`trace`), each event (`draft`, `replay` and `show`), or the
 replies of each round (`run`). A server that has served a thousand sessions with many calls may use at most a megabyte
-more than after the first 180. """
+more than after the first 180.
+"""
 
 import contextlib
 import pathlib

@@ -1,5 +1,6 @@
 """Tests that the program names the first error of a text, for texts of each kind. The texts come from a table, or are
-prefixes of a valid text. The program must print an error message of exactly one line, and exit with status 1. """
+prefixes of a valid text. The program must print an error message of exactly one line, and exit with status 1.
+"""
 
 import re
 

@@ -407,7 +407,8 @@ def the_key_has_this_state_at_the_end(case, key, state):
 
 def may_be_made(case, word, key, since, until):
     """Returns whether some call of the operation `word` can have changed the key between `since` and `until`: such a
-    call returned true or is pending, and overlaps this time. """
+    call returned true or is pending, and overlaps this time.
+    """
     return any((it.word, it.key) == (word, key) and changes(it) and it.begin <= until and since <= (it.end or LAST) for it in case.calls)
 
 

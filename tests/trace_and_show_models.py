@@ -4,7 +4,8 @@ For an SVG, the tests compare its texts and its numbers of points and bars.
 
 The schedules are the files in examples/schedules/, and random schedules for the lists and the broken lists. The reports have
 random calls; most are damaged, so that every kind of error in an order occurs. The options --from, --to and --width are
-random, and sometimes missing. """
+random, and sometimes missing.
+"""
 
 import collections
 import random
@@ -87,7 +88,8 @@ class Compared:
 
     def pictures(self, picture, below=()):
         """Compares three text pictures and two SVGs. One picture and one SVG show all moments. The others begin or end
-        near the start, effect or end of a call. Options are left out at random. """
+        near the start, effect or end of a call. Options are left out at random.
+        """
         draw = random.Random(self.name)
         moments = Drawn(picture, 1, GREATEST).all or [1]
         first = max(1, draw.choice(moments) - draw.randrange(3))

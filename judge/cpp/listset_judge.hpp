@@ -77,8 +77,8 @@ struct options {
     /// The number of keys: 1 to 1,048,576. 0 selects the preset's number. With more than eight keys, half of the calls
     /// use the first four.
     unsigned keys = 0;
-    /// How often a thread pauses before a call, in percent: 0 to 100. A pause lasts at most a few microseconds. If this is
-    /// not 0 and the set has its own process, the signal SIGURG also interrupts threads during calls.
+    /// How often a thread pauses before a call, in percent: 0 to 100. A pause lasts at most a few microseconds. If this
+    /// is not 0 and the set has its own process, the signal SIGURG also interrupts threads during calls.
     unsigned pauses = 20;
     /// The number of runs: 1 to 1,000,000. A run calls one set, or several new sets one after another.
     unsigned runs = 20;

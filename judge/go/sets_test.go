@@ -60,8 +60,8 @@ func newSet() *set {
 	return made
 }
 
-// part returns the set of a key: the whole set or, with the bug "first use", a set for this key alone. The first call with
-// the key creates this set, and two calls can both create it.
+// part returns the set of a key: the whole set or, with the bug "first use", a set for this key alone. The first call
+// with the key creates this set, and two calls can both create it.
 func (s *set) part(key uint32) *right[uint32] {
 	if s.is != "first use" {
 		return s.right

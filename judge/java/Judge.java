@@ -171,8 +171,10 @@ public final class Judge {
             return with(made -> { made.adds = add; made.removes = remove; made.finds = contains; });
         }
 
-        /** Sets whether sets are called in a separate JVM. If not, sets are called in this JVM, which crashes or hangs
-         * with them. This is useful for debuggers and coverage. */
+        /**
+         * Sets whether sets are called in a separate JVM. If not, sets are called in this JVM, which crashes or hangs
+         * with them. This is useful for debuggers and coverage.
+         */
         public Options withOwnProcess(boolean it) { return with(made -> made.ownProcess = it); }
 
         /** Sets whether contains is called for each key before all other calls to record the opening keys. */
@@ -416,8 +418,10 @@ public final class Judge {
             }
         }
 
-        /** Writes calls on one key that no order explains to a small file beside the recording. Returns the part of the
-         * message that names this file. */
+        /**
+         * Writes calls on one key that no order explains to a small file beside the recording. Returns the part of the
+         * message that names this file.
+         */
         private String alone(Path file, String key) throws IOException {
             Answer answer = program.answer("judge", "--only", key, file.toString());
             if (answer.status != 0) return "";
@@ -595,8 +599,9 @@ public final class Judge {
             isOver.set(true);
         }
 
-        /** Interrupts random threads during their calls. Reads their stacks, because a thread waits while its stack is
-         * read. */
+        /**
+         * Interrupts random threads during their calls by reading their stacks. A thread waits while its stack is read.
+         */
         private void interrupt(List<Thread> threads, AtomicBoolean isOver) {
             for (SplittableRandom draw = new SplittableRandom(area.memory.getLong(Area.SEED)); !isOver.get();) {
                 LockSupport.parkNanos(draw.nextInt(APART) * 1000L);

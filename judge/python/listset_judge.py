@@ -323,7 +323,8 @@ class Tester:
 
     def alone(self, file: pathlib.Path, key: str) -> str:
         """Writes calls on one key that no order explains to a small file beside the recording. Returns the part of the
-        message that names this file. """
+        message that names this file.
+        """
         text = self.by.only(file, key) if key else ""
         if not text:
             return ""

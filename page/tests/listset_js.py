@@ -1,6 +1,7 @@
 """Compares page/listset.js in node with the program on random arguments: both outputs and the exit status must be equal. For wrong arguments, standard
 output must be empty, and the status, the first line of the message and the command in the usage line must be equal. page/test compares the engine
-itself. """
+itself.
+"""
 
 import os
 import random

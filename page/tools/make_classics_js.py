@@ -1,5 +1,6 @@
 """Makes made/classics.js from docs/CLASSIC.md. The file contains, for each example, the question, the answer, the deciding events, what goes wrong
-without the check, and the broken lists that lack the check. It also contains the kind of each broken list. """
+without the check, and the broken lists that lack the check. It also contains the kind of each broken list.
+"""
 import json
 import re
 

@@ -3,7 +3,8 @@ row of a step table links to an event of an example that executes the row (trace
 breaks it (examples/schedules/lacks).
 
 Python-Markdown makes the HTML; this script changes its output. Text for the terminal is left out: lines of code blocks that begin with `$`, and
-everything between the comments `<!-- terminal -->` and `<!-- end -->`. """
+everything between the comments `<!-- terminal -->` and `<!-- end -->`.
+"""
 
 import html
 import os

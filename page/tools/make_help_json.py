@@ -8,6 +8,7 @@ HELP = re.compile(r"^    \$ listset (--help|--version|help \w+)\n((?:    (?!\$ )
 
 def help_text(page):
     """Returns the text of page/help.json for a page of transcripts: the program's help texts, keyed by `--help`,
-    `--version` and the names of commands. """
+    `--version` and the names of commands.
+    """
     found = {words.removeprefix("help "): re.sub("^    ", "", text, flags=re.M).rstrip("\n") + "\n" for words, text in HELP.findall(page)}
     return json.dumps(found, ensure_ascii=False, indent=1) + "\n"

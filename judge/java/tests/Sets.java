@@ -39,8 +39,8 @@ final class Sets {
          * some different keys are treated as one key. */
         private Integer place(Object key) { return is.equals("collides") ? (Integer) key % 64 : (Integer) key; }
 
-        /** Returns the set of a key. With the bug "first use", the first call with the key creates its set, and two calls
-         * can both create it. */
+        /** Returns the set of a key. With the bug "first use", the first call with the key creates its set, and two
+         * calls can both create it. */
         private Set<Integer> part(Object key) {
             Set<Integer> found = parts.get(key);
             if (found == null) parts.put(key, found = new ConcurrentSkipListSet<>());

@@ -1,15 +1,21 @@
 // The state of the page, which is one value with six parts, and its reducer. This file uses no functions of a browser.
 //
 // @ts-check
-/** A place is a scene or the bench, the part of the page that runs any schedule. The bench has the activity "watch" or "judge". A scene has the id of
- * its question, level or lesson; `given` has the other parts of its address. The state of a scene has the answer that was pressed (-1 if the page showed
- * the answer), the schedule of its run if the address has one, and the branch that is shown. A run has the text, its trace, and the state after `count`
- * events; `isRun` is true if the trace belongs to the text. A task is the purpose of the run. @typedef {"lecture" | "embed" | "list" | "history" | null}
- * PageView @typedef {{ activity: string, screen: "stage" | "scene", id: string, given: Record<string, string>, view: PageView, slide: number }} Place
- * @typedef {"" | "task" | "again" | "guess" | "playing" | "moment" | "done"} Stage @typedef {{ stage: Stage, chosen: number | null, note: string, text:
- * string, hints: number, at: number, branches: any[], wrong: string[] }} Scene @typedef {{ text: string, trace: any, state: any, count: number, isRun:
- * boolean }} Run @typedef {{ kind: "own" | "example" | "seed", id: string }} Task @typedef {{ hides: boolean, letters: boolean }} Prefs @typedef {{
- * place: Place, scene: Scene, run: Run, task: Task, exercise: any, prefs: Prefs }} State @typedef {{ [name: string]: any, type: string }} Action */
+/**
+ * A place is a scene or the bench, the part of the page that runs any schedule. The bench has the activity "watch" or "judge". A scene has the id of its
+ * question, level or lesson; `given` has the other parts of its address. The state of a scene has the answer that was pressed (-1 if the page showed the
+ * answer), the schedule of its run if the address has one, and the branch that is shown. A run has the text, its trace, and the state after `count`
+ * events; `isRun` is true if the trace belongs to the text. A task is the purpose of the run.
+ * @typedef {"lecture" | "embed" | "list" | "history" | null} PageView
+ * @typedef {{ activity: string, screen: "stage" | "scene", id: string, given: Record<string, string>, view: PageView, slide: number }} Place
+ * @typedef {"" | "task" | "again" | "guess" | "playing" | "moment" | "done"} Stage
+ * @typedef {{ stage: Stage, chosen: number | null, note: string, text: string, hints: number, at: number, branches: any[], wrong: string[] }} Scene
+ * @typedef {{ text: string, trace: any, state: any, count: number, isRun: boolean }} Run
+ * @typedef {{ kind: "own" | "example" | "seed", id: string }} Task
+ * @typedef {{ hides: boolean, letters: boolean }} Prefs
+ * @typedef {{ place: Place, scene: Scene, run: Run, task: Task, exercise: any, prefs: Prefs }} State
+ * @typedef {{ [name: string]: any, type: string }} Action
+ */
 
 export const OWN_TASK = { kind: "own", id: "" };
 
