@@ -135,7 +135,7 @@ var init_engine = __esm({
       judgeFrom(input) {
         return this.answered((exports) => answerInRoom(exports, "listset_judge_from", [[input]], FIRST_ROOM));
       }
-      // Returns the diagnosis that the program prints below a refusal, which has `used` lines. The module reads the recording again for the diagnosis.
+      // Returns the diagnosis that the program prints below a refusal of `used` lines. The module reads the recording again for the diagnosis.
       whyFrom(input, used) {
         return this.answered((exports) => answerInRoom(exports, "listset_why_from", [[input, BigInt(used)]], FIRST_ROOM));
       }
