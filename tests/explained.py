@@ -210,7 +210,8 @@ def test_the_lines_that_end_a_pending_call_end_it(program, room, few):
 
 def error_in(explanation):
     """Returns the line and the cause of the error that an explanation names, or the whole explanation if it names
-    none."""
+    none.
+    """
     found = re.search(r"line (\d+) has an error, (\w+)", explanation)
     return found.groups() if found else explanation
 

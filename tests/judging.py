@@ -56,7 +56,8 @@ def with_pending(rng, calls):
 
 def spread(rng, calls, opening, keys):
     """Spreads the calls over more keys. In some recordings, a final key is missing, or an absent key is listed as a
-    final key."""
+    final key.
+    """
     names = rng.sample(range(3 * KEYS), 3 * KEYS)
     others = [it for it in names[KEYS:] if rng.random() < 0.5]
     opened, left = [names[it] for it in opening] + others, {names[it] for it in keys} | {*others}

@@ -72,7 +72,8 @@ def limits(program):
 @pytest.mark.parametrize("way", [ended_run, ended_serve])
 def test_run_and_serve_end_in_a_documented_way_under_each_limit(program, way, limits):
     """Tests how the program ends under each limit. Under some limits it must complete, and under others the system must
-    refuse a thread."""
+    refuse a thread.
+    """
     ends = collections.Counter(way(program, limit) for limit in limits)
     assert ends["outcome"] and ends["thread refused"]
 

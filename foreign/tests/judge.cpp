@@ -13,7 +13,7 @@ static void expect(bool holds, const char *what) {
 
 static bool begins(const std::string &text, std::string_view with) { return text.compare(0, with.size(), with) == 0; }
 
-// Returns whether a generated schedule for this list can be replayed and `check` accepts its report.
+// Returns whether a generated schedule for this list can be replayed, traced and drawn, and `check` accepts its report.
 static bool is_right(const std::string &kind, uint64_t seed) {
   listset::said schedule = listset::gen(kind, 3, 8, 40, 6, seed);
   listset::said report = listset::replay(schedule.text);

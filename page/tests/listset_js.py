@@ -27,7 +27,8 @@ def said(words, text=b"", output=subprocess.PIPE):
 
 def parts_of_error(text):
     """Returns the first line of a message about wrong arguments, and the program and the command that its usage line
-    names."""
+    names.
+    """
     lines = text.split(b"\n")
     return lines[0], [it.split()[:3] for it in lines if it.startswith(b"Usage: ")]
 

@@ -119,7 +119,7 @@ joined v w = record v {
 abbrev pub nobody : View
 nobody = record (opener (record { threads = 0; quota = 0; keys = [] })) { spent = true }
 
--- The view of a new receipt (the events that its holder knows). It has no threads, and has seen the same events as the
+-- The view of a new receipt (its knowledge of the run). It has no threads, and has seen the same events as the
 -- seat that issued the receipt. The view of this seat does not change.
 abbrev pub without_thread : View → View
 without_thread v = record v { spent = true }

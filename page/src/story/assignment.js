@@ -66,7 +66,7 @@ export function wayOn({ activity, id }, own) {
   return next === undefined ? { href: addressOfAssignment(homework), words: "All tasks →" } : { href: next.href, words: "Next task →" };
 }
 
-// Returns the link back from a place (a task or an overview): to the assignment if the place is a task of the assignment, else the link `own`.
+// Returns the link back from a place (a scene or the bench): to the assignment if the place is a task of the assignment, else the link `own`.
 export function wayBack(place, own, task = undefined) {
   const homework = homeworkOf(place, task);
   return homework === null ? own : { href: addressOfAssignment(homework), words: `← ${titleOfAssignment(homework)}` };
