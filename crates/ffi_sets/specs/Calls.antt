@@ -93,8 +93,8 @@ abbrev pub HasGiven : Bool → Held → Bool → Held → Bool → Held → Type
 HasGiven true h true given true h' = HasNotedHeld h given h'
 HasGiven full h out given full' h' = ⊥
 
--- States that a seat of a set has accepted a receipt: the seat has now seen all events of the receipt. The record of the
--- seat's own calls, and the number of seats that it holds, do not change.
+-- States that a seat of a set has accepted a receipt. The seat has then seen all events of the receipt. The record of
+-- the seat's own calls, and the number of seats that it holds, do not change.
 abbrev pub HasHeededOf : Option SeatValue → Option ReceiptValue → Option SeatValue → Type 0
 HasHeededOf (Some old) (Some given) (Some new) = (new.set ≡ old.set) × (new.past ≡ old.past) × (new.held ≡ old.held)
     × StartsWith new.events old.events × StartsWith new.events given.events

@@ -67,8 +67,8 @@ pub record OpenAt (last : LastCall) (call : Call) (begun : ℕ) (changed : Optio
   pub begun_is : last.begun ≡ begun
   pub changed_is : last.changed ≡ is_some changed
 
--- States that the call `x`, in its state at moment `k`, agrees with the log: its start, its change and its end, if
--- any, are entries of the log.
+-- States that the call `x`, in its state at moment `k`, agrees with the log, that is, its start and, if any, its change
+-- and its end are entries of the log.
 pub record Traced (r : Run) (k : ℕ) (x : TracedCall) : Type 0 where
   pub of_a_thread : x.thread < r.threads
   pub begins : Beginning r x.thread x.call x.begun

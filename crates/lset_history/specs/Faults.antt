@@ -49,8 +49,8 @@ HasWrongReply quota start calls order i =
     IsSomeAnd x.ended (λ (end : ℕ × Reply). end.1 ≢ reply)
     ⊎ (reply_to quota (set_left_by start calls (take i order)) x.thread x.call ≢ reply)
 
--- States that the call at index `i` of the order is too early: a call at a later index had ended before this call
--- began.
+-- States that the call at index `i` of the order is too early, because a call at a later index had ended before this
+-- call began.
 abbrev pub IsTooEarly : List CallRecord → List Placed → ℕ → Type 0
 IsTooEarly calls order i =
     (later : ℕ) × (i < later) × (later < length order) × Precedes (placed_call calls order later) (placed_call calls order i)

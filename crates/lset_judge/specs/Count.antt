@@ -42,8 +42,8 @@ abbrev pub EndsIn : Presence → Option ℕ → CallRecord → Type 0
 EndsIn was None x = leaves_if x.call x.ended ≡ Some was
 EndsIn was (Some until) x = has_ended until x.ended ≡ true
 
--- States that the key must change back between the calls x and y: whichever of them is first leaves the key in the
--- state `was`, and the second needs the other state.
+-- States that the key must change back between the calls x and y, because whichever of them is first leaves the key in
+-- the state `was`, and the second needs the other state.
 pub record NeedTurn (was : Presence) (x y : CallRecord) : Type 0 where
   pub later : x.begun < y.begun
   pub leaves : leaves_if x.call x.ended ≡ Some was
@@ -92,7 +92,7 @@ CountsExcludeOrders = (h : HistoryValue) (keys : List ℕ) (key : ℕ) (there : 
     (since until : Option ℕ) (counted : List CallRecord) → IsHistory h.opening.threads h.calls → has_key key h.opening.keys ≡ is_there there
     → IfSome left (λ (l : Presence). has_key key keys ≡ is_there l) → IsCountOf h.calls key there left was since until counted → IsUnexplained h keys
 
--- States that the result c of `find_count` is a count: its calls are too many for any order. Its `backs` are all calls
+-- States that the result c of `find_count` is a count (its calls are too many for any order). Its `backs` are all calls
 -- that can change the key back.
 pub record IsCount (calls : List CallRecord) (there : Presence) (left : Option Presence) (c : Count) : Type 0 where
   pub count : IsCountOf calls c.key.0 there left c.was c.since c.until (records c.calls.items)

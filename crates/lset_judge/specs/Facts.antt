@@ -259,8 +259,8 @@ pub record IsFound (f : Facts) (call : StreamCall) (c : Clash) : Type 0 where
   pub is : c ≡ clash_with (key_of call.call).0 f (Some call)
   pub clashing : IsClashing f call
 
--- States that, according to the stored facts f, c is a clash with the key's final state `left`: no order can contain
--- the stored call and leave this state. If no call is stored, the key's opening state replaces it.
+-- States that, according to the stored facts f, c is a clash with the key's final state `left` (no order can contain
+-- the stored call and leave this state). If no call is stored, the key's opening state replaces it.
 pub record IsFoundLeft (key : ℕ) (f : Facts) (left : Presence) (c : Clash) : Type 0 where
   pub is : c ≡ clash_with key f None
   pub is_other : left ≡ other f.was

@@ -82,8 +82,8 @@ IsOver moment x = (end : ℕ × Reply) × (x.ended ≡ Some end) × (end.0 ≤ m
 abbrev pub IsBefore : CallRecord → Type 0
 IsBefore x = (x.begun < behind_all) × IfSome x.ended (λ (end : ℕ × Reply). end.0 < behind_all)
 
--- States that `pending` are the calls that are pending after a moment: those that have not ended by then. No two of
--- them have the same end.
+-- States that `pending` are the calls that are pending after a moment, that is, have not ended by then. No two of them
+-- have the same end.
 pub record ArePending (calls : List CallRecord) (moment : ℕ) (pending : List Pending) : Type 0 where
   pub known : All (λ (p : Pending). (n : ℕ) × (n < length calls) × (p ≡ pending_of (call_numbered calls n))) pending
   pub kept : (n : ℕ) → n < length calls → IsOver moment (call_numbered calls n) ⊎ Contains pending (pending_of (call_numbered calls n))

@@ -124,8 +124,8 @@ fn at_curr(local: &Local, seen: u64) -> Local
     }
 }
 
-/// Returns the thread's private state after the call has changed the set: it has the reply `True`, and releases the
-/// locks next.
+/// Returns the thread's private state after the call has changed the set. The call has the reply `True`, and releases
+/// the locks next.
 #[inline(always)]
 fn succeeds(local: Local) -> Local
     ensures { result ≡ record local { pc = 13; reply = Some True } }

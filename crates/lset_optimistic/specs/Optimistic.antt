@@ -39,12 +39,13 @@ next_action l =
 abbrev pub at_key : ℕ → Local → Local
 at_key seen l = if nat_lt seen (target l.call) then record l { pc = 3; ckey = seen } else record l { pc = 4; ckey = seen }
 
--- Returns the thread's private state after it has taken both locks: the second walk begins at the head. If pred is the
--- head, this walk has already arrived there.
+-- Returns the thread's private state after it has taken both locks. The second walk then begins at the head. If pred
+-- is the head, this walk has already arrived there.
 abbrev pub at_locks : Local → Local
 at_locks l = if l.pred == 0 then record l { pc = 8; node = 0 } else record l { pc = 6; node = 0 }
 
--- Returns the thread's private state after validation has failed: it has no reply, and releases both locks next.
+-- Returns the thread's private state after validation has failed. The thread has no reply, and releases both locks
+-- next.
 abbrev pub gives_up : Local → Local
 gives_up l = record l { pc = 14; reply = None }
 

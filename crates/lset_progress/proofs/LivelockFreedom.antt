@@ -54,8 +54,8 @@ module _ (T : Table) (law : Lawful T) (S : Shape) (most : Sizes → ℕ) (shows 
   abbrev Fits : Sizes → List ℕ → ℕ → Local → Type 0
   Fits sz ws m l = (most sz ≤ m) ⊎ ((l.pc ≢ 0) × (calls l.call ≡ 1) × Timed S (node_count sz) ws m l)
 
-  -- States that m steps are enough for a thread once it has decided what to change: m is at least 5, or the thread has
-  -- already decided and has at most m steps left.
+  -- States that m steps are enough for a thread once it has decided what to change, that is, m is at least 5, or the
+  -- thread has already decided and has at most m steps left.
   abbrev Owes : ℕ → Local → Type 0
   Owes m l = (5 ≤ m) ⊎ LateBy S m l
 

@@ -85,7 +85,7 @@ line_of_piece bytes done line more n at =
 
 -- ---- Lemmas about the bytes read so far
 
--- States that the reader has read `bytes`: their complete lines led to the state s, line n is next, and `held` are the
+-- States that the reader has read `bytes`. Their complete lines led to the state s, line n is next, and `held` are the
 -- bytes of line n read so far.
 pub record StandsAt (bytes held : List ℕ) (n : ℕ) (s : SoFar) : Type 0 where
   pub lacks : Lacks 10 held

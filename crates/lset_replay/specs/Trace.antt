@@ -159,8 +159,8 @@ pub record MayStep (h : HistoryValue) (under_way : List (Option OpenCall)) (plac
   pub goes : IsSomeAnd (open_call_at under_way thread) (λ o.
       (o.number < length places) × (o.begun ≤ moment) × MayEnd h o.number moment)
 
--- States that a change can be recorded: its moment is after every recorded change, and the change adds an absent key or
--- removes a present key.
+-- States that a change can be recorded, that is, its moment is after every recorded change, and it adds an absent key
+-- or removes a present key.
 abbrev pub MayChange : (ℕ → List ℕ) → ℕ → Option Change → Type 0
 MayChange changes moment None = Unit {0}
 MayChange changes moment (Some (k, present)) =

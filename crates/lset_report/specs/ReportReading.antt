@@ -154,8 +154,8 @@ ended_before moment (Some end) = nat_lt end.0 moment
 abbrev pub is_idle : List CallRecord → ℕ → ℕ → Bool
 is_idle calls thread moment = list_all (λ y. not (y.thread == thread) || ended_before moment y.ended) calls
 
--- Returns whether a call can have this end: it is pending, or it ends after `begun`, at a moment when no call in the
--- list starts or ends.
+-- Returns whether a call can have this end. The call must be pending, or end after `begun`, at a moment when no call in
+-- the list starts or ends.
 abbrev pub ends_later : List CallRecord → ℕ → Option (ℕ × Reply) → Bool
 ends_later calls begun None = true
 ends_later calls begun (Some end) = nat_lt begun end.0 && not (is_taken calls end.0)

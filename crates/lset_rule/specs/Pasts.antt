@@ -40,7 +40,7 @@ GatheredBefore n (Fresh t) = Unit {0}
 GatheredBefore n (Called' p r c) = GatheredBefore n r
 GatheredBefore n (Gathered' p r q g) = GatheredBefore n r × Before n g
 
--- States that records were merged in at the right time: if a record was merged into the seat's record before a call of
+-- States that records were merged in at the right time. If a record was merged into the seat's record before a call of
 -- the seat's own thread, all calls in the merged record ended before this call started.
 abbrev pub InOrder : Past → Type 0
 InOrder (Fresh t) = Unit {0}

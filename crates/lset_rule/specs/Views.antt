@@ -31,8 +31,8 @@ abbrev pub InTime : Option PendingCall → Past → Type 0
 InTime None r = Unit {0}
 InTime (Some u) r = Before u.begun r
 
--- States that the view v (a seat's knowledge of the run) is correct: its information about its threads is true after
--- the events that it has seen.
+-- States that the view v (a seat's knowledge of the run) is correct, that is, its information about its threads is true
+-- after the events that it has seen.
 pub record Stands (m : Table) (v : View) : Type 0 where
   -- The events that the view has seen are a run. After this run, the seat's own thread has the registers, the pending
   -- call and the completed calls that the view stores.

@@ -50,7 +50,7 @@ abbrev pub Segment : View → ℕ → List ℕ → ℕ → Type 0
 Segment v i [] j = i ≡ j
 Segment v i (a ∷ ns) j = (a ≡ i) × (i ≢ 1) × Segment v (v.link i / 2) ns j
 
--- States that node b is in the chain: links lead to it from the head, without passing the tail.
+-- States that node b is in the chain, that is, links lead from the head to b without passing the tail.
 abbrev pub InChain : View → ℕ → Type 0
 InChain v b = (ns : List ℕ) × Segment v 0 ns b
 
@@ -58,13 +58,13 @@ InChain v b = (ns : List ℕ) × Segment v 0 ns b
 abbrev pub IsChain : View → List ℕ → Type 0
 IsChain v ns = Segment v 0 ns 1
 
--- States that k is in the set: k is the key of an unmarked node of the chain, other than the head and the tail. A node
--- stores its key plus 1.
+-- States that k is in the set, that is, k is the key of an unmarked node of the chain, other than the head and the
+-- tail. A node stores its key plus 1.
 abbrev pub InContent : View → ℕ → Type 0
 InContent v k = (b : ℕ) × InChain v b × (1 < b) × (v.key b ≡ k + 1) × (v.link b % 2 ≡ 0)
 
--- States that the keys are in order: the link of each published node (one that has been in the chain) except the tail
--- leads to a published node with a greater key, and no key is above the tail's.
+-- States that the keys are in order, that is, the link of each published node (one that has been in the chain) except
+-- the tail leads to a published node with a greater key, and no key is above the tail's.
 pub record IsOrdered (v : View) : Type 0 where
   pub head_published : v.published 0
   pub tail_published : v.published 1

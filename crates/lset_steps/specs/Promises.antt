@@ -152,7 +152,7 @@ TrueMeansChange T = (op : Opening) (last k t : ℕ) (es : ℕ → Event) (change
     → log_of T op es k ≡ stepped t change (Some True)
     → (has_changed (log_of T op es) t (suc k) ≡ true) ⊎ IsContains (last_call (log_of T op es) t k)
 
--- States that every run has an account: each event changes the keys of the set as its call allows, and each reply is
+-- States that every run has an account. Each event changes the keys of the set as its call allows, and each reply is
 -- correct at some moment of its call. The account mentions no nodes and no locks.
 abbrev pub HasAccount : Table → Type 0
 HasAccount T = (op : Opening) (last : ℕ) (es : ℕ → Event) → Run T op es last

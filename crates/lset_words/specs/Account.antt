@@ -66,8 +66,8 @@ Contents = ℕ → Content
 abbrev pub Counts : Type 0
 Counts = ℕ → ℕ → ℕ
 
--- States that the reply is correct at some moment from `first` to `last`: a sequential set with the keys of that moment
--- returns this reply.
+-- States that the reply is correct at some moment from `first` to `last`, that is, a sequential set with the keys of
+-- that moment returns this reply.
 pub record FitsSometime (quota : ℕ) (contents : Contents) (counts : Counts) (first last thread : ℕ) (call : Call)
     (reply : Reply) : Type 0 where
   pub moment : ℕ
@@ -114,8 +114,8 @@ abbrev pub Enters : ℕ → ℕ → Log → Contents → Counts → ℕ → Entr
 Enters threads quota log contents counts k (began t call) = Begins threads log contents counts k t
 Enters threads quota log contents counts k (stepped t change reply) = Steps threads quota log contents counts k t change reply
 
--- States that `contents` and `counts` are the account of a run's first `last` events: they agree with the opening keys
--- and with each entry of the log.
+-- States that `contents` and `counts` are the account of a run's first `last` events, that is, they agree with the
+-- opening keys and with each entry of the log.
 pub record Account (o : Opening) (last : ℕ) (log : Log) (contents : Contents) (counts : Counts) : Type 0 where
   -- The content at moment 0 consists of the opening keys. The opening keys increase strictly.
   pub increasing : IsStrictlyIncreasing o.keys

@@ -285,7 +285,7 @@ pub struct OwnSeat<'a> {
 
 impl OwnSeat<'_> {
     /// Adds a key, and renews the set if the seat has used up its quota. Returns [`Added::Full`] only if the quota is 0, or
-    /// if the set has more than 1,048,576 keys: no set can be opened with so many keys.
+    /// if the set has more than 1,048,576 keys, because no set can be opened with so many.
     pub fn add(&mut self, key: u32) -> Result<Added, Fault> {
         let mut added = self.set.by(self.place, |it| it.add(key))?;
         if added == Added::Full {
