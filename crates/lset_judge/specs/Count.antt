@@ -1,5 +1,5 @@
--- Counts: calls on a key that are too many for any order. The key would have to change back between them more often
--- than it can.
+-- Counts: calls on a key that are too many for any order. The key would have to change back between these calls more
+-- often than it can.
 use Rattle.std.specs.Prelude.{◌≡◌, ℕ, ◌+◌, ◌-◌, ◌<◌, ◌≤◌, ◌==◌, ◌⊎◌, ◌&&◌, not, nat_lt, Bool, true, List, length, filter, Option, Some, None, All, AllPairs, IfSome}
 use Rattle.lset_words.specs.declared.Reply.{Reply}
 use Rattle.lset_words.specs.declared.history.CallRecord.{CallRecord}

@@ -103,8 +103,8 @@ facts_or (Some s) = facts_of s
 abbrev pub facts_for : States → ℕ → Facts
 facts_for states k = facts_or (get nat_eq states k)
 
--- Returns the facts about a key after the start of a call on it. Only the start of a change alters them. (For the end
--- of a call, see `IsEnded`.)
+-- Returns the facts about a key after the start of a call on this key. Only the start of a change alters them. (For the
+-- end of a call, see `IsEnded`.)
 abbrev pub begun_by : Event → Facts → Facts
 begun_by (begins w end) f = record f {
   puts_until = if w then max f.puts_until end else f.puts_until;

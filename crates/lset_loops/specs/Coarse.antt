@@ -14,7 +14,7 @@ use Rattle.lset_loops.specs.Calling.{Holds, Rest, row}
 abbrev pub AtHead : Begun → OwnSlots → TableSeat → Type 0
 AtHead b own s = (j : Rest) × Holds coarse b (row own b.call 2 None 0 0 j) s
 
--- States that the call is about to load the key of node x, which it reached by the link of p.
+-- States that the call is about to load the key of node x, which it reached through the link of node p.
 abbrev pub AtKey : Begun → OwnSlots → ℕ → ℕ → TableSeat → Type 0
 AtKey b own p x s = (j : Rest) × Holds coarse b (row own b.call 3 None p x j) s
 

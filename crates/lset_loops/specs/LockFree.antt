@@ -11,7 +11,7 @@ use Rattle.lset_loops.specs.declared.decision.Found.{Found}
 use Rattle.lset_loops.specs.Begun.{Begun}
 use Rattle.lset_loops.specs.Calling.{Holds, Rest, row, StandsAfter, HasAnswered}
 
--- States that the call is about to load the link of node x, which it reached by the link of p.
+-- States that the call is about to load the link of node x, which it reached through the link of node p.
 abbrev pub AtLink : Begun → OwnSlots → ℕ → ℕ → TableSeat → Type 0
 AtLink b own p x s = (j : Rest) × Holds lock_free b (row own b.call 2 None p x j) s
 

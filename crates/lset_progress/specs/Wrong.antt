@@ -31,8 +31,8 @@ spinning = record {
 }
 
 -- A broken LockFreeList. Before an `add` links its new node after pred, it writes its thread's number into the lock
--- word of pred (row 11 of the step table). It continues only if it then reads its own number in this word (row 12).
--- Otherwise it writes the number again.
+-- word of pred (row 11 of the step table). The `add` continues only if it then reads its own number in this word (row
+-- 12). Otherwise it writes the number again.
 abbrev pub claims_first : Fed → Fed
 claims_first f = record { local = if f.local.pc == 5 then record f.local { pc = 11 } else f.local; answer = f.answer }
 

@@ -124,8 +124,8 @@ nobody = record (opener (record { threads = 0; quota = 0; keys = [] })) { spent 
 abbrev pub without_thread : View → View
 without_thread v = record v { spent = true }
 
--- The view of a seat (its knowledge of the run) after it uses a receipt. The seat has then seen the longer of the two
--- lists of events (its own and the receipt's), and keeps both lists until its next load. The receipt is spent.
+-- The view of a seat (its knowledge of the run) after the seat uses a receipt. The seat has then seen the longer of the
+-- two lists of events (its own and the receipt's), and keeps both lists until its next load. The receipt is spent.
 abbrev pub informed : View → View → View
 informed v w = record v {
   seen = longer v.seen w.seen;

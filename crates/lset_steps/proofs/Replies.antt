@@ -106,7 +106,7 @@ or_false false = refl
 abbrev pub fed : Local → Option Reply → Fed
 fed l a = record { local = l; answer = a }
 
--- A thread's registers (the nodes and key words in its private state) stay in range when it begins a call.
+-- A thread's registers (the nodes and key words in its private state) stay in range when the thread begins a call.
 pub registers_begun : (sz : Sizes) (t pc : ℕ) (call : Call) (l : Local) → target call < tail_word → Registers sz t l
     → Registers sz t (begun pc call l)
 registers_begun sz t pc call l low r =
