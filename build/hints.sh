@@ -304,8 +304,8 @@ print_last_moment() {
 }
 
 # Prints a period and a sentence about a misspelled value $2. If $1 is a range of numbers, the sentence states how
-# numbers are spelled. Otherwise it suggests the name of a list. Prints nothing if the number is spelled correctly, or
-# if no list has a similar name.
+# numbers are spelled. Otherwise it suggests the name of a list that differs only by case, by punctuation or by "list".
+# Prints nothing if the number is spelled correctly, or if no list has such a name. (page/listset.js does the same.)
 explain_spelling() {
   local range=$1 value=$2 it plain
   plain=$(tr -cd a-z <<<"${value,,}")

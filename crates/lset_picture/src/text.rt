@@ -1,5 +1,5 @@
 //! Writes a picture as text: a row for each thread with a bar for each call, signs at the linearization points, the set
-//! below them, and the order.
+//! below them, and the order. (`put_signs` in `columns.rt` puts the bars and signs into the rows.)
 use crate::MOST_COLUMNS;
 use crate::columns::{Column, Drawing, Mark, Sign, drawing_in, end_at_last, put_signs};
 use crate::orders::{put_cut, put_heading, put_lines_below};

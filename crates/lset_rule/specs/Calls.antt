@@ -32,7 +32,8 @@ record_after r (Some x) None n = r
 record_after r None u n = r
 
 -- Returns the view of a seat (its knowledge of the run) after a step of its thread that saw the value n. The view was v
--- before, and `log` contains all events before the step.
+-- before, and `log` contains all events before the step. A step that takes a lock is an exchange that saw 0: the law of
+-- lock words is `held` in `lset_steps`, and a plain loop uses `MayLock` in `lset_loops`.
 abbrev pub gone_view : Table → List Event → ℕ → View → View
 gone_view m log n v = let f = m.feed v.local n in record v {
   local = f.local;

@@ -52,6 +52,7 @@ module _ (marks : Bool) (v w : View) (ord : IsOrdered v) where
     λ j n. (unlink_others v w ord pred curr q j (inr (λ f. n (omega arith))), unlink_only v w ord pred curr q j),
   )
 
+  -- A marked node stays marked: no move changes its link.
   pub marked_stays : (ch : Option (Key × Bool)) → Move marks v w ch → (b : ℕ) → v.published b → v.link b % 2 ≡ 1
       → w.link b ≡ v.link b
   marked_stays ch (quiet q) b i o = q.links b i

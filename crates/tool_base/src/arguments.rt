@@ -83,8 +83,8 @@ fn seed_at(values: &[String], index: usize) -> Option<u64>
     long_number(values.get(index)?.as_bytes(), 0, u64::MAX)
 }
 
-/// Reads the arguments KIND, THREADS, QUOTA, CALLS, KEYS and SEED, in this order. `RandomRequest` documents their
-/// ranges. Numbers are decimals without leading zeros. Further arguments are ignored.
+/// Reads the arguments of `gen`: KIND, THREADS, QUOTA, CALLS, KEYS and SEED, in this order. `RandomRequest` documents
+/// their ranges. Numbers are decimals without leading zeros. Further arguments are ignored.
 ///
 /// # Errors
 ///

@@ -72,6 +72,7 @@ function showVerdict({ kind, says, reasons, calls }) {
 
 const nothing = { kind: "", says: "", reasons: [], calls: [] };
 
+// Judges the recording that was pasted or read from a file.
 async function judgeCalls() {
   const text = withNewline(recordedPart("text").value);
   recorded.text = text;
