@@ -33,18 +33,23 @@ def end_of(room):
     return room / ".git" / "ended"
 
 
+def are_proved(room, names):
+    """Returns whether build/prove --in has proved these crates in a folder."""
+    return all(note_of(room, it).exists() for it in names)
+
+
 def wait_for(room, names):
     """Waits until build/prove --in has proved these crates in a folder, or has ended. Returns whether the crates are proved."""
-    while not (has_ended := end_of(room).exists()) and not all(note_of(room, it).exists() for it in names):
+    while not end_of(room).exists() and not are_proved(room, names):
         time.sleep(2)
-    return not has_ended or all(note_of(room, it).exists() for it in names)
+    return are_proved(room, names)
 
 
 def wait_for_those_below(room, names):
     """Waits until the dependencies of these crates are proved; raises NotBuilt if one is not. Lowers this process's
     priority below that of the proofs (nice).
     """
-    os.nice(10)
+    os.nice(5)
     if not wait_for(room, [it for it in crates_txt.below(names) if it not in names]):
         raise toolchain.NotBuilt("a crate below is not proved")
 

@@ -2,6 +2,8 @@
 command. Also tests `build/take`. The tests use small clones with a program that adds up bytes.
 """
 
+import importlib.machinery
+import importlib.util
 import os
 import pathlib
 import re
@@ -86,6 +88,14 @@ class Clone:
         self.proved.write_text('#!/bin/sh\necho "proved: $*"\n')
         self.proved.chmod(0o755)
         os.utime(self.proved, (time.time() + at,) * 2)
+
+
+def module_of(script):
+    """Loads a script of this repository as a module."""
+    loader = importlib.machinery.SourceFileLoader(pathlib.Path(script).name, str(TOP / script))
+    made = importlib.util.module_from_spec(importlib.util.spec_from_loader(loader.name, loader))
+    loader.exec_module(made)
+    return made
 
 
 def shown(command):
@@ -176,7 +186,7 @@ print(*gate.not_run(sys.executable), sep="\\n")
 def test_tests_without_their_tool_are_listed_and_do_not_pass(room):
     how = {"cwd": TOP, "env": {**os.environ, "TMPDIR": str(room), "PATH": str(bare_path(room / "path", "git", "gcc"))}}
     listed = well(sys.executable, "-c", NOT_RUN, **how)
-    for tool, what in {"go": "tests are skipped", "mvn": "tests are skipped", "node": "not run: the step 'page in node'", "wasm-opt": "not run: whether the page's module"}.items():
+    for tool, what in {"go": "tests are skipped", "mvn": "tests are skipped", "node": "not run: the tests of the page in node", "wasm-opt": "not run: whether the page's module"}.items():
         assert re.search(rf"^{tool} is not installed: Debian's packages? .*; .*{what}", listed, re.M), listed
     assert not re.search("^gcc is not", listed, re.M)
     wants(ran(TOP / "page/test", "--node", **how), status=1, output="", tells=["node is missing, and nothing was tried: Debian's package nodejs"])
@@ -374,6 +384,18 @@ def test_edits_wait_until_the_libraries_below_are_proved_or_the_proofs_have_ende
     assert proving.wait_for(room, ["low", "high"])
     proving.end_of(room).touch()
     assert proving.wait_for(room, ["high"]) and not proving.wait_for(room, ["low", "not_proved"])
+
+
+def test_edits_are_tried_in_the_order_in_which_their_libraries_are_proved(room):
+    tasks = [(it, []) for it in ("lset_recording", "lset_history", "lset_words", "lset_coarse")]
+    proving.note_of(room, "lset_steps").parent.mkdir(parents=True)
+    in_order = module_of("build/try_edits").proved_first(tasks, room)
+    assert next(in_order) == (("lset_words", []), True)
+    for it in ("lset_steps", "lset_words"):
+        proving.note_of(room, it).touch()
+    assert [next(in_order), next(in_order)] == [(("lset_history", []), True), (("lset_coarse", []), True)]
+    proving.end_of(room).touch()
+    assert [*in_order] == [(("lset_recording", []), False)]
 
 
 def test_take_copies_crates_and_replaces_them(room):
