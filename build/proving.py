@@ -39,7 +39,9 @@ def are_proved(room, names):
 
 
 def wait_for(room, names):
-    """Waits until build/prove --in has proved these crates in a folder, or has ended. Returns whether the crates are proved."""
+    """Waits until build/prove --in has proved these crates in a folder, or has ended. Returns whether the crates are
+    proved.
+    """
     while not end_of(room).exists() and not are_proved(room, names):
         time.sleep(2)
     return are_proved(room, names)
