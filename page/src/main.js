@@ -6,7 +6,7 @@ import { drawJudging, listenToJudging } from "./activities/judging.js";
 import { MAPS } from "./activities/maps.js";
 import { followAddress, openCourseFile, openFirst, openRecorded } from "./activities/open.js";
 import { startEngine } from "./engine/engine.js";
-import { fillExamples, listenToBar, listenToFiles, listenToSettings, listenToWork, showQuestion, stopUnable } from "./page/controls.js";
+import { fillExamples, listenToBar, listenToFiles, listenToMenu, listenToSettings, listenToWork, showQuestion, stopUnable } from "./page/controls.js";
 import { byId } from "./page/dom.js";
 import { refreshReport } from "./page/files.js";
 import { keysOf, pressKey } from "./page/play.js";
@@ -34,7 +34,7 @@ const SCENES = {
   notes: notesView, handout: handoutView,
 };
 
-const LISTEN = [listenToBar, listenToBench, listenToWork, listenToFiles, listenToSettings, listenToJudging, listenToCourses, listenToScene];
+const LISTEN = [listenToMenu, listenToBar, listenToBench, listenToWork, listenToFiles, listenToSettings, listenToJudging, listenToCourses, listenToScene];
 
 function listen() {
   for (const begin of LISTEN) begin();

@@ -35,7 +35,7 @@ for (const [name, { hints, lacks, others, missing }] of Object.entries(levels)) 
   const replies = Object.values(others);
   check(`${name} has wrong answers with replies`, replies.length === (name === inPage("NO_TASK") ? 0 : 2) && replies.every((reply) => /^it \w+ .*[a-z)]$/.test(reply)));
   const lines = BOOK_CODE[lacking[name]];
-  const isThere = ({ row, part }) => lines.some(({ rows = [], text }) => rows.includes(row) && text.includes(part));
+  const isThere = ({ row, part, line }) => lines.some(({ rows = [], text }) => rows.includes(row) && (line ?? text).includes(part));
   check(`${name}: what is missing stands in the code`, missing.length > 0 && missing.every(isThere));
 }
 console.log(JSON.stringify(result));

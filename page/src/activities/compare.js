@@ -116,7 +116,7 @@ function drawSide({ run, counts }, figure) {
   const count = counts[at];
   const box = figure.box.parentElement;
   box.querySelector("h2").innerHTML = `${LISTS[run.trace.kind].name} <small>${count} events</small>`;
-  box.querySelector("a").href = addressOf(run.schedule, count) ?? "#";
+  box.querySelector("a").href = addressOf(run.schedule, 0) ?? "#";
   run.state.moveTo(count);
   figure.showRun(new ShownRun(run.trace, run.state, count), undefined, now.prefs.hides);
   const hasWaited = at > 0 && count === counts[at - 1];

@@ -1,13 +1,15 @@
 // The panel for judging the current run: the reader chooses a moment and a reply for each call.
 import { CLASSICS } from "../../made/classics.js";
-import { GROWN } from "../draw/history.js";
+import { GROWN, SMALL_GROWN, WIDE_GROWN } from "../draw/history.js";
 import { drawJudged, drawOwnOrder, judgeScale } from "../draw/judged_bars.js";
 import { byId, redraw } from "../page/dom.js";
 import { askNow, dispatch, exampleShown, isJudging, isLecture, now, say } from "../page/now.js";
 import { addressOf, partsOfSeed } from "../run/address.js";
 import { exerciseOf, LEVELS, MOST_JUDGED, OwnAnswer, repliesOf, verdictOn, wordOfAnswer } from "../run/judged.js";
 import { callText, chipOf, escaped } from "../run/markup.js";
+import { itemOf } from "../story/ask_branches.js";
 import { homeworkOf } from "../story/assignment.js";
+import { isNarrow } from "../story/figure_parts.js";
 import { keepJudged } from "../story/progress.js";
 
 const HALF_STEPS = { ArrowLeft: -0.5, ArrowDown: -0.5, ArrowRight: 0.5, ArrowUp: 0.5 };
@@ -93,7 +95,8 @@ class Judging {
     this.count = now.run.count;
     const zoom = isLecture() ? innerHeight / 450 : 1;
     judgePart("bars").style.setProperty("--zoom", String(zoom));
-    this.scale = judgeScale(this.exercise, Math.max(300, judgePart("bars").clientWidth / zoom), isLecture() ? { bar: 20, grown: GROWN } : {});
+    this.scale = judgeScale(this.exercise, Math.max(300, judgePart("bars").clientWidth / zoom), isLecture() ? { bar: 20, grown: GROWN } : { grown: isNarrow() ? SMALL_GROWN : WIDE_GROWN });
+    judgePart("of").textContent = itemOf({ id: exampleShown() })?.question ?? "Your answer is right if, in the order of your moments, every reply is correct.";
     judgePart("task").textContent = `${now.task.kind === "seed" ? `Run ${partsOfSeed(now.task.id).number}. ` : ""}${LEVELS[level].task}`;
     redraw(judgePart("bars"), drawJudged(this));
     const asked = level === "replies" ? calls.filter((call) => call.ended !== null) : [];

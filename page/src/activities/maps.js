@@ -5,7 +5,7 @@ import { BREAK_LEVELS, numberOfLevel, TEN, THREE_MORE } from "../data/levels.js"
 import { byId } from "../page/dom.js";
 import { examples } from "../page/work.js";
 import { anotherSeed, seedOf } from "../run/address.js";
-import { escaped, listOptions, tag } from "../run/markup.js";
+import { escaped, tag } from "../run/markup.js";
 import { QUESTIONS } from "../story/ask.js";
 import { bookCourse } from "../story/assignment.js";
 import { itemOf } from "../story/ask_branches.js";
@@ -100,11 +100,11 @@ function judgeHtml() {
   };
   const words = `You see a run without its replies. Choose what each call returns, and when it takes effect: one moment between its start and its end.
     If in the order of these moments every reply is correct, your answer is right. A proved program checks it.`;
-  const top = `<p class="line"><button data-do="runs">Find the order of a run yourself ↓</button></p>`;
-  return `${head("", "Judge", top, "title")}${drawRecordedBox()}<h2 id="judge-runs">Find the order of a run yourself</h2>${lead(words)}
-    <div class="start-row"><label>list <select id="judge-seed-list">${listOptions()}</select></label>
-    <label>number <input id="judge-seed-number" type="number" min="1" max="999999999" placeholder="any"></label>
-    <button class="primary" data-do="seed">Judge a run</button></div><h2>An example, by its question</h2>${cards(examples().map(cardOf))}`;
+  const top = `${lead(words)}<p class="line"><button data-do="recorded">Judge calls recorded from your own set ↓</button></p>`;
+  const lists = Object.entries(LIST_WORDS).map(([kind, name]) => tag("option", { value: kind }, name)).join("");
+  return `${head("", "Judge", top, "title")}<div class="start-row"><label>list <select id="judge-seed-list">${lists}</select></label>
+    <label>run number <input id="judge-seed-number" type="number" min="1" max="999999999" placeholder="any"></label>
+    <button class="primary" data-do="seed">Judge a run</button></div><h2>An example, by its question</h2>${cards(examples().map(cardOf))}${drawRecordedBox()}`;
 }
 
 function openSeed() {
@@ -147,6 +147,6 @@ export const MAPS = {
   "ask map": mapOf(() => "Guess, then see", askHtml),
   "break map": mapOf(() => "Break it", breakHtml),
   "learn map": mapOf(() => learning.panel.course.name, learnHtml, { begin: beginLearn, end: endLearn, deeds: { book: openBook } }),
-  judge: mapOf(() => "Judge", judgeHtml, { begin: listenToRecorded, deeds: { seed: openSeed, runs: () => part("#judge-runs").scrollIntoView({ behavior: "smooth" }) } }),
+  judge: mapOf(() => "Judge", judgeHtml, { begin: listenToRecorded, deeds: { seed: openSeed, recorded: () => part("#recorded-box").scrollIntoView({ behavior: "smooth" }) } }),
   read: mapOf(() => "Read", readHtml),
 };

@@ -6,6 +6,7 @@ import { askNow, askSoon, LONG_TEXT } from "../page/now.js";
 import { escaped, letterOf, tag } from "../run/markup.js";
 import { RECORDED_EXAMPLE, recordedInWords, verdictOnCalls, withNewline } from "../run/recorded.js";
 import { diagnosisIn } from "../run/why.js";
+import { isNarrow } from "../story/figure_parts.js";
 
 const WIDEST = 800; // pixels of a drawing, before it is made larger
 const recorded = { text: "" }; // the text of the box, kept while another activity is shown
@@ -55,9 +56,11 @@ async function withDiagnosis(verdict, text) {
 }
 
 function withRemarks(verdict, text) {
-  const hasCalls = /^call /m.test(text);
-  if (verdict.kind === "ok" && !hasCalls) return { ...verdict, kind: "fault", says: "This recording has no call, so nothing was judged." };
-  return { ...verdict, reasons: [...verdict.reasons, ...keysInWords(text, verdict), ...threadsInWords([...verdict.calls, ...(verdict.also ?? [])])] };
+  const count = (text.match(/^call /gm) ?? []).length;
+  if (verdict.kind === "ok" && count === 0) return { ...verdict, kind: "fault", says: "This recording has no call, so nothing was judged." };
+  const isPart = verdict.kind === "none" && verdict.calls.length > 0 && verdict.calls.length < count;
+  const drawn = isPart ? [`The picture has the calls that contradict each other: ${verdict.calls.length} of ${count}.`] : [];
+  return { ...verdict, reasons: [...verdict.reasons, ...drawn, ...keysInWords(text, verdict), ...threadsInWords([...verdict.calls, ...(verdict.also ?? [])])] };
 }
 
 function showVerdict({ kind, says, reasons, calls }) {
@@ -68,6 +71,7 @@ function showVerdict({ kind, says, reasons, calls }) {
   const zoom = wide > WIDEST ? 1.25 : 1;
   recordedPart("picture").style.setProperty("--zoom", String(zoom));
   recordedPart("picture").innerHTML = calls.length > 0 ? drawRecorded(calls, Math.min(Math.max(300, wide / zoom), WIDEST)) : "";
+  if (kind !== "") recordedPart("verdict").scrollIntoView({ block: isNarrow() ? "start" : "nearest" });
 }
 
 const nothing = { kind: "", says: "", reasons: [], calls: [] };

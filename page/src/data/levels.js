@@ -41,14 +41,14 @@ export const BREAK_LEVELS = {
     start: [["add", 4], ["add", 5]], shortest: [20, 2], missing: [{ row: 5, part: "new " }],
   },
   "second-lock": {
-    story: "Hand over hand means two locks at a time. Here one of the two locks is never taken.",
+    story: "Hand over hand means two locks at a time. One kind of call here holds only one when it writes.",
     hints: ["An add of 5 beside a remove of 3, its neighbour.",
       "The add must hold the lock of 3 while the other thread removes that node.",
       "Let B step through its add until just before it writes pred.next, with 3 as its pred. Then try a remove of 3 by A."],
-    lacks: "A remove locks only pred, and not the node that it unlinks.",
+    lacks: "A remove does not lock the node that it unlinks.",
     others: { "A remove does not lock pred.": "it locks pred, and keeps that lock until it has written",
       "A remove releases its lock before it writes.": "it releases its lock only after that" },
-    start: [["remove", 3], ["add", 5]], shortest: [21, 2], missing: [{ row: 3, part: "lock curr," }],
+    start: [["remove", 3], ["add", 5]], shortest: [21, 2], missing: [{ row: 3, part: ", even to remove it", line: "loop: lock curr, even to remove it" }],
   },
   "hand-over-hand": {
     story: "A walk should never be without a lock, not for one moment.",

@@ -17,7 +17,7 @@ function pathOf(from, to, places, isMarked) {
   if (to.aside && to.x > from.x && to.x - from.x < 2 * from.width) return curve(x, y, x + 10, y, to.x - 20, to.y + to.key / 2, to.x - 5, to.y + to.key / 2);
   if (to.aside) return curve(x, y, x, y + 50, to.x - 30, to.y + to.key / 2, to.x - 5, to.y + to.key / 2);
   const [tx, ty] = [to.x + Math.min(26, to.width / 2), to.y + to.row + 5];
-  if (from.aside && y < ty) return curve(x, y, x + 10, ty + 48, tx, ty + 48, tx, ty); // from a node in a gap of the chain: passes below the nodes
+  if (from.aside && y < ty) return curve(x, y, x + 34, y, tx, ty + 48, tx, ty); // from a node in a gap of the chain: passes below the nodes
   if (from.aside && tx < x + 30) return curve(x, y, x, y - 40, tx, ty + 40, tx, ty); // to a node above it
   const isOver = Object.values(places).some((one) => one.aside && one !== from && one.x > from.x && one.x < tx);
   if (isOver) return curve(x, y, x + 16, y - 96, tx, ty + 56, tx, ty);

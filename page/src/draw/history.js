@@ -94,7 +94,7 @@ function drawBar(call, scale) {
 
 function drawLabel(call, scale, left, top) {
   const place = scale.labels.get(call.id);
-  const [indent, base] = scale.isIn ? [6, top + 13 + scale.grown] : [0, top - 4];
+  const [indent, base] = scale.isIn ? [10, top + 13 + scale.grown] : [0, top - 4];
   if (place === null) return label({ class: "call", x: left + indent, y: base }, signOf(call));
   const hasReply = call.reply !== null && call.ended <= scale.now;
   const done = call.ended !== null && call.ended <= scale.count;
@@ -148,7 +148,7 @@ export function drawCalls(trace, scale) {
 const LETTER = 7.1; // pixels of a letter of a label
 const BOLD = 8; // pixels of a letter of a reply
 const BETWEEN = 8; // pixels between two labels of a row
-export const GROWN = 1.25; // the labels of a slide are larger by this factor
+export const [GROWN, WIDE_GROWN, SMALL_GROWN] = [1.25, 1.34, 1.09]; // factors by which labels are larger: on a slide, in a window, on a phone
 export const ROW_HEIGHT = 15;
 export const widthOf = (text, reply = "") => LETTER * text.length + (reply === "" ? 0 : LETTER + BOLD * reply.length);
 

@@ -3,13 +3,13 @@
 import { lastMoment, nameOfCall } from "../run/judged.js";
 import { callText, chipOf, colourOf, escaped, label, tag, title } from "../run/markup.js";
 import { recordedInWords } from "../run/recorded.js";
-import { drawLane, HISTORY_LEFT, layLabels, ROW_HEIGHT, signOf, widthOf } from "./history.js";
+import { drawLane, HISTORY_LEFT, layLabels, ROW_HEIGHT, signOf, SMALL_GROWN, widthOf } from "./history.js";
 
 const JUDGE_RIGHT = 20;
 const JUDGE_BAR = 30;
 const JUDGE_BELOW = 8; // pixels between a bar and the labels of the next lane
 const MOST_ROWS = 3; // rows of labels
-const SLOT_WIDTH = 60; // pixels for the label of a point
+const SLOT_WIDTH = 72; // pixels for the label of a point
 const leftOf = ({ begun }, { x, step }) => x(begun) - step / 2;
 const rightOf = (call, { x, step, last }) => x(call.ended ?? last) + step / 2;
 
@@ -73,7 +73,7 @@ export function drawRecorded(calls, width) {
   const momentOf = (at) => (at === null ? null : moments.indexOf(at) + 1);
   const laneOf = ({ thread }) => threads.indexOf(thread);
   const placed = calls.map((call, id) => ({ ...call, id, thread: laneOf(call), begun: momentOf(call.begun), ended: momentOf(call.ended) }));
-  const scale = judgeScale({ calls: placed, last: moments.length + 1, threads: threads.length }, width);
+  const scale = judgeScale({ calls: placed, last: moments.length + 1, threads: threads.length }, width, { grown: SMALL_GROWN });
   const bars = placed.map((call) => {
     const bar = drawJudgedBar(call, call.reply ?? OPEN, scale, scale.y(call.thread));
     const still = { class: `bar own still ${colourOf(threads[call.thread])}${call.ended === null ? " open" : ""}` };

@@ -15,13 +15,13 @@ const MOST_POINTING = 6; // maximum number of threads with hands
 
 // The measures of a drawing, in units. `least` is the smallest number of pixels per unit at which labels can be read. `key` and `lock` are the heights of
 // a node's two parts. `slot` is the width of a node with its gap, and `gap` is the gap as a share of it. `below` lists how far below the chain other nodes
-// can be drawn, the roomiest first; 0 draws them in the gaps of the chain.
-const HANDS = { height: 30, over: 9, left: 28, letter: 10.4, right: 12 };
-const SMALL_HANDS = { height: 26, over: 8, left: 21, letter: 9.8, right: 5 };
-const WIDE = { least: 0.9, key: 56, lock: 32, slot: 100, gap: 0.5, hand: HANDS, kind: "", below: [54, 30, 0] };
+// can be drawn, the roomiest first; 0 draws them in the gaps of the chain, and -14 draws them higher there.
+const HANDS = { height: 26, over: -2, left: 28, letter: 10.4, right: 12 };
+const SMALL_HANDS = { height: 24, over: -2, left: 21, letter: 9.8, right: 5 };
+const WIDE = { least: 0.9, key: 56, lock: 32, slot: 100, gap: 0.5, hand: HANDS, kind: "", below: [54, 30, 0, -14] };
 const SMALL = { least: 0.82, key: 44, lock: 28, slot: 62, gap: 0.28, hand: SMALL_HANDS, kind: "small-hands", below: [44, 34] };
 const LEAST_OF_ALL = 0.6; // pixels of a unit, if the stage is too low for a form
-const LOW = 46; // distance from the upper edge of the chain to the upper edge of the nodes in its gaps
+const LOW = 60; // distance from the upper edge of the chain to the upper edge of the nodes in its gaps
 const formOf = ({ wide }) => (wide < 600 ? SMALL : WIDE);
 
 function pointersOf(state, event) {
@@ -68,8 +68,8 @@ function unitsOf(state, room, slots, isFlat) {
   const least = Math.max(form.least, room.least ?? 0);
   const row = form.key + (room.lock === "nodes" ? form.lock : 0);
   const heightsOf = (below, lanes) => {
-    const top = (room.lock === "list" ? LIST_LOCK : 0) + lanes * (form.hand.height + 2) - form.hand.over + MARGIN;
-    const down = isFlat ? 0 : below === 0 ? LOW : Math.max(row + below, lanes * (form.hand.height + 2) - 2); // leaves space for the hands of the nodes below the chain
+    const top = (room.lock === "list" ? LIST_LOCK : 0) + lanes * (form.hand.height + 2) - form.hand.over;
+    const down = isFlat ? 0 : below <= 0 ? LOW + below : Math.max(row + below, lanes * (form.hand.height + 2) - 2); // leaves space for the hands of the nodes below the chain
     return { top, down, height: top + down + row + MARGIN + 4 };
   };
   const lanesAt = (scale) => Math.ceil(Math.min(state.threads.length, MOST_POINTING) / handsPerSlot(form, room, room.wide / scale, slots));
@@ -88,8 +88,8 @@ function unitsOf(state, room, slots, isFlat) {
   const sizes = [1, 2, 3, 4, 5, MOST_POINTING].map(sizeWith).filter(({ isGood }) => isGood);
   const { lanes, scale: largest } = sizes.reduce((one, other) => (other.scale > one.scale + 0.001 ? other : one));
   const heights = heightsOf(form.below[tight], lanes);
-  const scale = room.isWhole ? Math.min(largest, Math.max(LEAST_OF_ALL, (room.high + MARGIN) / heights.height)) : largest; // smaller labels, but nothing is cut
-  return { ...heights, form, scale, tight, row, isLow: form.below[tight] === 0, width: Math.max(room.wide / scale, slots * form.slot), spare: Math.max(0, room.high / scale - heights.height) };
+  const scale = room.isWhole ? Math.min(largest, Math.max(LEAST_OF_ALL, (room.high + MARGIN / 2) / heights.height)) : largest; // smaller labels, but nothing is cut
+  return { ...heights, form, scale, tight, row, isLow: form.below[tight] <= 0, width: Math.max(room.wide / scale, slots * form.slot), spare: Math.max(0, room.high / scale - heights.height) };
 }
 
 const widthOfHand = ({ left, letter, right }, words) => left + letter * words.length + right;

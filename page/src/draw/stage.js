@@ -33,7 +33,7 @@ function drawNode(state, name, place, event, room) {
     tag("rect", { class: "box", x, y, width, height: row, rx: 8, ...(isMarked ? { style: "fill:url(#hatch)" } : {}) }),
     tag("line", { class: "side", x1: side, x2: side, y1: y, y2: y + key }),
     drawKey(node, (x + side) / 2, middle, width, isMarked && width > 110, isNamed && width < 90),
-    isNamed ? label({ class: "name", x: x + 6, y: y + 24 }, name) : "",
+    isNamed ? label({ class: "name", x: x + 6, y: y + 19 }, name) : "",
     isMarked ? label({ class: "cross", x: (side + x + width) / 2, y: middle + 9 }, "✗") : "",
     row > key ? drawLock(node.lock, x, y + key, width, row - key) : "",
   );
@@ -42,7 +42,7 @@ function drawNode(state, name, place, event, room) {
 function drawKey(node, x, middle, width, hasSign, isBelowName) {
   const text = wordOf(node);
   const isNumber = /^\d/.test(text);
-  const size = isBelowName ? 20 : text.length > 4 ? 18 : hasSign ? 24 : isNumber ? 30 : width > 110 ? 20 : width > 70 ? 18 : 16;
+  const size = isBelowName ? 20 : text.length > 4 ? 18 : hasSign ? 24 : isNumber ? 30 : width > 110 ? 20 : width > 70 ? 18 : width > 52 ? 16 : 14.5;
   const spacing = !isNumber && width <= 80 ? ";letter-spacing:-.8px;font-weight:500;stroke-width:1.5" : ""; // in a narrow node the word "head" needs narrow letters
   const key = label({ class: "key", x, y: middle + (hasSign ? -1 : isBelowName ? 13 : isNumber ? 9.5 : 4), style: `font-size:${size}px${spacing}` }, text);
   return key + (hasSign ? label({ class: "sign", x, y: middle + 18.5 }, "marked") : "");
@@ -55,12 +55,12 @@ const OPEN = "M-6 -2 v-6 a6 6 0 0 1 12 0";
 function drawLock(lock, x, y, width, height, words = "") {
   const isOpen = lock === "free";
   const text = isOpen ? `${words}${width > 90 ? "open" : ""}` : `${words}${words === "" ? "" : "held by "}${holderOf(lock)}`;
-  const at = x + (width - 22 - 10 * text.length) / 2 + 8;
+  const at = x + (width - 22 - 10 * text.length) / 2 + (width > 60 ? 8 : 5);
   return tag("g", { class: `latch ${isOpen ? "open" : colourOf(Number(lock.slice(1)))}` },
     tag("rect", { class: "plate", x: x + 3, y: y + 1, width: width - 6, height: height - 4, rx: 6 }),
     tag("g", { transform: `translate(${at},${y + height / 2 + 2})` },
       tag("path", { d: isOpen ? OPEN : CLOSED }), tag("rect", { class: "body", x: -9, y: -3, width: 18, height: 12, rx: 3 })),
-    label({ x: at + 16, y: y + height / 2 + 5.5 }, text),
+    label({ x: at + (width > 60 ? 16 : 12), y: y + height / 2 + 5.5 }, text),
   );
 }
 
@@ -73,8 +73,8 @@ function drawHand({ thread, name, words, x, y, wide }, state, { height, left }) 
   return tag("g", { class: `hand-of ${colourOf(thread)}`, "data-part": `hand ${thread} ${words}`, "data-x": x, "data-y": y },
     title(`${letterOf(thread)}: ${words} is ${nodeWord(state, name)}`),
     tag("rect", { x, y, width: wide, height, rx: 8 }),
-    label({ class: "letter", x: x + left / 2, y: y + height - 9 }, letterOf(thread)),
-    label({ class: "hand", x: x + left - 1, y: y + height - 9 }, words),
+    label({ class: "letter", x: x + left / 2, y: y + height / 2 + 6 }, letterOf(thread)),
+    label({ class: "hand", x: x + left - 1, y: y + height / 2 + 6 }, words),
   );
 }
 

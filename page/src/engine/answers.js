@@ -33,22 +33,11 @@ export function readReport(text) {
   };
 }
 
-export function callsOfRecording(text, most) {
-  const calls = [];
-  for (const [line] of text.matchAll(/^call .*$/gm)) {
-    if (calls.length === most) break;
-    calls.push(callOfRecording(line));
-  }
-  return calls;
-}
+export const callsOfRecording = (text, most) => [...text.matchAll(/^call .*$/gm)].slice(0, most).map(([line]) => callOfRecording(line));
 
 export const leavesKey = (text, key) => new RegExp(`^key ${key}$`, "m").test(text);
 
-export const readExamples = (text) =>
-  linesIn(text).map((line) => {
-    const [name, kind] = line.split(/ +/);
-    return { name, kind };
-  });
+export const readExamples = (text) => linesIn(text).map((line) => line.split(/ +/)).map(([name, kind]) => ({ name, kind }));
 
 export function readFault(text) {
   const says = text.trim();

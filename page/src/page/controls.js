@@ -21,6 +21,14 @@ function skipToRun() {
   document.querySelector(first[now.place.screen])?.focus();
 }
 
+// Closes the menu "More" after a choice, a click elsewhere, and Escape.
+export function listenToMenu() {
+  const menu = byId("more");
+  const summary = menu.firstElementChild;
+  addEventListener("click", ({ target }) => !summary.contains(target) && menu.removeAttribute("open"));
+  menu.onkeydown = ({ key }) => void (key === "Escape" && (menu.removeAttribute("open"), summary.focus()));
+}
+
 export function listenToBar() {
   byId("back").onclick = () => goByHand(now.run.count - 1);
   byId("next").onclick = () => goByHand(now.run.count + 1);

@@ -6,8 +6,6 @@ import { scheduleText, versionOf } from "./schedule_text.js";
 import { isTrace, Trace } from "./trace.js";
 
 export const LONGEST_ADDRESS = 30000; // characters; a longer schedule has no address
-const SHORT_WORDS = { begin: "b", go: "g" };
-const LONG_WORDS = { b: "begin", g: "go" };
 const SHORT_EVENT = String.raw`(b\d+\.[a-z]+\.\d+|g\d+\.\d+)`;
 const NUMBER = /^\d+$/;
 const KIND = `(${Object.keys(LISTS).join("|")})`;
@@ -43,10 +41,10 @@ export function addressOf(text, event, lacks = null) {
 
 export const shortLine = (line) => {
   const [word, ...values] = line.split(" ");
-  return `${SHORT_WORDS[word] ?? word}${values.join(".")}`;
+  return `${word[0]}${values.join(".")}`;
 };
 
-export const longLine = (short) => `${LONG_WORDS[short[0]]} ${short.slice(1).replaceAll(".", " ")}`;
+export const longLine = (short) => `${short[0] === "b" ? "begin" : "go"} ${short.slice(1).replaceAll(".", " ")}`;
 
 function isAddressOf(address, text) {
   try {
@@ -155,14 +153,8 @@ function isWorthIt({ calls, changes, total }) {
 }
 
 function joined(text) {
-  const lines = [];
-  for (const line of text.trimEnd().split("\n")) {
-    const [thread, steps] = /^go (\d+) (\d+)$/.exec(line)?.slice(1) ?? [];
-    const [before, count] = /^go (\d+) (\d+)$/.exec(lines.at(-1) ?? "")?.slice(1) ?? [];
-    if (thread !== undefined && thread === before) lines[lines.length - 1] = `go ${thread} ${Number(count) + Number(steps)}`;
-    else lines.push(line);
-  }
-  return `${lines.join("\n")}\n`;
+  const stepsIn = (lines) => lines.split("\n").reduce((sum, line) => sum + Number(line.split(" ")[2]), 0);
+  return text.replace(/^go (\d+) \d+(?:\ngo \1 \d+)+$/gm, (lines, thread) => `go ${thread} ${stepsIn(lines)}`);
 }
 
 export function anotherSeed(before, kind = null) {

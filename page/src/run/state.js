@@ -83,16 +83,9 @@ export class State {
 }
 
 function openingNodes(trace) {
-  const first = firstOpeningNode(trace);
-  const nameOf = (index) => (index < trace.opening.length ? `n${first + index}` : "tail");
-  const nodes = {
-    head: { key: "-inf", link: nameOf(0), lock: "free", reached: true },
-    tail: { key: "+inf", link: "tail", lock: "free", reached: true },
-  };
-  trace.opening.forEach((key, index) => {
-    nodes[nameOf(index)] = { key: String(key), link: nameOf(index + 1), lock: "free", reached: true };
-  });
-  return nodes;
+  const names = ["head", ...trace.opening.map((_, index) => `n${firstOpeningNode(trace) + index}`), "tail"];
+  const keys = ["-inf", ...trace.opening.map(String), "+inf"];
+  return Object.fromEntries(names.map((name, at) => [name, { key: keys[at], link: names[at + 1] ?? "tail", lock: "free", reached: true }]));
 }
 
 // A thread's node before its first use. `reached` becomes true when a reached node points to the node. Until then, only its own thread sees the node.

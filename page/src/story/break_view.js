@@ -5,6 +5,7 @@ import { BREAK_LEVELS, TEN, levelOfNumber, numberOfLevel, whyWrong } from "../da
 import { askNow, now } from "../page/now.js";
 import { addressOf } from "../run/address.js";
 import { departureOf, isTaskDone, NO_TASK } from "../run/broken.js";
+import { callText } from "../run/markup.js";
 import { wayBack, wayOn } from "./assignment.js";
 import { isNarrow } from "./figure_parts.js";
 import { isBrokenOnce, isNamed, keepBrokenLine, keepNamed } from "./progress.js";
@@ -12,6 +13,7 @@ import { runOfText } from "./live_run.js";
 import { backLink, drawHintAndOn, drawLedger, onStage, foot, head, hintAndOn, isOddRun, LACKS_ONE, numberOfKey, optionButtons, pressThread, scene, setScene, takeFreeFigure, showPrompt } from "./scene.js";
 
 const HINTS = 3;
+const LATE = 1000; // milliseconds: a click soon after the verdict was meant for a thread's button, which was at the place of the answers
 const levelOf = ({ id }) => levelOfNumber(id);
 const nameNow = () => levelOf(now.place);
 
@@ -48,6 +50,7 @@ function looked() {
   if (now.scene.stage !== "task") return scene.figure.set({ isLost: isBroken });
   if (!isBroken) return setScene({ note: notYet(run, verdict) });
   const wasShown = isShown(run);
+  scene.figure.brokenAt = wasShown ? -Infinity : performance.now();
   if (!wasShown) keepBrokenLine(name, `break ${name} ${addressOf(run.schedule, run.trace.total, name)}`);
   scene.figure.set({ isLost: true });
   setScene({ stage: "done", note: whyOf(verdict, wasShown) });
@@ -57,7 +60,10 @@ function looked() {
 // Otherwise it states why the run is not broken.
 function notYet(run, { kind, isExplained }) {
   const lost = run.promised().filter((key) => !run.has().includes(key));
-  if (run.trace.calls.some(({ ended }) => ended === null)) return lost.length === 0 ? "" : `${lost.join(" and ")} ${lost.length === 1 ? "is" : "are"} not in the list. Now let each call return.`;
+  const pending = run.trace.calls.filter(({ ended }) => ended === null);
+  const ofLost = pending.filter(({ operation, key }) => operation === "add" && lost.includes(key));
+  const due = (ofLost.length > 0 ? ofLost : pending).map(callText).join(" and ");
+  if (due !== "") return lost.length === 0 ? "" : `${lost.join(" and ")} ${lost.length === 1 ? "is" : "are"} not in the list. Now let ${due} return.`;
   const order = isExplained ? "and one order explains these answers" : "and whether an order explains these answers is not known";
   if (kind === "points") return `That looks wrong. But calls that overlap can take effect in either order, ${order}: not broken yet.`;
   const hasEach = scene.figure.shown.every((thread) => run.trace.calls.some((call) => call.thread === thread));
@@ -149,5 +155,5 @@ export const breakView = {
     if (now.scene.stage === "done" && numberOfKey(event) !== -1) answer(numberOfKey(event));
     else pressThread(event);
   },
-  deeds: { answer: ({ dataset }) => answer(Number(dataset.option)), hint, replay, afresh },
+  deeds: { answer: ({ dataset }) => performance.now() - scene.figure.brokenAt > LATE && answer(Number(dataset.option)), hint, replay, afresh },
 };

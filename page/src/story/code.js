@@ -6,18 +6,18 @@ const WORDS = /\b(while|if|else|return|start again|loop|until|unlock|lock|find|v
 /**
  * The code to show: the lines of the calls `operations`. A line executes rows of the list's step table. Lines of the rows in `hides` are left out, and
  * `instead` replaces the text of a row. Rows in `fresh` are marked as new in this list (0 stands for lines without a row). A part of a `struck` row is
- * struck out. `next` has the next row of each thread, and `made` the last executed row. A press on a line lets a thread at this line execute it; if no
- * thread is there, thread `active` runs to the line.
+ * struck out; its `line` replaces the text of the row. `next` has the next row of each thread, and `made` the last executed row. A press on a line lets a
+ * thread at this line execute it; if no thread is there, thread `active` runs to the line.
  * @typedef {{ thread: number, row: number }} At
  * @typedef {{ list: string, operations: string[], plain?: boolean, fresh?: number[], hides?: number[], instead?: Record<number, string>,
- *   struck?: { row: number, part: string }[], next: At[], made: At | null, canStep: boolean, active: number }} CodeSpec
+ *   struck?: { row: number, part: string, line?: string }[], next: At[], made: At | null, canStep: boolean, active: number }} CodeSpec
  */
 
 /** @param {CodeSpec} spec */
-function linesShown({ list, operations, plain, hides = [], instead = {} }) {
+function linesShown({ list, operations, plain, hides = [], instead = {}, struck = [] }) {
   const isShown = ({ of, rows = [0] }) =>
     (of === undefined || of.some((name) => operations.includes(name))) && !rows.every((row) => hides.includes(row));
-  const lines = BOOK_CODE[list].filter(isShown).map((line) => ({ ...line, text: instead[line.rows?.[0]] ?? line.text }));
+  const lines = BOOK_CODE[list].filter(isShown).map((line) => ({ ...line, text: instead[line.rows?.[0]] ?? struck.find(({ row }) => row === line.rows?.[0])?.line ?? line.text }));
   if (!plain) return lines;
   return lines.filter(({ rows }) => rows?.[0] !== 1).map((line) => (line.rows?.includes(10) ? { text: "return", rows: [10] } : line));
 }

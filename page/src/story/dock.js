@@ -1,7 +1,7 @@
 // The parts below the list: a row for each thread with its call and its next step, the history, and the slider.
 import { callText, chipOf, colourOf, letterOf, tag } from "../run/markup.js";
 import { drawContents } from "../draw/tables.js";
-import { drawCalls, GROWN, HISTORY_LEFT, scaleOf } from "../draw/history.js";
+import { drawCalls, GROWN, HISTORY_LEFT, scaleOf, SMALL_GROWN, WIDE_GROWN } from "../draw/history.js";
 import { redraw, setHtml } from "../page/dom.js";
 import { isLecture } from "../page/now.js";
 import { phaseText } from "./presses.js";
@@ -27,7 +27,7 @@ function rowOf(figure, thread) {
   const call = isIdle ? { operation: next[0], key: next[1] } : own.at(-1);
   const plan = run.nextOf(thread, next);
   const waits = plan.waitsFor !== null;
-  const words = waits ? `waits for ${letterOf(plan.waitsFor)}` : (spec.words?.[plan.phase] ?? phaseText(plan.phase, call, plan.row, spec.free ? run.trace.lacks : null));
+  const words = waits ? `waits for ${letterOf(plan.waitsFor)}` : (spec.words?.[`${call.operation} ${plan.phase}`] ?? spec.words?.[plan.phase] ?? phaseText(plan.phase, call, plan.row, spec.free ? run.trace.lacks : null));
   const key = letterOf(thread).toLowerCase();
   const given = { class: "step", "data-step": thread, "aria-keyshortcuts": key, ...(waits ? { "aria-disabled": "true" } : {}) };
   const button = tag("button", { ...given, ...(figure.canStep ? {} : { disabled: "" }) }, words, `<kbd aria-hidden="true">${key}</kbd>`);
@@ -60,12 +60,12 @@ function chooser(figure, thread, own) {
 export function showStrip(figure) {
   const { run } = figure;
   const wide = Math.max(250, figure.stripWide / zoomOf(figure));
-  const grown = isLecture() ? GROWN : 1;
+  const grown = isLecture() ? GROWN : figure.spec.isPath ? 1 : wide < 450 ? SMALL_GROWN : WIDE_GROWN;
   const room = 26 + 9 * grown * `{${run.promised().join(", ")}}`.length; // pixels right of the last event, for the keys of the set
   const scale = scaleOf(run.trace, run.count, wide - room, figure.hides, isLow() && (!figure.spec.isPath || isLecture()), grown);
   Object.assign(scale, { edge: scale.edge + room, width: wide });
   figure.scale = scale;
-  figure.part("strip").style.setProperty("--zoom", String(zoomOf(figure)));
+  figure.part("strip").style.cssText = `--zoom:${zoomOf(figure)};--grown:${grown}`;
   setHtml(figure.part("strip"), tag("div", { class: "calls" }, drawCalls(run.trace, scale)) + drawContents(run.trace, scale) + LEGEND);
 }
 const isLow = () => innerHeight < 760 || isLecture();

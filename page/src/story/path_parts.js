@@ -1,7 +1,6 @@
 // The parts of the path's screens: progress marks, welcome, bottom bar, last screen.
 import { isLecture } from "../page/now.js";
 import { tag } from "../run/markup.js";
-import { isNarrow } from "./figure_parts.js";
 import { LISTS_AT_END, SCREENS } from "./path.js";
 import { drawLedger, drawOn, optionButtons, part, replyTo } from "./scene.js";
 
@@ -28,7 +27,7 @@ export const GONE = '<p class="welcome" role="status">All saved data has been de
 
 export function welcome(done) {
   const count = SCREENS.filter(({ id }) => done[id]).length;
-  const words = `Welcome back: you have answered ${count} of the ${SCREENS.length} questions. You are where you stopped.`;
+  const words = `Welcome back: you have finished ${count} of the ${SCREENS.length} screens. You are where you stopped.`;
   return `<p class="welcome">${words} <a href="#story=1">From the start</a></p>`;
 }
 
@@ -53,7 +52,6 @@ export function drawBar(stage, number, words = number === SCREENS.length ? "And 
   if (isDone && document.activeElement === show) on.focus({ preventScroll: true });
   show.hidden = isDone;
   show.className = isLecture() && stage === "playing" ? "primary" : "quiet";
-  on.hidden = !isDone && isNarrow();
   show.textContent = (isLecture() && { guess: "Reveal", playing: "Next step →" }[stage]) || SHOW[stage];
   drawOn(isDone, isLecture() ? "Next slide →" : words); // (the slides do not have all screens of the path)
 }
@@ -105,11 +103,12 @@ export function endHtml(done) {
     one more check. Without them, numbers get lost.</p>
     <table class="five"><thead><tr><th>The list</th><td>Who waits?</td><td>What does it pay for that?</td></tr></thead>
     <tbody>${LISTS_AT_END.map(rowOfList).join("")}</tbody></table>
-    <h2>You have answered ${count} of the ${SCREENS.length} questions. And now?</h2><div class="ways">${ways.join("")}</div>
+    <h2>You have finished ${count} of the ${SCREENS.length} screens. And now?</h2><div class="ways">${ways.join("")}</div>
     <h2>When is one lock enough?</h2>
     <p class="prose">While calls are short. With 16 numbers, the extra locks and checks cost more than they save, and only lock-free was faster. With
-    1,000 numbers, lazy and lock-free win, and a balanced tree behind one lock beats each list.</p>
-    <table class="five"><caption>Millions of calls a second, measured with four threads on four processors, a third of the calls of each kind</caption>
+    1,000 numbers, lazy and lock-free win, and a balanced tree behind one lock beats each list. Hand over hand and
+    optimistic were slower than one lock at both sizes: in each call, the one locks every node on its way, and the other walks twice.</p>
+    <table class="five"><caption>Millions of calls a second, measured with four threads on four processors, one third each of add, remove and contains</caption>
     <thead><tr><th>The list</th><td>16 numbers</td><td>1,000 numbers</td></tr></thead>
     <tbody>${[...LISTS_AT_END, TREE].map(([name, , , , , few, many]) => rowOf(name, few, many)).join("")}</tbody></table>${TRUTH}
     <p class="line"><button class="quiet" data-do="afresh">Delete my answers</button></p></section>

@@ -25,16 +25,11 @@ const screenOf = (place) => {
 };
 const here = () => screenOf(now.place);
 const isLastPart = ({ number, at }) => at === partsOf(number).length;
-
-function nextOf({ number, at }, by) {
-  if (by > 0) return isLastPart({ number, at }) ? `${number + 1}` : `${number}.${at + 1}`;
-  if (at > 1) return at === 2 ? `${number}` : `${number}.${at - 1}`;
-  return partsOf(number - 1).length > 1 ? `${number - 1}.${partsOf(number - 1).length}` : `${number - 1}`;
-}
+const PLACES = Array.from({ length: LAST }, (_, index) => partsOf(index + 1).map((_, at) => (at === 0 ? `${index + 1}` : `${index + 1}.${at + 1}`))).flat();
 
 function goBy(by) {
   if (now.place.slide > 0) return toSlide(by); // a slide has only the first part of a screen
-  location.hash = `#story=${nextOf(placeIn(now.place), by)}`;
+  location.hash = `#story=${PLACES[PLACES.indexOf(now.place.id) + by]}`;
 }
 
 function html(place) {
@@ -208,15 +203,9 @@ function takeBack() {
   return true;
 }
 
-const isPlace = ({ id }) => {
-  if (!/^(\d+(\.\d)?)?$/.test(id) || Number(id.split(".")[0]) > LAST) return false;
-  const { number, at } = placeIn({ id });
-  return at >= 1 && at <= partsOf(number).length;
-};
-
 export const pathView = {
   kind: "path",
-  fault: (place) => (isPlace(place) ? null : `the path has no screen "${place.id}"`),
+  fault: ({ id }) => (id === "" || PLACES.includes(id) ? null : `the path has no screen "${id}"`),
   title: (place) => `${screenOf(place)?.question ?? "So, why not just one lock?"} · Why not just one lock?`,
   html, begin, draw, press, goes,
   deeds: { answer: ({ dataset }) => guessed(Number(dataset.option)), show: showMe, on: () => goBy(1), back: () => goBy(-1), afresh: startAfresh },

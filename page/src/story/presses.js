@@ -28,7 +28,7 @@ export const joinedRows = (list, plain) => (plain ? [10] : list === "lock-free" 
 
 const WORDS = {
   walk: ({ key }) => `walk to the place of ${key}`,
-  make: ({ key }) => `make a node for ${key}`,
+  make: ({ key }, _, lacks) => (lacks === "new-slot" ? `write ${key} into a node` : `make a node for ${key}`),
   link: ({ key }) => `link ${key} in`,
   unlink: ({ key }) => `unlink ${key}`,
   answer: () => "return",
@@ -44,7 +44,7 @@ const WORDS = {
   mark: ({ key }) => `mark ${key}: removed`,
   tidy: ({ key }) => `unlink ${key}`,
   look: () => "read the mark",
-  snip: () => "unlink the marked node",
+  snip: () => "try to unlink the marked node",
   swing: ({ key }) => `try to link ${key} in`,
   marktry: ({ key }) => `try to mark ${key}`,
   tidytry: ({ key }) => `try to unlink ${key}`,
@@ -54,8 +54,7 @@ const WORDS = {
 const WORDS_OF_BROKEN = {
   next: () => "walk to the next node",
   check: () => "check pred and curr",
-  look: () => "answer",
-  make: ({ key }) => `write ${key} into a node`,
+  look: () => "return",
 };
 
-export const phaseText = (phase, call, row, lacks) => ((lacks !== null && WORDS_OF_BROKEN[phase]) || WORDS[phase])(call, row);
+export const phaseText = (phase, call, row, lacks) => ((lacks !== null && WORDS_OF_BROKEN[phase]) || WORDS[phase])(call, row, lacks);

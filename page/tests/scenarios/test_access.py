@@ -168,6 +168,26 @@ def test_at_twice_the_size_nothing_overflows_and_no_bar_stays(visitor):
         assert visitor.script("return [...document.querySelectorAll('.foot')].every((it) => getComputedStyle(it).position === 'static')"), address
 
 
+def test_the_menu_closes_after_a_choice_a_click_elsewhere_and_escape(visitor):
+    isOpen = "return document.getElementById('more').open"
+    for size in ((1366, 640), (390, 844)):
+        fit(visitor, *size)
+        visitor.open("#story=10")
+        visitor.click("#more summary")
+        assert visitor.script(isOpen) and visitor.script("return [...document.querySelectorAll('#more div a')].every((it) => it.getClientRects().length < 2)")
+        visitor.press("Escape")
+        assert not visitor.script(isOpen) and visitor.focus().startswith("SUMMARY")
+        visitor.click("#more summary")
+        visitor.click("h1")
+        assert not visitor.script(isOpen)
+        visitor.click("#more summary")
+        visitor.click("#more a[href='#read']")
+        visitor.wait("return document.body.dataset.activity === 'read'")
+        assert not visitor.script(isOpen)
+    visitor.devtools("Emulation.clearDeviceMetricsOverride")
+    visitor.devtools("Emulation.setTouchEmulationEnabled", enabled=False)
+
+
 def test_words_keep_their_spaces_on_a_tablet(visitor):
     visitor.devtools("Emulation.setDeviceMetricsOverride", width=1180, height=820, deviceScaleFactor=1, mobile=True)
     visitor.devtools("Emulation.setTouchEmulationEnabled", enabled=True)

@@ -3,17 +3,38 @@ strikes out the missing check.
 """
 
 import pathlib
+import time
 
 SCHEDULES = pathlib.Path(__file__).resolve().parents[3] / "examples/schedules/lacks"
 
 
 def won(visitor):
     """Wins level 1 as its hints say: both threads walk, B completes its add, then A completes its own."""
+    step_until_broken(visitor)
+    time.sleep(1)  # a click soon after the verdict is ignored
+
+
+def step_until_broken(visitor):
     visitor.open("#break=1")
     for key in "aaabbbbbbaa":
         if not visitor.is_seen(".reveal"):
             visitor.step(key)
     visitor.revealed()
+
+
+def test_a_click_on_a_button_that_has_just_gone_is_no_answer(visitor):
+    step_until_broken(visitor)
+    visitor.script("document.querySelectorAll('[data-option]')[2].click()")
+    assert visitor.is_seen("[data-option]") and not visitor.is_seen("[data-option][aria-disabled]")
+    time.sleep(1)
+    visitor.click("[data-option]", "releases the lock")
+    assert visitor.is_seen("[data-option][aria-disabled]")
+
+
+def test_a_hint_names_the_call_that_has_to_return(visitor):
+    visitor.open("#break=1")
+    visitor.step("aaaabbbbab")
+    assert "5 is not in the list. Now let add(5) return." in visitor.text("#prompt")
 
 
 def test_a_won_level_does_not_give_away_its_answer(visitor):

@@ -36,6 +36,40 @@ def test_the_judge_button_is_visible(visitor):
     assert visitor.in_window("#judge-ask")
 
 
+def test_a_run_to_judge_says_what_to_do_and_shows_the_bars_and_replies(visitor):
+    for size, least in (((1366, 640), 16), ((1280, 720), 16), ((390, 844), 13)):
+        fit(visitor, *size)
+        visitor.open("#example=snip&judge")
+        assert "Press each bar" in visitor.text("#judge-note") and "Choose each reply below" in visitor.text("#judge-note") and "Does B have to wait?" in visitor.text("#judge-of")
+        places = visitor.script("""const foot = document.querySelector("#dock").getBoundingClientRect().top;
+            return ["#judge-bars", "#judge-replies", "#judge-ask"].map((it) => document.querySelector(it).getBoundingClientRect().bottom <= foot + 1)""")
+        assert places == [True, True, True] or least == 13 and places[0], (size, places)
+        assert visitor.script("return [...document.querySelectorAll('#judge-bars text')].every((it) => parseFloat(getComputedStyle(it).fontSize) >= arguments[0])", least)
+    visitor.devtools("Emulation.clearDeviceMetricsOverride")
+    visitor.devtools("Emulation.setTouchEmulationEnabled", enabled=False)
+
+
+def test_judge_begins_with_a_run_and_ends_with_recorded_calls(visitor):
+    visitor.size(1366, 760)
+    visitor.open("#judge")
+    assert visitor.in_window("[data-do=seed]") and not visitor.in_window("#recorded-judge") and "CoarseList" not in visitor.text("#scene")
+    visitor.click("[data-do=recorded]")
+    visitor.wait("return document.querySelector('#recorded-box').getBoundingClientRect().top < 200")
+    visitor.click("#recorded-example")
+    visitor.wait("return document.querySelector('#recorded-reasons b') !== null")
+    assert "The picture has the calls that contradict each other: 2 of 3." in visitor.text("#recorded-reasons")
+
+
+def test_the_verdict_on_recorded_calls_is_in_the_first_screen_of_a_phone(visitor):
+    fit(visitor, 390, 844)
+    visitor.open("#judge")
+    visitor.click("#recorded-example")
+    visitor.wait("return document.querySelector('#recorded-reasons b') !== null")
+    assert visitor.in_window("#recorded-verdict") and visitor.in_window("#recorded-reasons b")
+    visitor.devtools("Emulation.clearDeviceMetricsOverride")
+    visitor.devtools("Emulation.setTouchEmulationEnabled", enabled=False)
+
+
 def test_a_run_to_judge_opens_at_its_top(visitor):
     visitor.size(1366, 760)
     visitor.open("#judge")

@@ -15,7 +15,7 @@ def test_a_first_visit_opens_the_path(visitor):
     assert visitor.title.startswith("How does a thread add 5")
 
 
-@pytest.mark.parametrize("number", ["1", "2", "3", "4", "4.2", "4.3", "5", "6", "7", "7.2", "8", "9", "9.2"])
+@pytest.mark.parametrize("number", ["1", "2", "3", "4", "4.2", "4.3", "4.4", "5", "6", "7", "7.2", "8", "9", "9.2"])
 def test_pressing_show_me_leads_through_each_story(visitor, number):
     visitor.open(f"#story={number}")
     for _ in range(60):
@@ -85,7 +85,7 @@ def test_each_step_of_fast_presses_is_seen(visitor, address, keys):
         assert all(after - before > 100 for (_, before), (_, after) in zip(told[1], told[1][1:]))
 
 
-@pytest.mark.parametrize(("address", "keys"), [("#story=4.3", "bbbaaabb"), ("#story=4.2", "bbbaaabb"), ("#story=3", "3")])
+@pytest.mark.parametrize(("address", "keys"), [("#story=4.3", "bbbaaaabbb"), ("#story=4.2", "bbbaaaabbb"), ("#story=3", "3")])
 def test_no_button_says_that_a_thread_starts_again(visitor, address, keys):
     visitor.open(address)
     visitor.script("""window.labels = []; new MutationObserver(() => document.querySelectorAll(".step").forEach((it) => window.labels.push(it.innerText)))
@@ -99,7 +99,7 @@ def test_no_button_says_that_a_thread_starts_again(visitor, address, keys):
 def test_the_path_counts_its_questions(visitor):
     visitor.open("#story=10")
     questions = visitor.script("return document.querySelectorAll('.dots a:not(.end)').length")
-    assert questions == 9 and f"answered 0 of the {questions} questions" in visitor.text(".end h2")
+    assert questions == 9 and f"finished 0 of the {questions} screens" in visitor.text(".end h2")
 
 
 def test_buttons_do_not_move(visitor):
@@ -126,7 +126,7 @@ def test_the_story_shows_why_two_locks_are_needed(visitor):
     guess(visitor, "2")
     visitor.click("#go-on")
     visitor.wait("return location.hash === '#story=4.2'")
-    visitor.step("bbbaaabb")
+    visitor.step("bbbaaaabbb")
     visitor.revealed()
     assert visitor.text(".why b") == "The remove of 8 is lost: B’s call returned true, and 8 is still in the list."
     assert visitor.text(".ledger .odd") == "8" and visitor.is_seen(".list .lost")
@@ -136,13 +136,32 @@ def test_the_story_shows_why_two_locks_are_needed(visitor):
     visitor.revealed()
     visitor.click("#go-on")
     visitor.wait("return location.hash === '#story=4.3'")
-    visitor.step("bbbaaabb")
+    visitor.step("bbbaaaabbb")
     visitor.revealed()
     assert visitor.text(".why b").startswith("8 is lost") and visitor.is_seen(".ledger .gap")
     visitor.click("#go-on")
+    visitor.wait("return location.hash === '#story=4.4'")
+    guess(visitor, "2")
+    assert "B wants the lock of 3, but A holds it." in visitor.text(".said") and "one lock is enough for an add" in visitor.text(".why")
+    visitor.click("#go-on")
     visitor.wait("return location.hash === '#story=5'")
     visitor.press("Left")
-    visitor.wait("return location.hash === '#story=4.3'")
+    visitor.wait("return location.hash === '#story=4.4'")
+
+
+def test_the_sentence_about_a_change_stays_until_the_next_press(visitor):
+    visitor.open("#story=4.2")
+    visitor.step("bbbaaa")
+    assert visitor.text(".said") == "A makes the head point to 8: 7 is unlinked."
+    assert visitor.text("[data-step='0']").startswith("release, and return")
+
+
+def test_the_label_of_a_press_names_each_of_its_deeds(visitor):
+    for address, keys, words in (("#story=6", "aa", "walk, then lock pred and curr"), ("#story=7.2", "aa", "walk, then lock pred and curr"), ("#story=7", "", "walk to 5, read its mark, return"),
+                                 ("#story=4.2", "b", "read the next key; lock only to walk on"), ("#story=4.3", "b", "lock the next node")):
+        visitor.open(address)
+        visitor.step(keys)
+        assert words in visitor.text(".dock"), address
 
 
 def test_show_a_step_continues_from_the_current_event(visitor):
@@ -185,7 +204,7 @@ def test_a_wrong_guess_gets_a_reply_and_steps_add_no_history_entries(visitor):
     visitor.open("#story=3")
     before = visitor.script("return history.length")
     guess(visitor, "2")
-    assert "You said: as far as A." in visitor.text(".reveal") and "Not one step." in visitor.text(".reveal")
+    assert "You said: up to A." in visitor.text(".reveal") and "Not one step." in visitor.text(".reveal")
     visitor.step("aaa")
     visitor.settle()
     assert visitor.script("return history.length") == before
@@ -209,7 +228,7 @@ def test_a_returning_visitor_continues_where_they_left(visitor):
     visitor.wait("return location.hash === '#story=4'")
     visitor.settle()
     visitor.open()
-    assert "Welcome back: you have answered 1 of the 9 questions" in visitor.text(".welcome") and visitor.text("h1").startswith("Can each node")
+    assert "Welcome back: you have finished 1 of the 9 screens" in visitor.text(".welcome") and visitor.text("h1").startswith("Can each node")
     visitor.click(".welcome a")
     visitor.wait("return document.querySelector('h1').innerText.startsWith('How does a thread')")
     assert "done" in visitor.script("return document.querySelectorAll('.dots a')[2].className")
@@ -221,7 +240,7 @@ def test_a_link_to_the_current_place_restarts_it(visitor):
     visitor.click("nav a[href='#story']")
     visitor.wait("return document.querySelector('.reveal') === null")
     guess(visitor, "2")
-    assert "You said: as far as A." in visitor.text(".reveal")
+    assert "You said: up to A." in visitor.text(".reveal")
 
 
 def test_the_reader_finds_the_moment_before_it_is_shown(visitor):
@@ -236,7 +255,8 @@ def test_the_reader_finds_the_moment_before_it_is_shown(visitor):
     visitor.script("document.querySelectorAll('.content')[1].focus()")
     visitor.press("Enter")
     visitor.revealed()
-    assert "linearizable" in visitor.text(".reveal")
+    definition = "Each call appears to take effect at one moment between its start and its end, and in the order of these moments every answer is correct."
+    assert "linearizable" in visitor.text(".reveal") and definition in visitor.text(".why")
 
 
 def test_tab_visits_the_moments_of_the_set(visitor):
@@ -299,6 +319,7 @@ def test_the_path_works_on_a_phone(visitor, number):
     visitor.open(f"#story={number}")
     wide = visitor.script("return [document.documentElement.scrollWidth, document.documentElement.clientWidth]")
     assert wide[0] <= wide[1]
+    assert number == 10 or visitor.in_window("#go-on")
     if number < 3:
         visitor.touch("[data-step='0']")
         visitor.idle()
