@@ -1,6 +1,6 @@
 # Prints hints below an error at a terminal: an explanation of the error, and how to correct it. Sourced by ./listset, which
-# sets two variables: `engine` is the command line of the program, and `called` is the name under which the user called the
-# script.
+# has the functions kind_of_file and names_of_commands, and sets two variables: `engine` is the command line of the program,
+# and `called` is the name under which the user called the script.
 
 # Sets `values` to the arguments of a command that are not options, and `texts` to the values of its options.
 read_words() {
@@ -71,23 +71,20 @@ print_use() {
 # Prints the kind of text that a command reads.
 read_by() {
   case "$1" in
-    replay | trace | "show --lacks") echo "a schedule" ;;
-    check) echo "a report" ;;
-    draft) echo "a draft" ;;
-    judge) echo "recorded calls" ;;
+    "show --lacks") echo "a schedule" ;;
     serve) echo "lines 'key K'" ;;
-    *) echo "a schedule or a report" ;;
+    *) kind_of_file "$1" ;;
   esac
 }
 
 # Prints the first line that a file for a command must have.
 title_of() {
-  case "$1" in
-    replay | trace | "show --lacks") echo "'listset-schedule 1' (or 2)" ;;
-    check) echo "'listset-report 1' (or 2)" ;;
-    draft) echo "'listset-draft 2'" ;;
-    judge) echo "'listset-calls 1'" ;;
-    serve) echo "'key K'" ;;
+  case "$(read_by "$1")" in
+    "a schedule") echo "'listset-schedule 1' (or 2)" ;;
+    "a report") echo "'listset-report 1' (or 2)" ;;
+    "a draft") echo "'listset-draft 2'" ;;
+    "recorded calls") echo "'listset-calls 1'" ;;
+    "lines 'key K'") echo "'key K'" ;;
     *) echo "'listset-schedule 1' or 'listset-report 1' (or 2)" ;;
   esac
 }
@@ -186,7 +183,7 @@ explain_line() {
     echo "$command reads $(read_by "$command"): line 1 must be $(title_of "$command"), and the input is empty or closed, or begins otherwise. For a text in a file, listset explain FILE says what is wrong"
   elif [ ! -f "$file" ]; then
     echo "listset faults $cause explains this error; for a text in a file, listset explain FILE says what is wrong"
-  elif [ "$command" = judge ] && [ "$(stat -c %s -- "$file")" -gt 67108864 ]; then
+  elif [ "$(read_by "$command")" = "recorded calls" ] && [ "$(stat -c %s -- "$file")" -gt 67108864 ]; then
     explain_long "$file" "$number" "$cause"
   elif [ "$command $cause" = "serve Line" ]; then
     explain_in_a_line serve "$file" Header "$number"
@@ -286,7 +283,7 @@ explain_too_long() {
   file=$(print_file "$command")
   if [ -n "$file" ]; then
     explain_in_a_line "$command" "$file"
-  elif [ "$command" = judge ]; then
+  elif [ "$(read_by "$command")" = "recorded calls" ]; then
     echo "Only a recording can have more than 67108864 bytes: line 1 must be 'listset-calls 1', and no line has more than 128 bytes"
   else
     echo "Standard input has more than 67108864 bytes, and only judge reads more. $(print_shortening "$command")"
@@ -530,7 +527,7 @@ print_broken() {
 # Prints a text about listset's commands. Each command begins with the name that the user called the script by.
 print_as_called() {
   local text=$1 it
-  [ "$called" = listset ] || for it in replay judge check show trace draft example gen run serve faults explain help --help --version; do
+  [ "$called" = listset ] || for it in $(names_of_commands) --help --version; do
     text=${text//"listset $it"/"$called $it"}
   done
   [ -z "$text" ] || printf '%s\n' "$text"

@@ -28,9 +28,10 @@ var __toCommonJS = (mod) => __copyProps(__defProp({}, "__esModule", { value: tru
 var require_help = __commonJS({
   "help.json"(exports, module2) {
     module2.exports = {
-      "--help": "Replay, judge, draw, run and serve concurrent list sets\n\nUsage: listset [COMMAND]\n\nCommands:\n  replay   Execute a schedule of atomic steps and print its report (the default command)\n  judge    Judge recorded calls of a set: ok if an order explains them and the keys left, else not linearizable\n  check    Check the order in a report: ok, or its first fault\n  show     Draw a schedule or a report: a bar for each call, with the point at which it takes effect\n  trace    Print each step of a schedule: the word accessed, the value seen, what changed\n  draft    Turn a draft into a schedule: lines that say where a thread stops become numbers of steps\n  example  Print a classic schedule, or the list of their names\n  gen      Print a random schedule of at most 10000 events; the same arguments give the same schedule\n  run      Run random calls in threads on one set, and print counts of the replies and the remaining keys\n  serve    Serve one set to clients on 127.0.0.1, and print the remaining keys at the end\n  faults   Explain every error message, or those with one cause\n  explain  Explain the first error of a file: its line, what is wrong there, and what to do\n  help     Print this message or the help of the given subcommand(s)\n\nOptions:\n  -h, --help     Print help\n  -V, --version  Print version\n\nlistset --version --long also prints the commit, and whether the program is proved.\n\nAn error is one line, such as 'line 5: Idle'; listset faults Idle explains it.\n",
+      "--help": "Replay, judge, draw, run and serve concurrent list sets\n\nUsage: listset [COMMAND]\n\nCommands:\n  replay   Execute a schedule of atomic steps and print its report (the default command)\n  judge    Judge recorded calls of a set: ok if an order explains them and the keys left, else not linearizable\n  stats    Count recorded calls: by operation and reply, pending at once, and those that overlap\n  check    Check the order in a report: ok, or its first fault\n  show     Draw a schedule or a report: a bar for each call, with the point at which it takes effect\n  trace    Print each step of a schedule: the word accessed, the value seen, what changed\n  draft    Turn a draft into a schedule: lines that say where a thread stops become numbers of steps\n  example  Print a classic schedule, or the list of their names\n  gen      Print a random schedule of at most 10000 events; the same arguments give the same schedule\n  run      Run random calls in threads on one set, and print counts of the replies and the remaining keys\n  serve    Serve one set to clients on 127.0.0.1, and print the remaining keys at the end\n  faults   Explain every error message, or those with one cause\n  explain  Explain the first error of a file: its line, what is wrong there, and what to do\n  help     Print this message or the help of the given subcommand(s)\n\nOptions:\n  -h, --help     Print help\n  -V, --version  Print version\n\nlistset --version --long also prints the commit, and whether the program is proved.\n\nAn error is one line, such as 'line 5: Idle'; listset faults Idle explains it.\n",
       replay: "Execute a schedule of atomic steps and print its report (the default command)\n\nUsage: listset replay [OPTIONS] [FILE]\n\nArguments:\n  [FILE]  Schedule file; standard input if - or missing\n\nOptions:\n      --lacks <NAME>  Run a broken list, with one check removed: lock (coarse), second-lock (fine), hand-over-hand (fine), second-walk (optimistic), same-node (optimistic), marks-in-validation (lazy), mark-in-contains (lazy), mark-in-ceiling (lazy), mark (lock-free), mark-in-add (lock-free), mark-in-remove (lock-free), mark-at-key (lock-free), new-slot (lock-free)\n  -h, --help          Print help\n\nExample: listset example full | listset replay\n\nAn error is one line, such as 'line 5: Idle'; listset faults Idle explains it.\n",
       judge: "Judge recorded calls of a set: ok if an order explains them and the keys left, else not linearizable\n\nUsage: listset judge [OPTIONS] [FILE]\n\nArguments:\n  [FILE]  File of recorded calls; standard input if - or missing\n\nOptions:\n      --brief       Print only the verdict and its numbers, no diagnosis and no advice\n      --only <KEY>  Print a recording of one key alone, or of the few calls that show its refusal\n  -h, --help        Print help\n\nA recording is judged as it is read, and may have any length. Below 'not linearizable' come the calls that show it and, for a file, what is wrong. Exit status 0 for ok, 1 for not linearizable.\n\nExample: listset judge a.calls\n\nAn error is one line, such as 'line 5: Line'; listset faults Line explains it.\n",
+      stats: "Count recorded calls: by operation and reply, pending at once, and those that overlap\n\nUsage: listset stats [FILE]\n\nArguments:\n  [FILE]  File of recorded calls; standard input if - or missing\n\nOptions:\n  -h, --help  Print help\n\nExample: listset stats a.calls\n\nAn error is one line, such as 'line 5: Line'; listset faults Line explains it.\n",
       check: "Check the order in a report: ok, or its first fault\n\nUsage: listset check [FILE]\n\nArguments:\n  [FILE]  Report file; standard input if - or missing\n\nOptions:\n  -h, --help  Print help\n\nExample: listset example full | listset replay | listset check\n\nAn error is one line, such as 'line 5: Line'; listset faults Line explains it.\n",
       show: "Draw a schedule or a report: a bar for each call, with the point at which it takes effect\n\nUsage: listset show [OPTIONS] [FILE]\n\nArguments:\n  [FILE]  Schedule or report file; standard input if - or missing\n\nOptions:\n      --svg           Draw an SVG instead of text\n      --from <M>      First moment to draw: 1 to the last one at which a call begins, takes effect or ends [default: 1]\n      --to <M>        Last moment to draw: the first or a later one [default: 4294967295]\n      --width <N>     Maximum width of the text in characters: 1 to 4294967295 [default: 100]\n      --lacks <NAME>  Run a broken list, with one check removed: lock (coarse), second-lock (fine), hand-over-hand (fine), second-walk (optimistic), same-node (optimistic), marks-in-validation (lazy), mark-in-contains (lazy), mark-in-ceiling (lazy), mark (lock-free), mark-in-add (lock-free), mark-in-remove (lock-free), mark-at-key (lock-free), new-slot (lock-free)\n  -h, --help          Print help\n\nIf an event of the schedule is not enabled, the picture ends before it, the last line names it, and the exit status is 1. With --lacks only that line is printed.\n\nExample: listset example read-in-anothers-step | listset show --from 9 --to 38\n\nAn error is one line, such as 'line 5: Idle'; listset faults Idle explains it.\n",
       trace: "Print each step of a schedule: the word accessed, the value seen, what changed\n\nUsage: listset trace [OPTIONS] [FILE]\n\nArguments:\n  [FILE]  Schedule file; standard input if - or missing\n\nOptions:\n      --chain         Print the chain after each step that changed it\n      --lacks <NAME>  Run a broken list, with one check removed: lock (coarse), second-lock (fine), hand-over-hand (fine), second-walk (optimistic), same-node (optimistic), marks-in-validation (lazy), mark-in-contains (lazy), mark-in-ceiling (lazy), mark (lock-free), mark-in-add (lock-free), mark-in-remove (lock-free), mark-at-key (lock-free), new-slot (lock-free)\n  -h, --help          Print help\n\nExample: listset example two-removers | listset trace --chain\n\nAn error is one line, such as 'line 5: Idle'; listset faults Idle explains it.\n",
@@ -131,9 +132,12 @@ var init_engine = __esm({
       askBytes(name, ...given) {
         return this.answered((exports) => answerOf(exports, name, given));
       }
-      // Judges a recording of any length, which the module reads piece by piece.
+      // Answers for a recording of any length, which the module reads piece by piece.
+      answerFrom(name, input) {
+        return this.answered((exports) => answerInRoom(exports, name, [[input]], FIRST_ROOM));
+      }
       judgeFrom(input) {
-        return this.answered((exports) => answerInRoom(exports, "listset_judge_from", [[input]], FIRST_ROOM));
+        return this.answerFrom("listset_judge_from", input);
       }
       // Returns the diagnosis that the program prints below a refusal of `used` lines. The module reads the recording again for the diagnosis.
       whyFrom(input, used) {
@@ -236,25 +240,31 @@ var HELP = require_help();
 var ORIGIN = `commit ${"0".repeat(40)}
 proof unknown
 `;
-var COMMANDS = {
-  replay: { options: ["--lacks"], functions: ["listset_replay"], isOfFile: true },
-  judge: { flag: "--brief", options: ["--only"], isJudge: true, isOfFile: true },
-  check: { functions: ["listset_check"], isOfFile: true },
-  show: {
-    flag: "--svg",
-    options: ["--from", "--to", "--width", "--lacks"],
-    functions: ["listset_show", "listset_show_svg"],
-    isOfFile: true
-  },
-  trace: { flag: "--chain", options: ["--lacks"], functions: ["listset_trace", "listset_trace_with_chains"], isOfFile: true },
-  draft: { functions: ["listset_draft"], isOfFile: true },
-  example: { flag: "--broken", functions: ["listset_example", "listset_broken_example"] },
-  gen: { functions: ["listset_gen"], most: 6 },
-  run: { isBuilt: true, most: 7 },
-  serve: { isBuilt: true, most: 6 },
-  faults: { functions: ["listset_faults"] },
-  explain: { isExplain: true, isOfFile: true }
+var ANSWERS = {
+  judge: { isJudge: true },
+  stats: { inPieces: "listset_stats_from" },
+  show: { functions: ["listset_show", "listset_show_svg"] },
+  trace: { functions: ["listset_trace", "listset_trace_with_chains"] },
+  example: { functions: ["listset_example", "listset_broken_example"] },
+  run: { isBuilt: true },
+  serve: { isBuilt: true },
+  explain: { isExplain: true }
 };
+function described(name) {
+  const options = [...HELP[name].matchAll(/^ +--(\w+)(?: <(\w+)>)?  /gm)].map(([, option, value2]) => [`--${option}`, value2]);
+  const values = [...HELP[name].matchAll(/^  \[(\w+)\]  (.*?)[;\n]/gm)];
+  const [, value, about] = values[0] ?? [];
+  return {
+    flag: options.find(([, value2]) => value2 === void 0)?.[0],
+    options: Object.fromEntries(options.filter(([, value2]) => value2 !== void 0)),
+    most: Math.max(1, values.length),
+    isOfFile: value === "FILE",
+    about
+  };
+}
+var COMMANDS = Object.fromEntries(
+  Object.keys(HELP).filter((name) => !/^-|^help$/.test(name)).map((name) => [name, { functions: [`listset_${name}`], ...described(name), ...ANSWERS[name] }])
+);
 var Printed = class extends Error {
   constructor(text, status) {
     super(text);
@@ -325,13 +335,12 @@ function distance(one, other) {
 }
 var isValue = (word) => word === "-" || !word.startsWith("-");
 function addValue(found, word) {
-  const { name, values, most = 1 } = found;
+  const { name, values, most } = found;
   if (values.length === most)
     throw unexpected(name, word);
   values.push(word);
 }
 var unexpected = (name, word) => wrongWords(`unexpected argument '${word}' found`, usageOf(name));
-var VALUE_NAMES = { "--lacks": "NAME", "--only": "KEY", "--from": "M", "--to": "M", "--width": "N" };
 function take(found, words) {
   const word = words.shift();
   const [name, ...behind] = word.split("=");
@@ -341,8 +350,8 @@ function take(found, words) {
     throw helpOf(found.name);
   } else if (name === found.flag) {
     takeFlag(found, word, behind);
-  } else if (found.options?.includes(name)) {
-    const shown = `${name} <${VALUE_NAMES[name]}>`;
+  } else if (Object.hasOwn(found.options, name)) {
+    const shown = `${name} <${found.options[name]}>`;
     const text = behind.length > 0 ? behind.join("=") : textBehind(shown, words, found.name);
     if (found.texts[name.slice(2)] !== void 0)
       throw wrongWords(`the argument '${shown}' cannot be used multiple times`, usageOf(found.name));
@@ -440,7 +449,9 @@ function whatIsWrong(engine, file, used) {
   }
   return Buffer.from(NOT_TOLD);
 }
-function answerTo(engine, { name, functions, isJudge, isExplain, isOn, texts: { lacks, only, ...texts }, isOfFile, values }) {
+function answerTo(engine, { name, functions, inPieces, isJudge, isExplain, isOn, texts: { lacks, only, ...texts }, isOfFile, values }) {
+  if (inPieces)
+    return engine.answerFrom(inPieces, opened(values[0]));
   if (isJudge)
     return judged(engine, isOn, only, values[0]);
   if (isExplain)
@@ -540,7 +551,7 @@ function hintOf(engine, { name, isOfFile, texts, values }, said) {
   if (said.startsWith("listset: too long"))
     return tooLongHint(name);
   if (cause === "Header")
-    return `${name} reads ${READS[name]}: line 1 must be ${TITLES[name]}, and the input is empty or closed, or begins otherwise. For a text in a file, listset explain FILE says what is wrong`;
+    return `${name} reads ${READS[name]}: line 1 must be ${TITLES[READS[name]]}, and the input is empty or closed, or begins otherwise. For a text in a file, listset explain FILE says what is wrong`;
   if (cause)
     return `listset faults ${cause} explains this error; for a text in a file, listset explain FILE says what is wrong`;
   return /cannot read/.test(said) ? `Standard input could not be read. Name a file: listset ${name} FILE` : "";
@@ -554,24 +565,18 @@ var KINDS = [
   ["listset-course", "is a course", "No command reads a course: paste it into page/index.html, under Solve"],
   [/^(key |(listening|sessions|calls) [^ ]*$)/, "has keys for serve", "A server opens with these keys: listset serve KIND SEATS QUOTA PORT SESSIONS FILE"]
 ];
-var READS = {
-  replay: "a schedule",
-  trace: "a schedule",
-  check: "a report",
-  draft: "a draft",
-  judge: "recorded calls",
-  show: "a schedule or a report",
-  "show --lacks": "a schedule"
-};
+var READS = { "show --lacks": "a schedule" };
+for (const [name, { about }] of Object.entries(COMMANDS)) {
+  const [, plain, kinds] = /^File of (recorded calls)|^(.*) file$/.exec(about) ?? [];
+  READS[name] = plain ?? (kinds ? `a ${kinds.toLowerCase().replace(" or ", " or a ")}` : "a text");
+}
 var SCHEDULE = "'listset-schedule 1' (or 2)";
 var TITLES = {
-  replay: SCHEDULE,
-  trace: SCHEDULE,
-  "show --lacks": SCHEDULE,
-  check: "'listset-report 1' (or 2)",
-  draft: "'listset-draft 2'",
-  judge: "'listset-calls 1'",
-  show: "'listset-schedule 1' or 'listset-report 1' (or 2)"
+  "a schedule": SCHEDULE,
+  "a report": "'listset-report 1' (or 2)",
+  "a draft": "'listset-draft 2'",
+  "recorded calls": "'listset-calls 1'",
+  "a schedule or a report": "'listset-schedule 1' or 'listset-report 1' (or 2)"
 };
 function quoted(file) {
   const name = file.startsWith("-") ? `./${file}` : file;
@@ -601,7 +606,7 @@ function lineOf(file, number) {
 }
 function fileHint(engine, { name, texts, file, number, cause }) {
   const isLong = fs.existsSync(file) && fs.statSync(file).size > LONGEST;
-  if (isLong && name === "judge" && cause)
+  if (isLong && READS[name] === "recorded calls" && cause)
     return longHint(engine, file, number, cause);
   const lines = Buffer.from(explained(engine, file).bytes).toString().trimEnd().split("\n");
   const [first, last] = [lines[0], lines.at(-1)];
@@ -616,7 +621,7 @@ function fileHint(engine, { name, texts, file, number, cause }) {
 ${meant(engine, name, file)}`.trimEnd() : last;
 }
 function headerHint(name, file, first, last) {
-  const reads = `${name} reads ${READS[name]}: line 1 must be ${TITLES[name]}`;
+  const reads = `${name} reads ${READS[name]}: line 1 must be ${TITLES[READS[name]]}`;
   const kind = KINDS.find(([, is]) => first.startsWith(`${quoted(file)} ${is},`));
   if (first === `${quoted(file)} has no bytes.`)
     return isOutput(file) ? EMPTIED.replace("FILE", quoted(file)) : `${quoted(file)} has no bytes, and ${reads}. If a command wrote the file, look at what that command printed for an error`;
@@ -666,7 +671,7 @@ function linkOf(file) {
   }
 }
 function tooLongHint(name) {
-  if (name === "judge")
+  if (READS[name] === "recorded calls")
     return `Only a recording can have more than ${LONGEST} bytes: line 1 must be 'listset-calls 1', and no line has more than 128 bytes`;
   const shortened = name === "check" ? "For a report of fewer calls, shorten its schedule: .. | head -n 1000 | listset replay | listset check" : `To let ${name} read the first 1000 lines of a ${name === "draft" ? "draft" : "schedule"} alone: .. | head -n 1000 | listset ${name}`;
   return `Standard input has more than ${LONGEST} bytes, and only judge reads more. ${shortened}`;
@@ -783,8 +788,9 @@ function ofThisFile(engine, { texts, values: [file = "-"] }, value) {
 function asCalled(hint) {
   const [from, whole] = [path.relative("", process.argv[1]), process.argv[1]];
   const called = `node ${quoted(from.length < whole.length ? from : whole)}`;
-  return hint.replace(/\blistset (?=((replay|judge|check|show|trace|draft|example|gen|run|serve|faults|explain|help)\b|--version|--help))/g, `${called} `);
+  return hint.replace(NAMED, `${called} `);
 }
+var NAMED = new RegExp(`\\blistset (?=((${Object.keys(COMMANDS).join("|")}|help)\\b|--version|--help))`, "g");
 function wordsHint(given, said) {
   const [name = ""] = given;
   const [, word] = /unexpected argument '([^' ]*)/.exec(said) ?? [];
@@ -833,7 +839,7 @@ function commandHint(word, said) {
   const isCapital = word !== word.toLowerCase() && Object.hasOwn(COMMANDS, word.toLowerCase());
   return isCapital ? `Commands are in lower case: listset ${word.toLowerCase()}` : "listset --help lists the commands";
 }
-var optionsOf = (name) => [...COMMANDS[name].options ?? [], ...COMMANDS[name].flag ? [COMMANDS[name].flag] : []];
+var optionsOf = (name) => [...Object.keys(COMMANDS[name].options), ...COMMANDS[name].flag ? [COMMANDS[name].flag] : []];
 function optionHint(given, word) {
   const [name] = given;
   if (/^-[0-9]/.test(word))
@@ -864,7 +870,7 @@ function optionHint(given, word) {
 }
 function negativeHint([name, ...words], word) {
   const at = words.findIndex((it) => it.startsWith(word));
-  const option = Object.keys(VALUE_NAMES).find((it) => it === words[at - 1]);
+  const option = Object.hasOwn(COMMANDS[name]?.options ?? {}, words[at - 1]) && words[at - 1];
   if (option === "--only")
     return keyHint(words[at]);
   if (option)
@@ -877,7 +883,7 @@ function negativeHint([name, ...words], word) {
 function tellWhatIsRead({ name, isOfFile, values: [file = "-"] }) {
   if (!isOfFile || file !== "-" || process.env.LISTSET_ENGINE !== void 0 || !isatty(0) || !isatty(2))
     return;
-  process.stderr.write(`listset: ${asCalled(`reading ${READS[name] ?? "a text"} from the terminal, up to Ctrl-D (see listset help ${name})`)}
+  process.stderr.write(`listset: ${asCalled(`reading ${READS[name]} from the terminal, up to Ctrl-D (see listset help ${name})`)}
 `);
 }
 async function main(given) {

@@ -1,12 +1,8 @@
 // The commands of ./listset that need neither a proof nor the toolchain, in node. The engine is the proved replayer, as the module listset.wasm.
 //
-//     node page/listset.js replay [FILE]            node page/listset.js trace [--chain] [FILE]
-//     node page/listset.js judge [--brief] [--only KEY] [FILE]  node page/listset.js show [--svg] [--from M] [--to M] [--width N] [FILE]
-//     node page/listset.js check [FILE]             node page/listset.js example [--broken] [NAME]
-//     node page/listset.js draft [FILE]             node page/listset.js gen KIND THREADS QUOTA CALLS KEYS SEED
-//     node page/listset.js explain [FILE]           node page/listset.js faults [CAUSE]
-//     node page/listset.js help [COMMAND]           and of replay, trace and show [--lacks NAME]; --help, --version
+//     node page/listset.js COMMAND ..               node page/listset.js --help
 //
+// Commands, arguments and options are those of the program's help texts (help.json, made of crates/lset_command/src/table.rt).
 // FILE can be -, which means standard input. The output, the error message and the exit status are those of the program (docs/TEXTS.md). At a
 // terminal, a hint follows below an error. If node cannot run the module, and for run and serve, the script reads nothing, prints an error and exits
 // with status 70. With LISTSET_ENGINE=other it exits with status 70, without an error, whenever it would need the module.
@@ -26,27 +22,40 @@ const HELP = require("./help.json");
 
 const ORIGIN = `commit ${"0".repeat(40)}\nproof unknown\n`; // the lines of a program without a known commit and proof
 
-// For each command: its flag and options; the engine's functions without and with the flag (a command with code of its own has a mark
-// instead); whether its argument is a file; and the maximum number of arguments.
-const COMMANDS = {
-  replay: { options: ["--lacks"], functions: ["listset_replay"], isOfFile: true },
-  judge: { flag: "--brief", options: ["--only"], isJudge: true, isOfFile: true },
-  check: { functions: ["listset_check"], isOfFile: true },
-  show: {
-    flag: "--svg",
-    options: ["--from", "--to", "--width", "--lacks"],
-    functions: ["listset_show", "listset_show_svg"],
-    isOfFile: true,
-  },
-  trace: { flag: "--chain", options: ["--lacks"], functions: ["listset_trace", "listset_trace_with_chains"], isOfFile: true },
-  draft: { functions: ["listset_draft"], isOfFile: true },
-  example: { flag: "--broken", functions: ["listset_example", "listset_broken_example"] },
-  gen: { functions: ["listset_gen"], most: 6 },
-  run: { isBuilt: true, most: 7 },
-  serve: { isBuilt: true, most: 6 },
-  faults: { functions: ["listset_faults"] },
-  explain: { isExplain: true, isOfFile: true },
+// How a command is answered, if not by the engine's function `listset_COMMAND`: by other functions, without and with the command's flag; by a
+// function that reads the input in pieces; by a function of this script; or only by a built program.
+const ANSWERS = {
+  judge: { isJudge: true },
+  stats: { inPieces: "listset_stats_from" },
+  show: { functions: ["listset_show", "listset_show_svg"] },
+  trace: { functions: ["listset_trace", "listset_trace_with_chains"] },
+  example: { functions: ["listset_example", "listset_broken_example"] },
+  run: { isBuilt: true },
+  serve: { isBuilt: true },
+  explain: { isExplain: true },
 };
+
+// Returns what the help of a command says: its flag, its options with the names of their values, how many arguments it has at most, whether
+// the first is a file, and what the help says about it.
+function described(name) {
+  const options = [...HELP[name].matchAll(/^ +--(\w+)(?: <(\w+)>)?  /gm)].map(([, option, value]) => [`--${option}`, value]);
+  const values = [...HELP[name].matchAll(/^  \[(\w+)\]  (.*?)[;\n]/gm)];
+  const [, value, about] = values[0] ?? [];
+  return {
+    flag: options.find(([, value]) => value === undefined)?.[0],
+    options: Object.fromEntries(options.filter(([, value]) => value !== undefined)),
+    most: Math.max(1, values.length),
+    isOfFile: value === "FILE",
+    about,
+  };
+}
+
+// All commands, as the program's help lists them.
+const COMMANDS = Object.fromEntries(
+  Object.keys(HELP)
+    .filter((name) => !/^-|^help$/.test(name))
+    .map((name) => [name, { functions: [`listset_${name}`], ...described(name), ...ANSWERS[name] }]),
+);
 
 // A text and an exit status that are printed instead of an answer of the engine.
 class Printed extends Error {
@@ -125,14 +134,12 @@ function distance(one, other) {
 const isValue = (word) => word === "-" || !word.startsWith("-");
 
 function addValue(found, word) {
-  const { name, values, most = 1 } = found;
+  const { name, values, most } = found;
   if (values.length === most) throw unexpected(name, word);
   values.push(word);
 }
 
 const unexpected = (name, word) => wrongWords(`unexpected argument '${word}' found`, usageOf(name));
-
-const VALUE_NAMES = { "--lacks": "NAME", "--only": "KEY", "--from": "M", "--to": "M", "--width": "N" };
 
 // Parses the first argument and removes it from `words`, with its value if it is an option. Adds the result to `found`.
 function take(found, words) {
@@ -144,8 +151,8 @@ function take(found, words) {
     throw helpOf(found.name);
   } else if (name === found.flag) {
     takeFlag(found, word, behind);
-  } else if (found.options?.includes(name)) {
-    const shown = `${name} <${VALUE_NAMES[name]}>`;
+  } else if (Object.hasOwn(found.options, name)) {
+    const shown = `${name} <${found.options[name]}>`;
     const text = behind.length > 0 ? behind.join("=") : textBehind(shown, words, found.name);
     if (found.texts[name.slice(2)] !== undefined) throw wrongWords(`the argument '${shown}' cannot be used multiple times`, usageOf(found.name));
     found.texts[name.slice(2)] = text;
@@ -252,7 +259,8 @@ function whatIsWrong(engine, file, used) {
 }
 
 // Returns the engine's answer to the arguments. Options are checked before the file is opened.
-function answerTo(engine, { name, functions, isJudge, isExplain, isOn, texts: { lacks, only, ...texts }, isOfFile, values }) {
+function answerTo(engine, { name, functions, inPieces, isJudge, isExplain, isOn, texts: { lacks, only, ...texts }, isOfFile, values }) {
+  if (inPieces) return engine.answerFrom(inPieces, opened(values[0]));
   if (isJudge) return judged(engine, isOn, only, values[0]);
   if (isExplain) return explained(engine, values[0]);
   const wanted = functions[Number(isOn)];
@@ -348,7 +356,7 @@ function hintOf(engine, { name, isOfFile, texts, values }, said) {
   if (cause === "Kind" && texts.lacks !== undefined) return lacksHint(engine, texts.lacks, file);
   if (isOfFile && file !== "-") return fileHint(engine, { name, texts, file, number, cause });
   if (said.startsWith("listset: too long")) return tooLongHint(name);
-  if (cause === "Header") return `${name} reads ${READS[name]}: line 1 must be ${TITLES[name]}, and the input is empty or closed, or begins otherwise. For a text in a file, listset explain FILE says what is wrong`;
+  if (cause === "Header") return `${name} reads ${READS[name]}: line 1 must be ${TITLES[READS[name]]}, and the input is empty or closed, or begins otherwise. For a text in a file, listset explain FILE says what is wrong`;
   if (cause) return `listset faults ${cause} explains this error; for a text in a file, listset explain FILE says what is wrong`;
   return /cannot read/.test(said) ? `Standard input could not be read. Name a file: listset ${name} FILE` : "";
 }
@@ -364,24 +372,22 @@ const KINDS = [
   [/^(key |(listening|sessions|calls) [^ ]*$)/, "has keys for serve", "A server opens with these keys: listset serve KIND SEATS QUOTA PORT SESSIONS FILE"],
 ];
 
-const READS = {
-  replay: "a schedule",
-  trace: "a schedule",
-  check: "a report",
-  draft: "a draft",
-  judge: "recorded calls",
-  show: "a schedule or a report",
-  "show --lacks": "a schedule",
-};
+// What a command reads, by the help of its argument FILE.
+const READS = { "show --lacks": "a schedule" };
+for (const [name, { about }] of Object.entries(COMMANDS)) {
+  const [, plain, kinds] = /^File of (recorded calls)|^(.*) file$/.exec(about) ?? [];
+  READS[name] = plain ?? (kinds ? `a ${kinds.toLowerCase().replace(" or ", " or a ")}` : "a text");
+}
+
 const SCHEDULE = "'listset-schedule 1' (or 2)";
+
+// The first line of a text, by what a command reads.
 const TITLES = {
-  replay: SCHEDULE,
-  trace: SCHEDULE,
-  "show --lacks": SCHEDULE,
-  check: "'listset-report 1' (or 2)",
-  draft: "'listset-draft 2'",
-  judge: "'listset-calls 1'",
-  show: "'listset-schedule 1' or 'listset-report 1' (or 2)",
+  "a schedule": SCHEDULE,
+  "a report": "'listset-report 1' (or 2)",
+  "a draft": "'listset-draft 2'",
+  "recorded calls": "'listset-calls 1'",
+  "a schedule or a report": "'listset-schedule 1' or 'listset-report 1' (or 2)",
 };
 
 // Quotes a file name for a shell's command line.
@@ -416,7 +422,7 @@ function lineOf(file, number) {
 // Returns a hint for an error in a file: what is wrong, and what to do.
 function fileHint(engine, { name, texts, file, number, cause }) {
   const isLong = fs.existsSync(file) && fs.statSync(file).size > LONGEST;
-  if (isLong && name === "judge" && cause) return longHint(engine, file, number, cause);
+  if (isLong && READS[name] === "recorded calls" && cause) return longHint(engine, file, number, cause);
   const lines = Buffer.from(explained(engine, file).bytes).toString().trimEnd().split("\n");
   const [first, last] = [lines[0], lines.at(-1)];
   const reader = name === "show" && texts.lacks !== undefined ? "show --lacks" : name;
@@ -429,7 +435,7 @@ function fileHint(engine, { name, texts, file, number, cause }) {
 // Returns a hint for a file whose first line is wrong for a command: what the file is, and what the command reads. `first` and `last` are lines of
 // the file's explanation.
 function headerHint(name, file, first, last) {
-  const reads = `${name} reads ${READS[name]}: line 1 must be ${TITLES[name]}`;
+  const reads = `${name} reads ${READS[name]}: line 1 must be ${TITLES[READS[name]]}`;
   const kind = KINDS.find(([, is]) => first.startsWith(`${quoted(file)} ${is},`));
   if (first === `${quoted(file)} has no bytes.`) return isOutput(file) ? EMPTIED.replace("FILE", quoted(file)) : `${quoted(file)} has no bytes, and ${reads}. If a command wrote the file, look at what that command printed for an error`;
   if (kind) return `${quoted(file)} ${kind[1]}, and ${name} reads ${READS[name]}. ${kind[2].replaceAll("FILE", quoted(file))}`;
@@ -484,7 +490,7 @@ function linkOf(file) {
 }
 
 function tooLongHint(name) {
-  if (name === "judge") return `Only a recording can have more than ${LONGEST} bytes: line 1 must be 'listset-calls 1', and no line has more than 128 bytes`;
+  if (READS[name] === "recorded calls") return `Only a recording can have more than ${LONGEST} bytes: line 1 must be 'listset-calls 1', and no line has more than 128 bytes`;
   const shortened =
     name === "check"
       ? "For a report of fewer calls, shorten its schedule: .. | head -n 1000 | listset replay | listset check"
@@ -610,11 +616,13 @@ function ofThisFile(engine, { texts, values: [file = "-"] }, value) {
 function asCalled(hint) {
   const [from, whole] = [path.relative("", process.argv[1]), process.argv[1]];
   const called = `node ${quoted(from.length < whole.length ? from : whole)}`;
-  return hint.replace(/\blistset (?=((replay|judge|check|show|trace|draft|example|gen|run|serve|faults|explain|help)\b|--version|--help))/g, `${called} `);
+  return hint.replace(NAMED, `${called} `);
 }
 
-// Returns a hint about wrong arguments. `said` is the program's error message. Returns an empty text if there is no
-// hint.
+// The program's name before a command.
+const NAMED = new RegExp(`\\blistset (?=((${Object.keys(COMMANDS).join("|")}|help)\\b|--version|--help))`, "g");
+
+// Returns a hint for wrong arguments and the program's error; an empty text if there is none.
 function wordsHint(given, said) {
   const [name = ""] = given;
   const [, word] = /unexpected argument '([^' ]*)/.exec(said) ?? [];
@@ -654,7 +662,7 @@ function commandHint(word, said) {
   return isCapital ? `Commands are in lower case: listset ${word.toLowerCase()}` : "listset --help lists the commands";
 }
 
-const optionsOf = (name) => [...(COMMANDS[name].options ?? []), ...(COMMANDS[name].flag ? [COMMANDS[name].flag] : [])];
+const optionsOf = (name) => [...Object.keys(COMMANDS[name].options), ...(COMMANDS[name].flag ? [COMMANDS[name].flag] : [])];
 
 // Returns a hint for an argument that begins with a hyphen.
 function optionHint(given, word) {
@@ -680,7 +688,7 @@ function optionHint(given, word) {
 // Returns a hint for a negative number: the range of its option or argument.
 function negativeHint([name, ...words], word) {
   const at = words.findIndex((it) => it.startsWith(word));
-  const option = Object.keys(VALUE_NAMES).find((it) => it === words[at - 1]);
+  const option = Object.hasOwn(COMMANDS[name]?.options ?? {}, words[at - 1]) && words[at - 1];
   if (option === "--only") return keyHint(words[at]);
   if (option) return valueHint(null, { name, texts: { [option.slice(2)]: words[at] }, values: [] }, option.slice(2).toUpperCase());
   const before = words.slice(0, at).filter(isValue).length;
@@ -692,7 +700,7 @@ function negativeHint([name, ...words], word) {
 // If the command reads from a terminal, prints what the command reads and how to end the input. (The script ./listset prints this itself.)
 function tellWhatIsRead({ name, isOfFile, values: [file = "-"] }) {
   if (!isOfFile || file !== "-" || process.env.LISTSET_ENGINE !== undefined || !isatty(0) || !isatty(2)) return;
-  process.stderr.write(`listset: ${asCalled(`reading ${READS[name] ?? "a text"} from the terminal, up to Ctrl-D (see listset help ${name})`)}\n`);
+  process.stderr.write(`listset: ${asCalled(`reading ${READS[name]} from the terminal, up to Ctrl-D (see listset help ${name})`)}\n`);
 }
 
 async function main(given) {

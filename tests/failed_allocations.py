@@ -31,6 +31,7 @@ CALLS = TOP / "crates/memory_calls/out/unproved/memory_calls"
 ASKED = """
 replay opens-with-keys.schedule | replay ceiling-left-in-chain.schedule | replay DRAWN | replay OPENING | replay refused.schedule |
 judge ../../tests/transcripts/data/recorded/seen.calls | judge ../../tests/transcripts/data/recorded/lost.calls |
+stats ../../tests/transcripts/data/recorded/seen.calls |
 check opens-with-keys.report | check snip.broken.report | check version-1-at.report | show OPENING | show refused.schedule |
 show two-removers.broken.report | show --svg open-call.schedule | show --svg --from 2 OPENING | trace refused.schedule |
 trace version-1-opening.schedule | trace --chain OPENING | trace --chain TRIES | trace --chain CHAIN | trace --lacks lock OPENING |

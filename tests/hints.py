@@ -127,8 +127,9 @@ def script(program, room):
     (tree / "crates/listset/out").mkdir(parents=True)
     for folder in ("build", "examples/schedules"):
         shutil.copytree(TOP / folder, tree / folder)
-    for name in ("listset", "crates.txt"):
-        shutil.copy2(TOP / name, tree)
+    (tree / "page").mkdir()
+    for name in ("listset", "crates.txt", "page/help.json"):
+        shutil.copy2(TOP / name, tree / name)
     shutil.copy(program, tree / "crates/listset/out/listset")
     (tree / "a.schedule").write_text(SCHEDULE + "begin 0 add 5\ngo 0 12\n")
     (tree / "b.schedule").write_text(RIGHT)
@@ -269,7 +270,7 @@ NOT_OF_NODE = re.compile(r"(run|serve) |shwo|--prov|show --from (-5|5 --from)|tr
 
 @pytest.mark.needs("node")
 def test_node_without_a_program_shows_the_same_hints(program, script):
-    shutil.copytree(TOP / "page", script / "page", ignore=shutil.ignore_patterns("src", "tests", "shots"))
+    shutil.copytree(TOP / "page", script / "page", ignore=shutil.ignore_patterns("src", "tests", "shots"), dirs_exist_ok=True)
     (script / "none").write_text(CALLS + ADD + "end\n")
     for words in [*filter(lambda it: not NOT_OF_NODE.match(it), AT_TERMINAL), "judge none"]:
         by_script, by_node = (at_terminal([*it, *words.split()], script) for it in (["./listset"], ["node", "page/listset.js"]))
@@ -281,7 +282,7 @@ def test_a_terminal_shows_a_result_unchanged(script):
     assert (status, said) == (0, well(script / "crates/listset/out/listset", "example", "snip"))
 
 
-READ = {"judge": "recorded calls", "replay": "a schedule", "replay --lacks mark": "a schedule", "trace --chain -": "a schedule", "judge --only 5": "recorded calls", "show --from 2 --to=9": "a schedule or a report", "check": "a report",
+READ = {"judge": "recorded calls", "stats": "recorded calls", "replay": "a schedule", "replay --lacks mark": "a schedule", "trace --chain -": "a schedule", "judge --only 5": "recorded calls", "show --from 2 --to=9": "a schedule or a report", "check": "a report",
         "draft": "a draft", "show --svg": "a schedule or a report", "show --lacks=mark": "a schedule or a report", "explain": "a text", "serve lazy 1 4 0 0 -": "the keys of the set"}
 
 

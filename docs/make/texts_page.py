@@ -1,5 +1,6 @@
 """Makes the tables of errors in docs/TEXTS.md from the sources (the comments of the causes, and the text of `listset
-faults`). Also reports differences between the sources and docs/TEXTS.md or docs/COMMANDS.md.
+faults`), and the usage and arguments of the commands in docs/COMMANDS.md from `listset help`. Also reports limits in
+docs/TEXTS.md that differ from the sources.
 """
 
 import re
@@ -42,22 +43,38 @@ def table_of_orders(top):
     return table(["Fault", "When"], [[f"`{name}`", when] for name, when in faults_below(top, "refused FAULT ID").items()])
 
 
-def problems(top):
-    """Yields limits that differ from the constants in the sources, and arguments and options that differ from `listset
-    help`. (A page need not list the names for `--lacks`.)
+def helps(top):
+    """Returns the output of `listset help COMMAND` in tests/transcripts, by command."""
+    page = (top / "tests/transcripts/help.md").read_text()
+    return dict(it.split("\n", 1) for it in page.split("    $ listset help ")[1:])
+
+
+def commands_page(top):
+    """Returns docs/COMMANDS.md with the usage and the arguments of each command as in `listset help COMMAND`. (The help of
+    `faults` has no arguments. Only the section of `replay` has the names for `--lacks`.)
     """
+    page = (top / "docs/COMMANDS.md").read_text()
+    for command, told in helps(top).items():
+        found = re.findall(r"^      +(--\w+(?: <\w+>)?|\[\w+\])  +(.+)$", told, re.M)
+        rows = [[f"`{re.sub('[][<>]', '', name)}`", said if command == "replay" else said.partition(": lock (")[0]] for name, said in found]
+        if rows:
+            usage = re.search(r"^    Usage: (.*)$", told, re.M)[1]
+            made = f"Usage: `{usage}`\n\n{table(['Argument', 'Meaning'], rows)}\n"
+            page = re.sub(rf"(\n## {command}\n(?:(?!\n## ).)*?\n)Usage: [^\n]*\n\n(?:\|[^\n]*\n)+", lambda it: it[1] + made, page, flags=re.S)
+    return page
+
+
+def problems(top):
+    """Yields limits that differ from the constants in the sources, and commands without a section in docs/COMMANDS.md."""
     sources = "\n".join(it.read_text() for it in top.glob("crates/*/src/**/*.rt"))
     for value, name in re.findall(r"\| ([\d,]+) \| `(\w+)` \|", (top / "docs/TEXTS.md").read_text()):
         if not re.search(rf"^pub const {name}: \w+ = {value.replace(',', '_?')};", sources, re.M):
             yield f"docs/TEXTS.md: {name} is not {value}"
     page = (top / "docs/COMMANDS.md").read_text()
-    for told in (top / "tests/transcripts/help.md").read_text().split("    $ listset help ")[1:]:
-        command = told.partition("\n")[0]
-        section = page.partition(f"\n## {command}\n")[2].partition("\n## ")[0]
-        for name, said in re.findall(r"^      +(--\w+(?: <\w+>)?|\[\w+\])  +(.+)$", told, re.M):
-            row = f"| `{re.sub('[][<>]', '', name)}` | {said.partition(': lock (')[0]}"
-            if row not in section:
-                yield f"docs/COMMANDS.md: {command} has no row {row}"
+    for command in helps(top):
+        if command != "help" and not re.search(rf"\n## {command}\n(?:(?!\n## ).)*?\nUsage: ", page, re.S):
+            yield f"docs/COMMANDS.md: there is no section {command} with a line 'Usage: ..'"
 
 
+WHOLE = {"docs/COMMANDS.md": commands_page}
 MADE = {"causes": table_of_causes, "orders": table_of_orders}

@@ -3,14 +3,17 @@ output must be empty, and the status, the first line of the message and the comm
 itself.
 """
 
+import json
 import os
+import pathlib
 import random
 import subprocess
 from concurrent.futures import ThreadPoolExecutor
 
 SECONDS = 120
 DRAWN = 300
-COMMANDS = "replay check trace show draft judge gen example faults explain report help".split()
+HELP = json.loads((pathlib.Path(__file__).resolve().parent.parent / "help.json").read_text())
+COMMANDS = [*(it for it in HELP if it.isalpha() and it not in ("run", "serve")), "report"]
 FLAGS = "--chain --svg --broken -- - -x --svg=yes --no-such".split()
 OPTIONS = ["--from 3", "--from", "--from=9", "--from --", "--to 9", "--to=x", "--to=", "--from -5", "--from==3", "--width 40", "--width 0", "--from 4294967295",
            "--lacks lock", "--lacks luck", "--lacks=", "--lacks"]
@@ -67,12 +70,12 @@ def asked(program, names):
     dice, schedule = random.Random(1), said([*program, "example", names[0]])[0]
     report = said([*program, "replay"], schedule)[0]
     texts = [schedule, report, REFUSED.encode(), b""]
-    yield from (([*words.split()], text) for words in ("replay", "check", "trace", "trace --chain", "show", "show --svg", "draft", "judge") for text in texts)
+    yield from (([*words.split()], text) for words in ("replay", "check", "trace", "trace --chain", "show", "show --svg", "draft", "judge", "stats") for text in texts)
     yield from ((drawn_words(dice), dice.choice(texts)) for _ in range(DRAWN))
     yield from ((["example", *flag, name], b"") for name in names for flag in ([], ["--broken"]))
     yield from ((words, schedule) for words in (["replay", ""], ["gen", ""], ["show", "--to", ""], ["gen", "lazy\n2", "4"]))
     calls = b"".join(b"call 0 contains 5 %d %d false\n" % (2 * it + 1, 2 * it + 2) for it in range(LONG_CALLS))
-    yield ["judge"], b"listset-calls 1\n%send\n" % calls
+    yield from (([command], b"listset-calls 1\n%send\n" % calls) for command in ("judge", "stats"))
     yield from ((words.split(), b"") for words in ("--version", "-V", "--help", "-h", "help", "help help", "help show", "show -h", "trace --help", "run -h", "serve --help"))
     yield from ((words.split(), b"") for words in ("faults Busy", "faults idle", "faults nothing", "explain no-such", "explain .", "explain /dev/null/a"))
     yield from ((["explain"], text) for text in (*texts, b"key 5\nkey 4\n", b"listset-draft 2\nlist fine\nthreads 1\nquota 1\nbegin 0 add 1\ngo 0 to 99\n", b"\xff\xfe"))

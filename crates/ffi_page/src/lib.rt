@@ -3,8 +3,8 @@
 //! Each function writes the program's text (or a record with the same content), or the message about an error, to the
 //! start of `room`. It returns the length of the text in bytes and sets `status` to the program's exit status: 0; 1 if
 //! something is wrong with the text; 2 if a name is wrong; 3 if an allocation failed. If `room` is too short, nothing
-//! is written; call again with a buffer of the returned length. The functions keep no state. Only `listset_judge_from`
-//! and `listset_why_from` block.
+//! is written; call again with a buffer of the returned length. The functions keep no state. The functions whose
+//! names end with `_from` block.
 #![tactic(auto)]
 
 mod diagnosing; // why a recording is refused
@@ -32,7 +32,7 @@ use page_schedules::generate_by;
 use records::{judge_recording, judge_report};
 use std::alloc::Global;
 use tool_base::{answer_text, list_faults};
-use tool_judge::{judge_bytes, judge_input};
+use tool_judge::{judge_bytes, judge_input, stats_input};
 use tool_replay::{Check, Expand, Replay, Trace};
 
 /// Replays a schedule and writes its report. If the text has an error, is longer than 67,108,864 bytes, or has an event
@@ -80,6 +80,21 @@ pub extern "C" fn listset_judge_from(
 {
     let mut input = HostInput { file };
     hand(judge_input(alloc, &mut input), room, status)
+}
+
+/// Counts the calls of the recording in the file with this descriptor, as the command `stats` does. Reads the file as
+/// `listset_judge_from` does.
+#[unsafe(no_mangle)]
+pub extern "C" fn listset_stats_from(
+    alloc: Global,
+    file: i32,
+    room: &mut [u8],
+    status: &mut u8,
+) -> usize
+    ensures { Hands (λ _. Unit {0}) room.old room.new status.new result }
+{
+    let mut input = HostInput { file };
+    hand(stats_input(alloc, &mut input), room, status)
 }
 
 /// Judges a recording and writes the verdict as a record. Each line of a record has a name and values. If some order

@@ -10,8 +10,8 @@ use Rattle.clap.specs.declared.parser.matches.ArgMatches.{ArgMatches}
 use Rattle.clap.specs.declared.parser.matches.ArgMatches.TheViews.{out-ArgMatches, out-SubCommand}
 use Rattle.clap.specs.declared.parser.matches.SubCommand.{SubCommand}
 use Rattle.lset_command.specs.CommandLine.{Choice, OptionValues, choice_of, command_named, listset, options_in, values_in}
-use Rattle.lset_command.specs.declared.command_line.Command.{Command}
-use Rattle.lset_command.specs.declared.command_line.Command.TheVariants.{Replay}
+use Rattle.lset_command.specs.declared.table.Command.{Command}
+use Rattle.lset_command.specs.declared.table.Command.TheVariants.{Replay}
 use Rattle.lset_command.specs.declared.command_line.Words.{Words}
 
 abbrev pub chosen : Command → List Text → OptionValues → Choice

@@ -1,3 +1,4 @@
 pub mod Chosen
 pub mod Commands
 pub mod FoundValues
+pub mod TableRows

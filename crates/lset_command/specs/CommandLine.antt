@@ -1,6 +1,7 @@
 -- The program's command line, as clap's definitions describe it: the subcommands, their arguments, flags and options.
-use Rattle.std.specs.Prelude.{◌≡◌, Result, IfOk, List, [], map, codes, Bool, true, false, ◌||◌, Option, Some, None, option_map, unwrap_or}
+use Rattle.std.specs.Prelude.{◌≡◌, Result, IfOk, List, [], ◌∷◌, map, codes, Bool, true, false, ◌||◌, Option, Some, None, option_map, unwrap_or}
 use Rattle.std.specs.Prelude.{string_bytes, if◌then◌else◌, option_and_then}
+use Rattle.std.specs.Borrow.{Bor}
 use Rattle.std.specs.List.{flat_map}
 use Rattle.std.specs.Option.{option_map_or}
 use Rattle.std.specs.Str.{bytes_eq}
@@ -11,11 +12,13 @@ use Rattle.std.specs.declared.alloc.AllocError.{AllocError}
 use Rattle.clap.specs.declared.Arg.{Arg}
 use Rattle.clap.specs.declared.Command as clap
 use Rattle.clap.specs.declared.Command.TheViews.{out-Command}
-use Rattle.lset_command.specs.declared.command_line.Command.{Command}
-use Rattle.lset_command.specs.declared.command_line.Command.TheVariants.{Replay, Judge, Check, Show, Trace, Draft, Example}
-use Rattle.lset_command.specs.declared.command_line.Command.TheVariants.{Gen, Run, Serve, Faults, Explain}
+use Rattle.lset_command.specs.declared.table.Command.{Command}
+use Rattle.lset_command.specs.declared.table.Command.TheVariants.{Replay, Judge, Check, Gen}
 use Rattle.lset_command.specs.declared.command_line.Options.{Options}
 use Rattle.lset_command.specs.declared.command_line.Words.{Words}
+use Rattle.lset_command.specs.declared.table.Form.{Form}
+use Rattle.lset_command.specs.declared.table.Form.TheVariants.{Value, Flag, ValueOption}
+use Rattle.lset_command.specs.declared.table.TheConstants.{COMMANDS}
 
 -- Returns clap's rule for a flag `--NAME`.
 abbrev pub flag_rule : Text → Rule
@@ -25,87 +28,55 @@ flag_rule name = record (new_rule name) { long = Some name; action = Some SetTru
 abbrev pub option_rule : Text → Rule
 option_rule name = record (new_rule name) { long = Some name; value_names = 1 }
 
--- Returns the rules of the commands `check [FILE]`, `draft [FILE]` and `explain [FILE]`, with this name. The rules of
--- some other commands extend them.
-abbrev pub file_app : Text → App
-file_app name = with_rule (new_app name) (new_rule (codes "FILE"))
+-- The rule for an argument, by its form.
+abbrev pub rule_by : Text → Form → Rule
+rule_by name Value = new_rule name
+rule_by name Flag = flag_rule name
+rule_by name ValueOption = option_rule name
 
--- The rules of the command `judge [--brief] [--only KEY] [FILE]`.
-abbrev pub judge_app : App
-judge_app = with_rule (with_rule (file_app (codes "judge")) (flag_rule (codes "brief"))) (option_rule (codes "only"))
+-- An argument: its name and its form.
+abbrev pub Argument : Type 0
+Argument = Text × Form
 
--- The rules of the command `replay [--lacks NAME] [FILE]`.
-abbrev pub replay_app : App
-replay_app = with_rule (file_app (codes "replay")) (option_rule (codes "lacks"))
+-- A command, its name, and its arguments.
+abbrev pub TableRow : Type 0
+TableRow = Command × Text × List Argument
 
--- The rules of the command `show [--svg] [--from M] [--to M] [--width N] [--lacks NAME] [FILE]`.
-abbrev pub show_app : App
-show_app =
-    with_rule (with_rule (with_rule (with_rule (with_rule (file_app (codes "show"))
-    (flag_rule (codes "svg")))
-    (option_rule (codes "from")))
-    (option_rule (codes "to")))
-    (option_rule (codes "width")))
-    (option_rule (codes "lacks"))
+-- A command with a rule for each of these arguments.
+abbrev pub with_arguments : App → List Argument → App
+with_arguments a [] = a
+with_arguments a (argument ∷ arguments) = with_arguments (with_rule a (rule_by argument.0 argument.1)) arguments
 
--- The rules of the command `trace [--chain] [--lacks NAME] [FILE]`.
-abbrev pub trace_app : App
-trace_app = with_rule (with_rule (file_app (codes "trace")) (flag_rule (codes "chain"))) (option_rule (codes "lacks"))
+-- The rules of the command in this row.
+abbrev pub app_in : TableRow → App
+app_in row = with_arguments (new_app row.1) row.2
 
--- The rules of the command `example [--broken] [NAME]`.
-abbrev pub example_app : App
-example_app = with_rule (with_rule (new_app (codes "example")) (new_rule (codes "NAME"))) (flag_rule (codes "broken"))
+-- A command with a subcommand for each of these rows.
+abbrev pub with_commands : App → List TableRow → App
+with_commands a [] = a
+with_commands a (row ∷ rows) = with_commands (with_subcommand a (app_in row).top) rows
 
--- Returns the rules of a command with this name and the arguments KIND THREADS QUOTA CALLS KEYS SEED: of `gen`, or of
--- `run`, which has further rules.
-abbrev pub six_values : Text → App
-six_values name =
-    with_rule (with_rule (with_rule (with_rule (with_rule (with_rule (new_app name)
-    (new_rule (codes "KIND")))
-    (new_rule (codes "THREADS")))
-    (new_rule (codes "QUOTA")))
-    (new_rule (codes "CALLS")))
-    (new_rule (codes "KEYS")))
-    (new_rule (codes "SEED"))
-
--- The rules of the command `run KIND THREADS QUOTA CALLS KEYS SEED [LIVES]`.
-abbrev pub run_app : App
-run_app = with_rule (six_values (codes "run")) (new_rule (codes "LIVES"))
-
--- The rules of the command `serve KIND SEATS QUOTA PORT SESSIONS [FILE]`.
-abbrev pub serve_app : App
-serve_app =
-    with_rule (with_rule (with_rule (with_rule (with_rule (with_rule (new_app (codes "serve"))
-    (new_rule (codes "KIND")))
-    (new_rule (codes "SEATS")))
-    (new_rule (codes "QUOTA")))
-    (new_rule (codes "PORT")))
-    (new_rule (codes "SESSIONS")))
-    (new_rule (codes "FILE"))
-
--- The rules of the command `faults [CAUSE]`.
-abbrev pub faults_app : App
-faults_app = with_rule (new_app (codes "faults")) (new_rule (codes "CAUSE"))
+-- The table of the program's commands. The constant also has the help texts.
+abbrev pub table : List TableRow
+table = map (λ row. (row.0, row.1.now, map (λ argument. (argument.0.now, argument.1)) row.3.now)) COMMANDS.now
 
 -- The rules of the whole program: a version and all subcommands. The program's arguments do not include its name.
 abbrev pub listset : App
-listset =
-    with_subcommand (with_subcommand (with_subcommand (with_subcommand (with_subcommand
-    (with_subcommand (with_subcommand
-    (with_subcommand (with_subcommand (with_subcommand
-    (with_subcommand (with_subcommand (on_top (λ s. record s { no_binary_name = true; has_version = true }) (new_app (codes "listset")))
-    replay_app.top)
-    judge_app.top)
-    (file_app (codes "check")).top)
-    show_app.top)
-    trace_app.top)
-    (file_app (codes "draft")).top)
-    example_app.top)
-    (six_values (codes "gen")).top)
-    run_app.top)
-    serve_app.top)
-    faults_app.top)
-    (file_app (codes "explain")).top
+listset = with_commands (on_top (λ s. record s { no_binary_name = true; has_version = true }) (new_app (codes "listset"))) table
+
+-- ---- Rows of the table as values of the program
+
+abbrev pub ArgumentRow : Type 0
+ArgumentRow = Bor Text × Form × Bor Text × Bor Text
+
+abbrev pub CommandRow : Type 0
+CommandRow = Command × Bor Text × Bor Text × Bor (List ArgumentRow) × Option (Bor Text) × Bor Text
+
+abbrev pub argument_of : ArgumentRow → Argument
+argument_of row = (row.0.now, row.1)
+
+abbrev pub row_of : CommandRow → TableRow
+row_of row = (row.0, row.1.now, map argument_of row.3.now)
 
 -- ---- Commands as values of clap's type
 
@@ -175,21 +146,30 @@ options_in rows = record {
   lacks = first_of (codes "lacks") rows;
 }
 
--- Returns the command with this name. `name` must be one of the names in `listset`, as after a successful parse.
-unfoldable pub command_named : Text → Command
-command_named name =
-    if bytes_eq name (codes "judge") then Judge
-    else (if bytes_eq name (codes "check") then Check
-    else (if bytes_eq name (codes "show") then Show
-    else (if bytes_eq name (codes "trace") then Trace
-    else (if bytes_eq name (codes "draft") then Draft
-    else (if bytes_eq name (codes "example") then Example
-    else (if bytes_eq name (codes "gen") then Gen
-    else (if bytes_eq name (codes "run") then Run
-    else (if bytes_eq name (codes "serve") then Serve
-    else (if bytes_eq name (codes "faults") then Faults
-    else (if bytes_eq name (codes "explain") then Explain
-    else Replay))))))))))
+-- The command with this name in these rows; `replay` if no row has this name.
+abbrev pub command_in : Text → List TableRow → Command
+command_in name [] = Replay
+command_in name (row ∷ rows) = if bytes_eq row.1 name then row.0 else command_in name rows
+
+-- The command with this name. A parse finds only the names in `listset`.
+abbrev pub command_named : Text → Command
+command_named name = command_in name table
+
+abbrev pub row_named : Text → List TableRow → Option TableRow
+row_named name [] = None
+row_named name (row ∷ rows) = if bytes_eq row.1 name then Some row else row_named name rows
+
+abbrev pub IsNamed : Text → Command → List Argument → Type 0
+IsNamed name command arguments = row_named name table ≡ Some (command, name, arguments)
+
+-- The commands about whose output something is proved have these names and arguments.
+abbrev pub NamesOfProved : Type 0
+NamesOfProved =
+    IsNamed (codes "replay") Replay ((codes "FILE", Value) ∷ (codes "lacks", ValueOption) ∷ [])
+    × IsNamed (codes "judge") Judge ((codes "FILE", Value) ∷ (codes "brief", Flag) ∷ (codes "only", ValueOption) ∷ [])
+    × IsNamed (codes "check") Check ((codes "FILE", Value) ∷ [])
+    × IsNamed (codes "gen") Gen ((codes "KIND", Value) ∷ (codes "THREADS", Value) ∷ (codes "QUOTA", Value)
+    ∷ (codes "CALLS", Value) ∷ (codes "KEYS", Value) ∷ (codes "SEED", Value) ∷ [])
 
 -- A command with its arguments, flags and options.
 pub record Choice : Type 0 where

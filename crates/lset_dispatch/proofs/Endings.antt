@@ -5,8 +5,8 @@ use Rattle.clap.specs.declared.error.kind.ErrorKind.{ErrorKind}
 use Rattle.clap.specs.declared.error.kind.ErrorKind.TheVariants as kind
 use Rattle.clap.specs.Words.{Text}
 use Rattle.lset_command.specs.CommandLine.{Choice, OptionValues, path_of}
-use Rattle.lset_command.specs.declared.command_line.Command.{Command}
-use Rattle.lset_command.specs.declared.command_line.Command.TheVariants.{Explain}
+use Rattle.lset_command.specs.declared.table.Command.{Command}
+use Rattle.lset_command.specs.declared.table.Command.TheVariants.{Explain}
 use Rattle.lset_dispatch.specs.Asked.{Asked, asked, asked_by}
 use Rattle.lset_dispatch.specs.Dispatch.{EndsAsked, EndsOnInput, IsHelp, JobEnds}
 use Rattle.lset_dispatch.specs.declared.job.Job.{Job}

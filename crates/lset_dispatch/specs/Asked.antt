@@ -4,8 +4,8 @@
 use Rattle.std.specs.Prelude.{Bool, true, false, List, Option, Some, None, Result, Ok, Err}
 use Rattle.clap.specs.Words.{Text}
 use Rattle.lset_command.specs.CommandLine.{Choice, OptionValues}
-use Rattle.lset_command.specs.declared.command_line.Command.{Command}
-use Rattle.lset_command.specs.declared.command_line.Command.TheVariants as command
+use Rattle.lset_command.specs.declared.table.Command.{Command}
+use Rattle.lset_command.specs.declared.table.Command.TheVariants as command
 use Rattle.lset_schedule.specs.Generating.{IsAccepted}
 use Rattle.tool_base.specs.declared.arguments.RandomRequest.{RandomRequest}
 use Rattle.tool_base.specs.declared.trouble.ValueName.{ValueName}

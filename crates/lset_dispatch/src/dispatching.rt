@@ -2,14 +2,14 @@ ghost use Rattle.std.specs.Prelude.{◌≡◌, IfOk, IsTrue};
 ghost use Rattle.clap.specs.Words.{FailsBy, fault_of, kind_of, subcommand_of};
 ghost use Rattle.clap.specs.Walk.{texts};
 ghost use Rattle.lset_command.specs.CommandLine.{choice_in, choice_of, listset};
-ghost use Rattle.lset_command.specs.declared.command_line.Command.TheVariants.{Explain};
+ghost use Rattle.lset_command.specs.declared.table.Command.TheVariants.{Explain};
 ghost use Rattle.lset_dispatch.specs.Dispatch.{Declines, Runs};
 
 use crate::job::read_job;
 use crate::running_jobs::{run_job, run_on_file};
 use broken_lists::ALL;
 use clap::Error;
-use lset_command::{Command, Helps, Words, is_out_of_memory, words_given};
+use lset_command::{Command, Helps, LACKS_HELP, Words, is_out_of_memory, words_given};
 use lset_text::kind_word;
 use std::alloc::{AllocError, Global};
 use std::fs::File;
@@ -47,7 +47,7 @@ fn decline<W: Write, E: Write>(alloc: Global, error: &Error, output: &mut W, std
 /// Returns the help for the option `--lacks`: the names of the broken lists (lists without one of their checks), each
 /// with the kind of list that it was made from.
 fn lacks_help(alloc: Global) -> Result<String, AllocError> {
-    let mut help = String::from_str(alloc, "Run a broken list, with one check removed")?;
+    let mut help = String::from_str(alloc, LACKS_HELP)?;
     for (number, broken) in ALL.iter().enumerate() {
         let sign = if number == 0 { ':' } else { ',' };
         let (name, list) = (broken.name(), kind_word(broken.kind()));

@@ -21,6 +21,7 @@ pub(crate) enum Job {
     Verdict,
     /// Print the recorded calls of one key.
     OneKey(u32),
+    Stats,
     Check,
     Show(Show),
     Trace(Trace),
@@ -133,6 +134,7 @@ pub(crate) fn read_job(words: &Words) -> Result<Job, ValueName>
     match words.command {
         Command::Replay => read_replay(&options.lacks),
         Command::Judge => read_judge(options.brief, &options.only),
+        Command::Stats => Ok(Job::Stats),
         Command::Check => Ok(Job::Check),
         Command::Show => read_show_job(options),
         Command::Trace => Ok(Job::Trace(Trace {

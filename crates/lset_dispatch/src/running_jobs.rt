@@ -16,7 +16,7 @@ use std::thread::Threads;
 use std::time::Clock;
 use tool_base::{Trouble, deliver, explain_fault, list_faults, run_tool};
 use tool_explain::explain_input;
-use tool_judge::{ShowJudged, judge_briefly, judge_input};
+use tool_judge::{ShowJudged, judge_briefly, judge_input, stats_input};
 use tool_replay::{
     Expand, ReplayBroken, generate_text, print_example, tool_check, tool_replay, trace_events,
 };
@@ -103,6 +103,7 @@ pub(crate) fn run_job<
         Job::Judge => judge(alloc, input, output, stderr),
         Job::Verdict => judge_verdict(alloc, input, output, stderr),
         Job::OneKey(key) => deliver(print_key(alloc, input, key), output, stderr),
+        Job::Stats => deliver(stats_input(alloc, input), output, stderr),
         Job::Check => tool_check(alloc, input, output, stderr),
         Job::Show(show) => run_tool(alloc, &ShowJudged { show }, input, output, stderr),
         Job::Trace(trace) => deliver(trace_events(alloc, trace, input, output), output, stderr),

@@ -1,4 +1,5 @@
-//! The command `judge` reads recorded calls of a set and prints whether some order explains them. If `show` refuses the
+//! The command `judge` reads recorded calls of a set and prints whether some order explains them. The command `stats`
+//! counts them. If `show` refuses the
 //! order in a report, it prints the same lines below the picture.
 #![tactic(auto)]
 
@@ -7,6 +8,7 @@ mod counts;
 mod extra_lines;
 mod judge_answers;
 mod showing;
+mod stats;
 mod texts;
 
 pub use clashes::put_call;
@@ -14,3 +16,4 @@ pub use counts::{put_count, with_count};
 pub use extra_lines::with_lines;
 pub use judge_answers::{answers_are_right, judge_briefly, judge_bytes, judge_input};
 pub use showing::{Claim, ShowJudged, claim_on};
+pub use stats::stats_input;

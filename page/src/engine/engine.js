@@ -26,9 +26,13 @@ export class Engine {
     return this.answered((exports) => answerOf(exports, name, given));
   }
 
-  // Judges a recording of any length, which the module reads piece by piece.
+  // Answers for a recording of any length, which the module reads piece by piece.
+  answerFrom(name, input) {
+    return this.answered((exports) => answerInRoom(exports, name, [[input]], FIRST_ROOM));
+  }
+
   judgeFrom(input) {
-    return this.answered((exports) => answerInRoom(exports, "listset_judge_from", [[input]], FIRST_ROOM));
+    return this.answerFrom("listset_judge_from", input);
   }
 
   // Returns the diagnosis that the program prints below a refusal of `used` lines. The module reads the recording again for the diagnosis.

@@ -15,16 +15,4 @@ returns c =
     let begun : IsApp c.no_binary_name.result _ =
     by_fields _ _ _ c.no_binary_name.ensures (ap (on_top (λ s. record s { no_binary_name = true })) versioned.0, versioned.1) in
     let program = Makes-named c.bin_name-program.result c.no_binary_name.result _ _ c.bin_name-program.ensures begun in
-    let replay = c.and_subcommand-program.ensures _ _ program c.replay_command.ensures in
-    let judge = c.and_subcommand-program-2.ensures _ _ replay c.judge_command.ensures in
-    let check = c.and_subcommand-program-3.ensures _ _ judge c.check_command.ensures in
-    let show = c.and_subcommand-program-4.ensures _ _ check c.show_command.ensures in
-    let trace = c.and_subcommand-program-5.ensures _ _ show c.trace_command.ensures in
-    let draft = c.and_subcommand-program-6.ensures _ _ trace c.draft_command.ensures in
-    let example = c.and_subcommand-program-7.ensures _ _ draft c.example_command.ensures in
-    let gen = c.and_subcommand-program-8.ensures _ _ example c.gen_command.ensures in
-    let run = c.and_subcommand-program-9.ensures _ _ gen c.run_command.ensures in
-    let serve = c.and_subcommand-program-10.ensures _ _ run c.serve_command.ensures in
-    let faults = c.and_subcommand-program-11.ensures _ _ serve c.faults_command.ensures in
-    let explain = c.and_subcommand.ensures _ _ faults c.explain_command.ensures in
-    IfOk-weaker c.and_subcommand.result _ _ (λ r is. is.0) explain
+    IfOk-weaker c.with_commands.result _ _ (λ r is. is.0) (c.with_commands.ensures _ program)

@@ -33,7 +33,7 @@ returns-clause-taken c =
     let one = one_command m found c.in-Some.name.now (rows_of (found_of c.in-Some.found.now)) c.in-Some.ensures.name
     c.in-Some.ensures.rows
     (program_matches m _ (texts c.args.words.now) c.in_ok-program_command.ensures c.in_ok-matches.ensures.matches) in
-    chosen_command _ _ _ _ _ found one c.command_named-command.ensures c.in_ok-values.ensures c.in_ok-options.ensures
+    chosen_command _ _ _ _ _ found one c.command_in-command.ensures c.in_ok-values.ensures c.in_ok-options.ensures
 
 pub returns-clause-refused : goal.returns-clause-refused
 returns-clause-refused c =

@@ -1,5 +1,5 @@
 use Rattle.std.proofs.Common.{refl}
-use Rattle.lset_command.specs.declared.command_line.Command.TheVariants as command
+use Rattle.lset_command.specs.declared.table.Command.TheVariants as command
 use Rattle.lset_dispatch.proofs.Endings.{at_command}
 use Rattle.lset_dispatch.proofs.job.read_job.Goals as goal
 
@@ -8,6 +8,9 @@ returns-in-Replay-clause-asked c = at_command _ command.Replay _ _ _ c.in-Replay
 
 pub returns-in-Judge-clause-asked : goal.returns-in-Judge-clause-asked
 returns-in-Judge-clause-asked c = at_command _ command.Judge _ _ _ c.in-Judge.is c.read_judge.ensures.asked
+
+pub returns-in-Stats-clause-asked : goal.returns-in-Stats-clause-asked
+returns-in-Stats-clause-asked c = at_command _ command.Stats _ _ _ c.in-Stats.is tt
 
 pub returns-in-Check-clause-asked : goal.returns-in-Check-clause-asked
 returns-in-Check-clause-asked c = at_command _ command.Check _ _ _ c.in-Check.is refl
