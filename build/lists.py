@@ -43,7 +43,7 @@ USERS = ["lset_lists", "lset_live", "tool_replay", "tool_threads"]
 # The files that describe each list in prose. They must be written by hand.
 TEXTS = {
     "crates/tool_base/src/faults.rt": ["{word}"],
-    "crates/lset_command/src/command_line.rt": ["{word}"],
+    "crates/lset_command/src/table.rt": ["{word}"],
     "docs/TABLES.md": ["## {type}"],
     "docs/TEXTS.md": ["`{word}`"],
     "docs/make/believed.txt": ["{crate}/specs/{kind}.antt"],
