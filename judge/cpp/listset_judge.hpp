@@ -166,6 +166,7 @@ constexpr const char *NOT_MADE = "the set could not be created: %s";
 constexpr const char *NO_OPENING = "contains of an opening key had no known outcome in %s calls";
 constexpr const char *UNDER_WAY = "%s\npending: %s\nbefore that: %s";
 constexpr const char *EXPLAINED = "some order explains the calls";
+constexpr const char *PASSED_BEFORE = "; passed before: %s";
 constexpr const char *KEY_IS = "; key %s of the recording is %s";
 constexpr const char *IN_SET = ", in set %s of the run";
 constexpr const char *NO_FOLDER = "no file can be written in %s: set record to another folder";
@@ -789,6 +790,13 @@ template <class Make, class Key> struct tester {
         return it;
     }
 
+    // Returns the part of the message that names the presets of the earlier runs, which all passed.
+    std::string passed_before(uint64_t seed) const {
+        std::string names;
+        for (uint64_t it = how.seed; it < seed && it < how.seed + std::size(PRESETS); it++) names += (names.empty() ? "" : ", ") + std::string(shape_of(it).name);
+        return names.empty() ? "" : say(PASSED_BEFORE, names);
+    }
+
     // Returns the sizes of a run with more overlapping calls: more threads (possibly more than processors), fewer keys and
     // twice as many calls in total, unless the options set these numbers. The threads wait for each other only at the
     // beginning, because on a busy machine a waiting thread is not interrupted during a call.
@@ -836,7 +844,7 @@ template <class Make, class Key> struct tester {
         const std::string number = key_in(refused), name = key_line(number, it, by_maker->keys);
         found.said = trouble.empty() ? refused : say(UNDER_WAY, trouble, under_way, refused.empty() ? EXPLAINED : refused);
         found.file = text.path;
-        found.text = say(FAILED_RUN, found.said, seed, it.name, it.threads, name, text.path, alone(text.path, number), by.name + ", " + by.proof);
+        found.text = say(FAILED_RUN, found.said, seed, it.name, it.threads, passed_before(seed) + name, text.path, alone(text.path, number), by.name + ", " + by.proof);
         return found;
     }
 

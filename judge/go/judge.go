@@ -20,6 +20,7 @@ import (
 	"os"
 	"runtime"
 	"strconv"
+	"strings"
 	"sync"
 	"time"
 )
@@ -431,6 +432,18 @@ func isWithin(since time.Time, seconds int) bool {
 	return time.Since(since) < time.Duration(seconds)*time.Second
 }
 
+// passedBefore returns the part of the message that names the presets of the earlier runs, which all passed.
+func (o Options) passedBefore(seed int64) string {
+	var names []string
+	for it := o.Seed; it < seed && len(names) < len(presets); it++ {
+		names = append(names, o.shapeOf(it).name)
+	}
+	if names == nil {
+		return ""
+	}
+	return fmt.Sprintf(sayPassedBefore, strings.Join(names, ", "))
+}
+
 // judgedRun performs a run and judges it. It returns the number of calls that overlapped a call that changed the same
 // key.
 func (t *tester) judgedRun(seed int64, s shape) (int, error) {
@@ -439,6 +452,7 @@ func (t *tester) judgedRun(seed int64, s shape) (int, error) {
 		return 0, err
 	}
 	defer r.close()
+	r.passed = t.options.passedBefore(seed)
 	trouble, err := t.area.made(seed, s.size, r.file.Name(), t.caller)
 	if err != nil {
 		return 0, err

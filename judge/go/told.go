@@ -16,6 +16,7 @@ import (
 type recording struct {
 	seed   int64
 	name   string
+	passed string // the part of the message that names the presets of the earlier runs
 	file   *os.File
 	isKept bool
 }
@@ -66,7 +67,7 @@ func (r *recording) judged(by *judgeFound, a *area, trouble string) (int, error)
 		number, _ := strconv.Atoi(key[1])
 		named, small = keyLine(a, number), r.alone(by, key[1])
 	}
-	text := fmt.Sprintf(sayFailedRun, said, r.seed, r.name, a.threads, named, r.file.Name(), small, by)
+	text := fmt.Sprintf(sayFailedRun, said, r.seed, r.name, a.threads, r.passed+named, r.file.Name(), small, by)
 	failed := Failed{r.seed, r.name, said, r.file.Name(), by.String(), text}
 	if trouble == "" {
 		return 0, &NotLinearizable{failed}

@@ -96,6 +96,7 @@ public final class Judge {
     private static final String NO_OPENING = "contains of an opening key had no known outcome in %s calls";
     private static final String UNDER_WAY = "%s\npending: %s\nbefore that: %s";
     private static final String EXPLAINED = "some order explains the calls";
+    private static final String PASSED_BEFORE = "; passed before: %s";
     private static final String KEY_IS = "; key %s of the recording is %s";
     private static final String IN_SET = ", in set %s of the run";
     private static final String NO_FOLDER = "no file can be written in %s: set record to another folder";
@@ -413,9 +414,18 @@ public final class Judge {
                 String said = trouble == null ? refused : UNDER_WAY.formatted(trouble, pending, refused);
                 Matcher found = OF_KEY.matcher(refused);
                 String key = found.find() ? found.group(1) : null, named = key == null ? "" : keyLine(Integer.parseInt(key), shape);
-                String text = FAILED_RUN.formatted(said, seed, shape.name, shape.threads, named, file, key == null ? "" : alone(file, key), program);
+                String text = FAILED_RUN.formatted(said, seed, shape.name, shape.threads, passedBefore(seed) + named, file, key == null ? "" : alone(file, key), program);
                 throw trouble == null ? new NotLinearizable(seed, said, file, text) : new CutShort(seed, said, file, text);
             }
+        }
+
+        /** Returns the part of the message that names the presets of the earlier runs, which all passed. */
+        private String passedBefore(long seed) {
+            StringBuilder names = new StringBuilder();
+            for (long it = how.seed; it < seed && it < how.seed + PRESETS.length; it++) {
+                names.append(names.length() == 0 ? "" : ", ").append(how.shapeOf(it).name);
+            }
+            return names.length() == 0 ? "" : PASSED_BEFORE.formatted(names);
         }
 
         /**

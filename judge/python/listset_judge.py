@@ -89,6 +89,7 @@ NOT_MADE = "the set could not be created: %s"
 NO_OPENING = "contains of an opening key had no known outcome in %s calls"
 UNDER_WAY = "%s\npending: %s\nbefore that: %s"
 EXPLAINED = "some order explains the calls"
+PASSED_BEFORE = "; passed before: %s"
 KEY_IS = "; key %s of the recording is %s"
 IN_SET = ", in set %s of the run"
 NO_FOLDER = "no file can be written in %s: set record to another folder"
@@ -307,9 +308,15 @@ class Tester:
         if trouble or refused:
             said = UNDER_WAY % (trouble, under_way, refused or EXPLAINED) if trouble else refused
             key = key_in(refused)
-            where = self.key_line(key, shape), file, self.alone(file, key), self.by
+            where = self.passed_before(seed) + self.key_line(key, shape), file, self.alone(file, key), self.by
             raise (CutShort if trouble else NotLinearizable)(seed, said, file, FAILED_RUN % (said, seed, shape.name, shape.threads, *where))
         return is_few(overlapped, calls)
+
+    def passed_before(self, seed: int) -> str:
+        """Returns the part of the message that names the presets of the earlier runs, which all passed."""
+        first = self.how.seed
+        names = [self.how.shape_of(it).name for it in range(first, min(seed, first + len(PRESETS)))]
+        return PASSED_BEFORE % ", ".join(names) if names else ""
 
     def key_line(self, number: str, shape: Shape) -> str:
         """Describes the key that has this number in the recording and, if the run has several sets, the key's set. Returns an

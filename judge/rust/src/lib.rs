@@ -163,6 +163,17 @@ impl Options {
         it
     }
 
+    /// Returns the part of the message that names the presets of the earlier runs, which all passed.
+    fn passed_before(&self, seed: u64) -> String {
+        let earlier = (u64::from(self.seed)..seed).take(PRESETS.len());
+        let names: Vec<&str> = earlier.map(|it| self.shape_of(it).name).collect();
+        if names.is_empty() {
+            String::new()
+        } else {
+            say(PASSED_BEFORE, &[&names.join(", ")])
+        }
+    }
+
     /// Applies the environment variables. `LISTSET_SECONDS` repeats runs for this many seconds, with seeds counting up
     /// from the current time. `LISTSET_SEED` sets the first seed.
     fn by_environment(&self) -> Result<Options, Failure> {

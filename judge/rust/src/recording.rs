@@ -14,6 +14,8 @@ pub struct Recording<'a> {
     judge: &'a Judge,
     shape: Shape,
     seed: u64,
+    /// The part of the message that names the presets of the earlier runs.
+    passed: String,
     pub path: PathBuf,
     is_kept: bool,
 }
@@ -26,7 +28,7 @@ impl<'a> Recording<'a> {
         let is_kept = options.record.is_some();
         let path = folder.join(name_of(seed, is_kept));
         match std::fs::create_dir_all(&folder).and_then(|()| File::create(&path)) {
-            Ok(_) => Ok(Recording { judge, shape, seed, path, is_kept }),
+            Ok(_) => Ok(Recording { judge, shape, seed, passed: options.passed_before(seed), path, is_kept }),
             Err(_) => no_verdict(say(NO_FOLDER, &[&folder.display()])),
         }
     }
@@ -50,7 +52,8 @@ impl<'a> Recording<'a> {
         };
         let Shape { name, threads, .. } = self.shape;
         let (of_key, alone) = key.map_or_else(Default::default, |it| (self.key_line(it, source), self.alone(it)));
-        let text = say(FAILED_RUN, &[&said, &self.seed, &name, &threads, &of_key, &self.path.display(), &alone, self.judge]);
+        let before = self.passed.clone() + &of_key;
+        let text = say(FAILED_RUN, &[&said, &self.seed, &name, &threads, &before, &self.path.display(), &alone, self.judge]);
         let failed =
             Failed { seed: self.seed, name: name.into(), said, file: self.path.clone(), judge: self.judge.to_string(), text };
         Err(if trouble.is_some() { Failure::CutShort(failed) } else { Failure::NotLinearizable(failed) })

@@ -50,6 +50,7 @@ pub const NOT_MADE: &str = "the set could not be created: %s";
 pub const NO_OPENING: &str = "contains of an opening key had no known outcome in %s calls";
 pub const UNDER_WAY: &str = "%s\npending: %s\nbefore that: %s";
 pub const EXPLAINED: &str = "some order explains the calls";
+pub const PASSED_BEFORE: &str = "; passed before: %s";
 pub const KEY_IS: &str = "; key %s of the recording is %s";
 pub const IN_SET: &str = ", in set %s of the run";
 pub const NO_FOLDER: &str = "no file can be written in %s: set record to another folder";
