@@ -274,7 +274,7 @@ function checkWhy(ask, it) {
   const lines = ask("listset_why_record", it.text).text.split("\n").filter((line) => line !== "").map((line) => line.split(" "));
   const told = lines.map((words) => (["call", "also"].includes(words[0]) ? { call: callOfLine(it, words.slice(1)), says: [words[0], ...words.slice(7)].join(" "), mark: words.slice(7).join(" ") } : { says: words.join(" ") }));
   const why = { shown: told.filter(({ says }) => says.startsWith("call ")), because: told.filter(({ says }) => says.startsWith("because ")), told: null,
-    isOfEnd: told.some(({ says }) => / at the end$/.test(says) && says.startsWith("headline ")) };
+    isOfEnd: told.some(({ says }) => / at the end$/.test(says) && says.startsWith("headline ")), isOfOdd: told.some(({ says }) => says.startsWith("fact only ")) };
   for (const { call } of told.filter(({ says }) => /^(call|also)/.test(says))) if (call === undefined) return result.failed.push(`no such call on\n${it.text}`);
   for (const line of told) checkSentence(OF_WHY, it, line.says, why, line);
   return checkText(ask, it, told);
@@ -527,7 +527,9 @@ const OF_WHY = [
   }],
   [/^also$/, (it, found, why, { call }) => {
     const shown = why.shown.map((one) => one.call);
-    return isChange(call) && shown.every(({ key }) => key !== call.key) && inTime(call, Math.min(...shown.map(({ begun }) => begun)), Math.max(...shown.map(({ ended }) => ended ?? LAST)));
+    const marked = why.shown.filter(({ mark }) => mark !== "-").map((one) => one.call);
+    const isChosen = why.isOfOdd ? marked.some(({ begun, ended }) => inTime(call, begun, ended ?? LAST)) : inTime(call, Math.min(...shown.map(({ begun }) => begun)), Math.max(...shown.map(({ ended }) => ended ?? LAST)));
+    return isChange(call) && shown.every(({ key }) => key !== call.key) && isChosen;
   }],
   [/^fact only (add|remove|contains)( that returned false)? is wrong: (at least )?(\d+) of its (\d+) answers(?: \((?:(found|missed) an? (?:absent|present) key(?:, and never (?:found|missed) an? (?:absent|present) key)?|the key was (absent|present))\))?(; the final keys are (?:put aside|ignored))?$/,
     (it, [operation, , atLeast, count, of, way, keyWas, aside], why) => {
@@ -544,31 +546,37 @@ const OF_WHY = [
     for (const [, many, kind] of kinds.split(" + ").map((one) => /^(\d+) (.*)$/.exec(one))) why.tally[KINDS[kind]] = Number(many);
     return Object.keys(why.tally).length === TALLIED.length && Object.values(why.tally).reduce((sum, many) => sum + many, 0) === Number(count);
   }],
-  [/^fact (\d+) of (\d+) keys are hit: the next call did not see (\d+) of (\d+) adds and (\d+) of (\d+) removes that returned true \(counted if no opposite change ran meanwhile\)$/, (it, [hit, all, ...counts]) => {
+  [/^fact (\d+) of (\d+) keys are hit; the next call of the key did not see (\d+) of (\d+) adds and (\d+) of (\d+) removes \(those that returned true, with no opposite change meanwhile\)$/, (it, [hit, all, ...counts]) => {
     const refused = keysOf(it).filter((key) => !hasOrderOf(it, key));
     const seen = ["add", "remove"].map((operation) => refused.flatMap((key) => nextCallsSee(ofKey(it, key), operation)));
     const isOfKeys = Number(hit) === refused.length && Number(all) === new Set([...keysOf(it), ...it.padding.map(({ key }) => key)]).size;
     return isOfKeys && `${counts.map(Number)}` === `${seen.flatMap((some) => [some.filter((isSeen) => !isSeen).length, some.length])}`;
   }],
-  [/^fact of (\d+) losses and returns that calls show, (\d+) overlapped a change of another key \(of 100 other times: (\d+)\)$/, (it, [all, some, usual], { tally }) => {
+  [/^fact a change of another key ran during (\d+) of the (\d+) times that a key was lost or came back, but only during (\d+) of 100 other times$/, (it, [some, all, usual], { tally }) => {
     const isBeside = keysOf(it).some((key) => !hasOrderOf(it, key) && it.calls.some((one) => one.key !== key && isChange(one) && one.reply === "true"));
-    return Number(some) <= Number(all) && Number(all) <= tally.lost + tally["came back"] && (Number(some) === 0 || isBeside) && Number(usual) <= 100;
+    return Number(some) <= Number(all) && Number(all) <= tally.lost + tally["came back"] && isBeside && Number(some) * 100 >= Number(all) * (Number(usual) + 25);
   }],
-  [/^fact at (\d+) of (\d+) losses and returns another key was lost or came back at the same time \(of 100 other times: (\d+)\)$/, (it, [some, all, usual]) =>
-    Number(some) <= Number(all) && (Number(some) === 0 || keysOf(it).filter((key) => !hasOrderOf(it, key)).length >= 2) && Number(usual) <= 100],
+  [/^fact (\d+) of the (\d+) times that a key was lost or came back, this happened to another key, too, meanwhile \(by chance: (\d+) of 100\)$/, (it, [some, all, usual]) =>
+    Number(some) <= Number(all) && keysOf(it).filter((key) => !hasOrderOf(it, key)).length >= 2 && Number(some) * 100 >= Number(all) * (Number(usual) + 25)],
   [/^fact (at least )?(\d+) contradictions?: (.*)$/, (it, [atLeast, count, listed], why) => {
     const told = listed.split("; ");
     why.tally = Object.fromEntries(TALLIED.map((kind) => [kind, told.filter((one) => one.includes(` ${IN_LIST[kind] ?? kind} `)).length]));
     const isOfEach = keysOf(it).every((key) => hasOrderOf(it, key) || told.some((one) => one.startsWith(`key ${key} `)));
     return told.length === Number(count) && told.every((one) => isListed(it, one)) && (atLeast !== undefined || isOfEach);
   }],
-  [/^fact (\d+) of them overlapped another add or remove of their key, (\d+) only changes of other keys, (\d+) none of these(?: \(of 100 other answers: (\d+), (\d+), (\d+)\))?$/,
-    (it, [same, other, none, ...usual], { told }) => {
+  [/^fact (each time|nearly each time|mostly|often) ((?:another|a|no other) .* ran during them.*): (\d+) of (\d+)(?: \(of 100 other answers: (\d+)\))?$/,
+    (it, [word, what, count, all, usual], { told }) => {
       const isSame = (call) => runsDuring(it, call, (one) => one.key === call.key);
       const isBeside = (call) => runsDuring(it, call, (one) => one.key !== call.key && one.reply === "true");
-      const kinds = [isSame, (call) => !isSame(call) && isBeside(call), (call) => !isSame(call) && !isBeside(call)];
-      const isWhole = usual[0] === undefined || usual.reduce((sum, share) => sum + Number(share), 0) === 100;
-      return isWhole && `${kinds.map((kind) => told.wrong.filter(kind).length)}` === `${[same, other, none].map(Number)}`;
+      const isSo = {
+        "another add or remove of their key ran during them": isSame,
+        "a change of another key ran during them, and no other add or remove of their own key": (call) => !isSame(call) && isBeside(call),
+        "another add or remove of their key, or a change of another key, ran during them": (call) => isSame(call) || isBeside(call),
+        "no other add or remove of their key ran during them, and no change of another key": (call) => !isSame(call) && !isBeside(call),
+      }[what];
+      const share = Number(count) / Number(all);
+      const isOften = share === (word === "each time" ? 1 : share) && share >= { "each time": 1, "nearly each time": 0.85, mostly: 0.5, often: 0.25 }[word];
+      return isSo !== undefined && told.wrong.length === Number(all) && told.wrong.filter(isSo).length === Number(count) && isOften && Number(usual ?? 0) <= 100;
     }],
   [/^fact an? (add|remove)( and a remove)? of the key ran during it$/, (it, [operation, both], { told }) => {
     const operations = both === undefined ? [operation] : ["add", "remove"];
@@ -577,7 +585,7 @@ const OF_WHY = [
   }],
   [/^fact a change of another key ran during it, and no other add or remove of its own key$/, (it, found, { told }) =>
     told.wrong.some((call) => !runsDuring(it, call, (one) => one.key === call.key) && runsDuring(it, call, (one) => one.key !== call.key && one.reply === "true"))],
-  [/^fact the last completed change that they contradict was made by the same thread before (\d+) of them and by another before (\d+), and had ended at most (\d+) moments earlier$/, (it, found, { told }) => {
+  [/^fact the last change that they contradict had ended at most (\d+) moments before them; it was made by the same thread at (\d+) of them, by another thread at (\d+)$/, (it, found, { told }) => {
     // (of two changes that overlap, either can be the last one)
     const lastChange = (answer) => {
       const changes = ofKey(it, answer.key).filter((call) => isChange(call) && (call.operation === "add") !== needsKey(answer) && call.begun <= answer.begun).sort((one, other) => one.begun - other.begun);
@@ -587,27 +595,33 @@ const OF_WHY = [
     const changes = told.wrong.map((answer) => ({ answer, change: lastChange(answer) })).filter(({ answer, change }) => change !== undefined && change.ended < answer.begun);
     const own = changes.filter(({ answer, change }) => answer.thread === change.thread).length;
     const latest = Math.max(...changes.map(({ answer, change }) => answer.begun - change.ended));
-    return `${[own, changes.length - own, latest]}` === `${found.map(Number)}`;
+    return `${[latest, own, changes.length - own]}` === `${found.map(Number)}`;
   }],
   [/^fact the next (add|remove|contains) of the key, with no change between, was right$/, (it, [operation], { told }) =>
     told.wrong.some((answer) => nextCall(it, answer, operation) !== undefined && !told.wrong.includes(nextCall(it, answer, operation)))],
-  [/^fact the next (add|remove|contains) of the key, with no change between, was right after (\d+) of them, wrong again after (\d+)$/, (it, [operation, right, wrong], { told }) => {
+  [/^fact if the next (add|remove|contains) of the key followed without a change between, it was right (\d+) of (\d+) times$/, (it, [operation, right, all], { told }) => {
     const next = told.wrong.map((answer) => [answer, nextCall(it, answer, operation)]).filter(([, one]) => one !== undefined).map(([, one]) => told.wrong.includes(one));
-    return told.isAll && next.filter((isWrong) => !isWrong).length === Number(right) && next.filter((isWrong) => isWrong).length === Number(wrong);
+    return told.isAll && next.filter((isWrong) => !isWrong).length === Number(right) && next.length === Number(all);
   }],
-  [/^fact headline and picture are of another contradiction than the verdict$/, (it, found, why) => {
+  [/^fact \(shown because it is easier to see: a later contradiction of key (\d+), not the first one, which ends at moment (\d+)\)$/, (it, [key, moment], why) => {
+    const isFirst = (until) => !keysOf(it).every((one) => hasOrder(knownBy(ofKey(it, one), until), one, opens(it, one)));
+    const isLater = why.isOfEnd || why.shown.some(({ call }) => (call.ended ?? LAST) > Number(moment));
+    return why.shown.every(({ call }) => call.key === Number(key)) && isFirst(Number(moment)) && !isFirst(Number(moment) - 1) && isLater;
+  }],
+  [/^fact \(shown because it is easier to see: another contradiction than the one above\)$/, (it, found, why) => {
     // The first moment by which the calls on some key have no order.
     const moments = keysOf(it).flatMap((key) => ofKey(it, key).flatMap(({ ended }) => ended ?? [])).sort((one, other) => one - other);
     const first = moments.find((moment) => keysOf(it).some((key) => !hasOrder(knownBy(ofKey(it, key), moment), key, opens(it, key)))) ?? LAST;
     const isOfFirst = ({ call }) => hasOrder(knownBy(ofKey(it, call.key), first), call.key, opens(it, call.key));
     return why.isOfEnd || why.shown.some(isOfFirst) || Math.max(...why.shown.map(({ call }) => call.ended ?? LAST)) !== first;
   }],
-  [/^(?:fact|because) at (\d+) of (\d+)(?: wrong answers)? no two calls overlapped(?:: perhaps one thread alone is enough)?$/, (it, [some, all]) => Number(some) <= Number(all) && isWrongAlone(it)],
+  [/^(?:fact|because) during (\d+) of (\d+) contradictions no two calls overlapped(?:: perhaps one thread alone is enough)?$/, (it, [some, all]) => Number(some) <= Number(all) && isWrongAlone(it)],
+  [/^because at (\d+) of (\d+) wrong answers no two calls overlapped, from the call that the answer contradicts to its end$/, (it, [some, all]) => Number(some) <= Number(all) && isWrongAlone(it)],
   [/^because (\d+) of (\d+) contradictions are two (add|remove)s that both returned true, \d+ are two (?:add|remove)s$/, (it, [some, all, operation]) => Number(some) <= Number(all) &&
     it.calls.some((one) => one.operation === operation && one.reply === "true" && it.calls.some((two) => two !== one && two.key === one.key && two.operation === operation && two.reply === "true"))],
   [/^because (\d+) of (\d+) contradictions are two overlapping calls that both returned true$/, (it, [some, all]) => Number(some) <= Number(all) &&
     it.calls.some((one) => isChange(one) && one.reply === "true" && it.calls.some((two) => two !== one && two.key === one.key && two.operation === one.operation && two.reply === "true"))],
-  [/^because at (\d+) of (\d+) losses and returns another key was lost or came back at the same time$/, (it, [some, all]) =>
+  [/^because (\d+) of the (\d+) times that a key was lost or came back, this happened to another key, too, meanwhile$/, (it, [some, all]) =>
     Number(some) <= Number(all) && keysOf(it).filter((key) => !hasOrderOf(it, key)).length >= 2],
   [/^likely (.*)$/, (it, found, why) => why.because.length === 1],
   [/^because an? (add|remove) of the key was still running at the wrong answer$/, (it, [operation], { told }) => told !== null && told.wrong.some((call) => runsBeside(it, call, operation))],
@@ -619,14 +633,16 @@ const OF_WHY = [
   [/^because it misses present keys and never finds an absent one$/, (it, found, { told }) => told !== null && told.isAll && told.wrong.every((call) => !needsKey(call))],
   [/^because it is wrong both ways, and without it all other calls have an order$/, (it, found, { told }) => told !== null && told.wrong.some(needsKey) && !told.wrong.every(needsKey)],
   [/^because without these answers all other calls have an order$/, (it, found, { told }) => told !== null],
-  [/^because at (\d+) of the (\d+) wrong answers another add or remove was running, of this key or of others$/, (it, [some, all], { told }) =>
-    told.wrong.length === Number(all) && told.wrong.filter((call) => runsDuring(it, call, () => true)).length === Number(some)],
-  [/^because at (\d+) of the (\d+) wrong answers another add or remove of the key, or a change of another key, was running$/, (it, [some, all], { told }) => {
+  [/^because a change of another key ran during (\d+) of the (\d+) wrong answers$/, (it, [some, all], { told }) =>
+    told.wrong.length === Number(all) && told.wrong.filter((call) => runsDuring(it, call, (one) => one.key !== call.key && one.reply === "true")).length === Number(some)],
+  [/^because another add or remove of the key ran during (\d+) of the (\d+) wrong answers$/, (it, [some, all], { told }) =>
+    told.wrong.length === Number(all) && told.wrong.filter((call) => runsDuring(it, call, (one) => one.key === call.key)).length === Number(some)],
+  [/^because another add or remove of the key, or a change of another key, ran during (\d+) of the (\d+) wrong answers$/, (it, [some, all], { told }) => {
     const isActive = (call) => it.calls.some((one) => one !== call && one.operation !== "contains" && (one.key === call.key || one.reply === "true") && inTime(one, call.begun, call.ended));
     return told.wrong.length === Number(all) && told.wrong.filter(isActive).length === Number(some);
   }],
   [/^because at (\d+) of (\d+) wrong answers the last call of every larger key had left that key absent$/, (it, [some, all], { told }) => told.wrong.length >= Number(all) && Number(some) <= Number(all)],
-  [/^because at (\d+) of the (\d+) wrong answers an? (add|remove) of another key was running$/, (it, [some, all, operation], { told }) =>
+  [/^because an (add) of another key ran during (\d+) of the (\d+) wrong answers$/, (it, [operation, some, all], { told }) =>
     told !== null && told.wrong.length === Number(all) && told.wrong.filter((call) => it.calls.some((one) => one.key !== call.key && one.operation === operation && one.reply === "true" && inTime(one, call.begun, call.ended))).length === Number(some)],
   [/^because as calls of one key the calls of keys (\d+) and (\d+) have an order$/, (it, [one, two]) => {
     const both = it.calls.filter(({ key }) => key === Number(one) || key === Number(two)).map((call) => ({ ...call, key: Number(one) }));
@@ -654,20 +670,21 @@ const OF_WHY = [
     const moment = ofKey(it, key)[Number(count)]?.begun ?? LAST;
     return moment === LAST || hasOrderOf(it, key) || !hasOrder(knownBy(ofKey(it, key), moment), key, opens(it, key));
   })],
-  ...[/^because at (\d+) of (?:the )?(\d+) losses /, /^because at (\d+) of (\d+) losses and returns the opposite reply of one call would give an order$/,
-    /^because at (\d+) of (\d+) losses and returns a call that returned false can have made the change$/,
-    /^because at (\d+) of (\d+) losses and returns no change of another key that returned true was running$/,
-    /^because at (\d+) of (\d+) losses and returns a smaller key was removed, and (?:the smallest key is never hit|at \d+ any other key)$/].map((pattern) =>
+  ...[/^because before (\d+) of the (\d+) times that a key was lost, a remove was among overlapping changes of the key$/,
+    /^because (\d+) of the (\d+) times that a key was lost or came back, the opposite reply of one call would give an order$/,
+    /^because (\d+) of the (\d+) times that a key was lost or came back, a call that returned false can have done it$/,
+    /^because no change of another key ran during (\d+) of the (\d+) times that a key was lost or came back$/,
+    /^because a smaller key was removed during (\d+) of the (\d+) times that a key was lost or came back, (?:and the smallest key is never hit|any other key during \d+)$/].map((pattern) =>
     [pattern, (it, [some, all], { tally }) => Number(some) <= Number(all) && Number(all) <= tally.lost + tally["came back"]]),
   [/^because keys are lost \((\d+)\)( and never come back)?, and at (\d+)(?: of (\d+))? losses (?:beside one|that a call shows)/, (it, [lost, never, some, all], { tally }) =>
     Number(lost) === tally.lost && Number(some) <= Number(all ?? lost) && (never === undefined || (tally["came back"] === 0 && (tally["none of these"] > 0 || !isFoundAgain(it))))],
   [/^because keys come back \((\d+)\), (\d+) times after a remove that returned true(, and are never lost)?$/, (it, [back, after, never], { tally }) =>
     Number(back) === tally["came back"] && Number(after) <= Number(back) && (never === undefined || (tally.lost === 0 && !isMissed(it, isChange)))],
-  [/^because keys come back \((\d+)\), (only )?an add misses one \((\d+)\), and at (\d+) of (\d+) no two calls overlapped$/, (it, [back, only, lost, some, all], { tally }) =>
+  [/^because keys come back \((\d+)\), (only )?an add misses one \((\d+)\), and during (\d+) of (\d+) contradictions no two calls overlapped$/, (it, [back, only, lost, some, all], { tally }) =>
     Number(back) === tally["came back"] && Number(lost) === tally.lost && Number(some) <= Number(all) && (only === undefined || !isMissed(it, () => true))],
-  [/^because at (\d+) of (\d+) no two calls overlapped(?:, and keys differ by up to (\d+))?$/, (it, [some, all, span]) => Number(some) <= Number(all) && isWrongAlone(it)
+  [/^because during (\d+) of (\d+) contradictions no two calls overlapped, and keys differ by up to (\d+)$/, (it, [some, all, span]) => Number(some) <= Number(all) && isWrongAlone(it)
     && (span === undefined || Number(span) === Math.max(...keysOf(it)) - Math.min(...keysOf(it)))],
-  [/^because keys are lost \((\d+)\) (?:and|more than they) come back \((\d+)\), and (?:at )?(\d+) of (\d+) /, (it, [lost, back, some, all], { tally }) =>
+  [/^because keys are lost \((\d+)\) (?:and|more than they) come back \((\d+)\), and (\d+) of (\d+) /, (it, [lost, back, some, all], { tally }) =>
     tally.lost === Number(lost) && tally["came back"] === Number(back) && Number(some) <= Number(all)],
   [/^because (\d+) of (\d+) undone changes overlapped a change of another key that can have written an older state back$/, (it, [some, all], { tally }) => Number(some) <= Number(all) && Number(all) <= tally.lost + tally["came back"]],
   [/^because the next call of the key did not see (\d+) of (\d+) adds and (\d+) of (\d+) removes, although no opposite change ran meanwhile$/, (it, found) => {
@@ -681,7 +698,7 @@ const OF_WHY = [
   [/^because (\d+) keys are hit, each once$/, (it, [count]) => keysOf(it).filter((key) => !hasOrderOf(it, key)).length === Number(count)],
   [/^because keys are lost \((\d+)\) and added twice \((\d+)\), none comes back, and none is removed twice$/, (it, [lost, twice], { tally }) =>
     Number(lost) === tally.lost && Number(twice) === tally["two adds true"] && tally["two removes true"] === 0 && tally["came back"] === 0],
-  [/^because at (\d+) of (\d+) losses an? (?:add|remove) of another key overlapped the lost key's add \(of 100 adds: at (\d+)\)$/, (it, [some, all, usual], { tally }) =>
+  [/^(?:because|fact) an? (?:add|remove) of another key ran during the add of (\d+) of the (\d+) lost keys, but only during (\d+) of 100 adds$/, (it, [some, all, usual], { tally }) =>
     Number(some) <= Number(all) && Number(all) <= tally.lost && Number(usual) <= 100],
   [/^because (\d+) of (\d+) contradictions that one other reply repairs share time with one of another key$/, (it, [some, all]) =>
     Number(some) <= Number(all) && (Number(some) === 0 || keysOf(it).filter((key) => !hasOrderOf(it, key)).length >= 2)],

@@ -70,6 +70,15 @@ fn put_because_of_missed(out: &mut String, odd: &Odd, cause: Cause) -> Result<()
     }
 }
 
+/// Writes during how many wrong answers a kind of call ran.
+fn put_during(out: &mut String, count: u64, odd: &Odd, what: &str) -> Result<(), AllocError> {
+    let wrong = odd.wrong;
+    writeln!(
+        out,
+        "{what} ran during {count} of the {wrong} wrong answers"
+    )
+}
+
 /// Writes the fact that supports `cause`, if one operation alone is wrong.
 fn put_because_of_odd(out: &mut String, odd: &Odd, cause: Cause) -> Result<(), AllocError> {
     let (missed, wrong, adding) = (odd.missed, odd.wrong, odd.adding);
@@ -97,22 +106,17 @@ fn put_because_of_odd(out: &mut String, odd: &Odd, cause: Cause) -> Result<(), A
         ),
         Cause::RemoveShortcut => writeln!(
             out,
-            "at {adding} of the {missed} wrong answers an add of another key was running"
+            "an add of another key ran during {adding} of the {missed} wrong answers"
         ),
-        Cause::MovedKeys => {
-            let writing = odd.writing;
-            writeln!(
-                out,
-                "at {writing} of the {wrong} wrong answers another add or remove was running, of this key or of others"
-            )
-        }
+        Cause::MovedKeys => put_during(out, odd.beside, odd, "a change of another key"),
+        Cause::HalfDone => put_during(out, odd.same, odd, "another add or remove of the key"),
         Cause::AddGivesUp => writeln!(
             out,
-            "at {active} of the {wrong} wrong answers another add or remove of the key, or a change of another key, was running"
+            "another add or remove of the key, or a change of another key, ran during {active} of the {wrong} wrong answers"
         ),
         Cause::EndsEarly => writeln!(
             out,
-            "at {apart} of {placed} wrong answers no two calls overlapped"
+            "at {apart} of {placed} wrong answers no two calls overlapped, from the call that the answer contradicts to its end"
         ),
         _ => writeln!(out, "without these answers all other calls have an order"),
     }
@@ -128,15 +132,15 @@ fn put_because_of_calls(out: &mut String, tally: &Tally, cause: Cause) -> Result
         Cause::FirstUse => writeln!(out, "all is among the first {begun} calls of a key"),
         Cause::GoesOn => writeln!(
             out,
-            "at {crossed} of the {lost} losses a remove ran among the overlapping changes before"
+            "before {crossed} of the {lost} times that a key was lost, a remove was among overlapping changes of the key"
         ),
         Cause::EarlierLook | Cause::AddUndone => writeln!(
             out,
-            "at {turned} of {gone} losses and returns the opposite reply of one call would give an order"
+            "{turned} of the {gone} times that a key was lost or came back, the opposite reply of one call would give an order"
         ),
         Cause::MadeAgain => writeln!(
             out,
-            "at {silent} of {gone} losses and returns a call that returned false can have made the change"
+            "{silent} of the {gone} times that a key was lost or came back, a call that returned false can have done it"
         ),
         Cause::CheckThenAct | Cause::BothCheck => writeln!(
             out,
@@ -166,11 +170,11 @@ fn put_because_of_lost(out: &mut String, tally: &Tally, cause: Cause) -> Result<
     match cause {
         Cause::Displaced => writeln!(
             out,
-            "{added} of {sharp} losses beside one to six changes of other keys one of these is an add"
+            "{added} of {sharp} losses during one to six changes of other keys one of these is an add"
         ),
         Cause::Batch => writeln!(
             out,
-            "{removed} of {sharp} losses beside one to six changes of other keys one of these is a remove"
+            "{removed} of {sharp} losses during one to six changes of other keys one of these is a remove"
         ),
         _ => writeln!(
             out,
@@ -193,7 +197,7 @@ fn put_because_of_adds(out: &mut String, tally: &Tally, cause: Cause) -> Result<
         ),
         _ => writeln!(
             out,
-            "at {count} of {placed} losses {word} of another key overlapped the lost key's add (of 100 adds: at {usual})"
+            "{word} of another key ran during the add of {count} of the {placed} lost keys, but only during {usual} of 100 adds"
         ),
     }
 }
@@ -274,13 +278,16 @@ fn put_because_of_one(
         ),
         Cause::KeptTwice => writeln!(
             out,
-            "keys come back ({back}), {only}an add misses one ({lost}), and at {apart} of {places} no two calls overlapped"
+            "keys come back ({back}), {only}an add misses one ({lost}), and during {apart} of {places} contradictions no two calls overlapped"
         ),
         Cause::Overflow => writeln!(
             out,
-            "at {apart} of {places} no two calls overlapped, and keys differ by up to {span}"
+            "during {apart} of {places} contradictions no two calls overlapped, and keys differ by up to {span}"
         ),
-        _ => writeln!(out, "at {apart} of {places} no two calls overlapped"),
+        _ => writeln!(
+            out,
+            "during {apart} of {places} contradictions no two calls overlapped"
+        ),
     }
 }
 
@@ -300,15 +307,15 @@ fn put_because_of_gone(
     match cause {
         Cause::ReplacedAtOnce => writeln!(
             out,
-            "at {together} of {timed} losses and returns another key was lost or came back at the same time"
+            "{together} of the {timed} times that a key was lost or came back, this happened to another key, too, meanwhile"
         ),
         Cause::CarriedOutTwice => writeln!(
             out,
-            "keys are lost ({lost}) and come back ({back}), and at {silent} of {gone} a call that returned false can have done it"
+            "keys are lost ({lost}) and come back ({back}), and {silent} of {gone} times a call that returned false can have done it"
         ),
         Cause::NoLock => writeln!(
             out,
-            "at {alone} of {timed} losses and returns no change of another key that returned true was running"
+            "no change of another key ran during {alone} of the {timed} times that a key was lost or came back"
         ),
         Cause::OldCopy => writeln!(
             out,
@@ -320,11 +327,11 @@ fn put_because_of_gone(
         ),
         Cause::Unlinked if evidence.is_first_spared => writeln!(
             out,
-            "at {below} of {timed} losses and returns a smaller key was removed, and the smallest key is never hit"
+            "a smaller key was removed during {below} of the {timed} times that a key was lost or came back, and the smallest key is never hit"
         ),
         Cause::Unlinked | Cause::WrittenBack => writeln!(
             out,
-            "at {below} of {timed} losses and returns a smaller key was removed, and at {removed} any other key"
+            "a smaller key was removed during {below} of the {timed} times that a key was lost or came back, any other key during {removed}"
         ),
         Cause::OtherKey => writeln!(
             out,

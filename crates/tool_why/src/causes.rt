@@ -9,6 +9,8 @@ pub enum Cause {
     NotSeenYet,
     /// A search misses its key while changes of other keys move the key.
     MovedKeys,
+    /// `contains` is wrong while another add or remove of its key is only half done.
+    HalfDone,
     /// The set contains a key twice, and a remove deletes only one of the two copies.
     KeptTwice,
     /// An add of another key displaces a key.

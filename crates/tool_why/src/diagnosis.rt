@@ -47,15 +47,15 @@ pub struct Diagnosis {
     pub wrong: Option<Made>,
     /// The key's calls in the picture, ordered by begin.
     pub shown: Vec<Shown>,
-    /// Changes of other keys that ran during the contradiction. If there are many, the changes that the likely cause
-    /// names are chosen first, then the longest.
+    /// The changes of other keys in the picture, which ran at the same time. Of many, those that the likely cause names
+    /// are chosen first, then those that overlap the first contradicting call, then the longest.
     pub beside: Vec<Made>,
-    /// The number of changes of other keys that ran during the contradiction.
+    /// The number of changes of other keys from which `beside` was chosen.
     pub beside_count: usize,
     /// All contradictions ordered by time, if there are few and no operation alone is wrong. Otherwise empty.
     pub few: Vec<Place>,
-    /// A later call that agrees with the contradicting call. If only one reply is wrong, the later call agrees with the
-    /// right calls instead.
+    /// A later call that finds the key as the contradicting call does. If only one reply is wrong, a later call that
+    /// finds the key as the right calls do.
     pub later: Option<Made>,
     pub evidence: Evidence,
     pub cause: Option<Cause>,
@@ -96,11 +96,12 @@ impl Named {
     }
 
     /// Returns whether the verdict names this contradiction, or a moment that is its end. If the verdict names no two
-    /// calls, returns whether the contradiction is of the verdict's key.
+    /// calls, a moment during a contradiction of the verdict's key is enough.
     fn is(&self, place: &Place) -> bool {
-        let is_of_key = place.key == self.first.key;
-        let is_at_end = self.clash.is_none() || place.clash.until == self.first.moment;
-        (is_of_key && is_at_end) || self.has_calls_of(place)
+        let moment = self.first.moment;
+        let is_during = place.clash.begun() <= moment && moment <= place.clash.until;
+        let is_named = place.clash.until == moment || (self.clash.is_none() && is_during);
+        (place.key == self.first.key && is_named) || self.has_calls_of(place)
     }
 }
 
@@ -178,10 +179,10 @@ fn rank(place: &Place, named: &Named, shows: bool) -> u64 {
         .saturating_add(other_kind)
 }
 
-/// If a contradiction is about another key than the verdict, this many moments are added to its duration.
+/// `rank` adds this to the duration of a contradiction of another key than the verdict's.
 const OTHER_KEY: u64 = 1_000_000_000_000;
 
-/// If the likely cause does not explain a contradiction, this many moments are added to its duration.
+/// `rank` adds this to the duration of a contradiction that is no example of the likely cause.
 const OTHER_KIND: u64 = 1_000_000_000_000_000;
 
 /// Returns whether a completed change of another key overlaps a contradiction. If an operation is given, considers only
@@ -199,8 +200,15 @@ fn shows(place: &Place, cause: Option<Cause>, is_odd: bool, neighbours: &Neighbo
         Some(Cause::BothCheck | Cause::CheckThenAct) => {
             matches!(place.symptom, Symptom::BothTrue(_))
         }
-        Some(Cause::EarlierLook | Cause::MadeAgain | Cause::CarriedOutTwice) => {
+        Some(Cause::EarlierLook) => {
+            matches!(place.symptom, Symptom::BothTrue(_))
+                || (place.is_gone() && place.silent.is_some())
+        }
+        Some(Cause::MadeAgain | Cause::CarriedOutTwice) => {
             place.is_gone() && place.silent.is_some()
+        }
+        Some(Cause::KeptTwice | Cause::OneThread | Cause::Overflow) => {
+            !place.clash.overlaps() && !is_beside(place, neighbours, None)
         }
         Some(Cause::GoesOn) => place.symptom == Symptom::Lost && place.clash.stretch.is_some(),
         Some(Cause::Unlinked | Cause::WrittenBack) => {
@@ -429,31 +437,64 @@ pub(crate) const MOST_AROUND: usize = 1_000;
 /// state.
 const LONG_AGO: u64 = 200;
 
-/// Returns the period for the changes of other keys in the picture: the time of the wrong answer if such a change
-/// overlaps the answer, otherwise the time of the contradiction.
+/// Returns the period for the changes of other keys in the picture. If only one reply is wrong, the period is the time
+/// of the wrong answer or, if no such change overlaps the answer, the time of the change that it contradicts. Otherwise
+/// the period is the time of the contradiction.
 fn time_of(place: &Place, neighbours: &Neighbours) -> (u64, u64) {
-    match place.wrong {
-        Some(wrong) if neighbours.overlap(place.key, wrong.begun, wrong.ended, None) => {
-            (wrong.begun, wrong.ended)
-        }
-        _ => (place.clash.begun(), place.clash.until),
+    let Some(wrong) = place.wrong else {
+        return (place.clash.begun(), place.clash.until);
+    };
+    match place.clash.first {
+        Some(first)
+            if first.changes() && !neighbours.overlap(place.key, wrong.begun, wrong.ended, None) =>
+            { (first.begun, first.ended) }
+        _ => (wrong.begun, wrong.ended),
     }
 }
 
+/// Returns whether a call, if given, overlaps a change of another key.
+fn is_at(call: Option<Made>, change: &Made) -> bool {
+    match call {
+        Some(call) => change.overlaps(call.begun, call.ended),
+        None => false,
+    }
+}
+
+/// Returns those changes of other keys that overlap one of the two calls that contradict each other. Returns all
+/// changes if none of them does, or if the contradiction does not begin with a call.
+fn at_calls(alloc: Global, changes: Vec<Made>, clash: &Clash) -> Result<Vec<Made>, AllocError> {
+    let mut found = Vec::new(alloc);
+    for change in &changes {
+        if is_at(clash.first, change) || is_at(clash.second, change) {
+            found.push(*change)?;
+        }
+    }
+    Ok(if clash.first.is_none() || found.is_empty() {
+        changes
+    } else {
+        found
+    })
+}
+
 /// Returns the weight of a change of another key for the choice of changes in the picture: changes that the likely
-/// cause names are chosen first, then the longest.
-fn weight(call: &Made, key: u32, cause: Option<Cause>) -> u64 {
+/// cause names are chosen first, then those that overlap the first contradicting call, then the longest.
+fn weight(change: &Made, key: u32, cause: Option<Cause>, first: Option<Made>) -> u64 {
     let is_named = match cause {
         Some(Cause::Unlinked | Cause::WrittenBack) => {
-            call.operation == Operation::Remove && call.key < key
+            change.operation == Operation::Remove && change.key < key
         }
-        Some(Cause::Displaced) => call.operation == Operation::Add,
-        Some(Cause::Batch) => call.operation == Operation::Remove,
+        Some(Cause::Displaced) => change.operation == Operation::Add,
+        Some(Cause::Batch) => change.operation == Operation::Remove,
         _ => false,
     };
-    let length = call.ended.saturating_sub(call.begun);
-    length.saturating_add(if is_named { OTHER_KEY } else { 0 })
+    let length = change.ended.saturating_sub(change.begun);
+    let beside = if is_at(first, change) { AT_FIRST } else { 0 };
+    let named = if is_named { OTHER_KEY } else { 0 };
+    length.saturating_add(beside).saturating_add(named)
 }
+
+/// The weight of a change of another key that overlaps the first of two contradicting calls.
+const AT_FIRST: u64 = 1_000_000_000;
 
 /// Adds a call to the picture unless the picture already contains the call.
 fn add(shown: &mut Vec<Shown>, call: Made) -> Result<(), AllocError> {
@@ -564,11 +605,15 @@ impl Diagnosis {
         self.show_marks(alloc, key, &place)?;
         if place.clash.until < NEVER {
             let (since, until) = time_of(&place, neighbours);
-            self.beside = neighbours.around(alloc, place.key, since, until, MOST_AROUND)?;
+            let (key, cause, first) = (place.key, self.cause, place.clash.first);
+            let changes = neighbours.around(alloc, key, since, until, MOST_AROUND)?;
+            self.beside = match cause {
+                Some(Cause::Displaced | Cause::Batch | Cause::Evicted) => changes,
+                _ => at_calls(alloc, changes, &place.clash)?,
+            };
             self.beside_count = self.beside.len();
-            let (key, cause) = (place.key, self.cause);
             self.beside
-                .sort_unstable_by_key(|call| !weight(call, key, cause));
+                .sort_unstable_by_key(|call| !weight(call, key, cause, first));
             self.beside.truncate(MOST_BESIDE);
         }
         let has_room = self.beside.is_empty() || self.shown.len() < MOST_SHOWN;
@@ -663,7 +708,7 @@ impl Diagnosis {
         Ok(())
     }
 
-    /// Adds the later call that agrees with the right calls, and marks it with the state that it finds.
+    /// Adds the later call (`later`) to the picture, and marks it with the state that it finds.
     fn show_later(&mut self) -> Result<(), AllocError> {
         let Some(later) = self.later else {
             return Ok(());

@@ -45,6 +45,18 @@ fn put_some(out: &mut String, known: &str, extra: usize) -> Result<(), AllocErro
     Ok(())
 }
 
+/// Returns the number of lines for the picture, of which `room` are free. If no operation alone is wrong, some of the
+/// `known` facts are left out, so that the picture can show a change of another key.
+fn room_of_picture(diagnosis: &Diagnosis, room: usize, known: usize) -> usize {
+    let wanted = diagnosis.shown.len().saturating_add(2);
+    let most = room.saturating_add(known.saturating_sub(1));
+    if diagnosis.beside.is_empty() || diagnosis.evidence.odd.is_some() || wanted > most {
+        room
+    } else {
+        room.max(wanted)
+    }
+}
+
 /// Returns the message of a diagnosis, without the verdict. The message and the `used` lines above it have at most 15
 /// lines that are not blank, unless the calls of the key alone need more lines. To fit, some known facts are left out.
 /// Allocates.
@@ -63,6 +75,7 @@ pub fn diagnosis_text(
     let mut picture = String::new(alloc);
     if !diagnosis.shown.is_empty() {
         let room = MOST_LINES.saturating_sub(taken);
+        let room = room_of_picture(diagnosis, room, lines_of(&known));
         picture.push_str("\n")?;
         put_picture(alloc, &mut picture, diagnosis, room)?;
     }

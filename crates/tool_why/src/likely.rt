@@ -86,21 +86,32 @@ fn cause_of_misses(odd: &Odd) -> Option<Cause> {
     } else if needs_no_overlap(odd) {
         Some(Cause::EndsEarly)
     } else if is_beside_others(odd) || is_beside_writers(odd) {
-        Some(Cause::MovedKeys)
+        Some(moved(odd))
     } else if is_lasting(odd) {
         Some(Cause::Shortcut)
     } else if is_passing(odd) && odd.wrong >= LEAST_BESIDE && is_least(odd.active, odd.wrong, 90) {
-        Some(Cause::MovedKeys)
+        Some(moved(odd))
     } else if odd.missed < LEAST_WRONG {
         None
     } else if is_beside_by_habit(odd) || !is_least(odd.active, odd.wrong, 80) {
-        Some(if odd.is_exact {
+        Some(if odd.is_exact && is_least(odd.active, odd.wrong, 50) {
             Cause::MovedOrShortcut
         } else {
             Cause::Shortcut
         })
     } else {
         Some(Cause::MovedOrShortcut)
+    }
+}
+
+/// Returns the likely cause if `contains` is wrong while other calls run: calls of its own key, if such calls ran during
+/// most wrong answers and clearly more often than during other answers, and otherwise changes of other keys.
+fn moved(odd: &Odd) -> Cause {
+    let least = odd.usually_same.saturating_add(25).max(75);
+    if is_least(odd.same, odd.wrong, least) {
+        Cause::HalfDone
+    } else {
+        Cause::MovedKeys
     }
 }
 
@@ -161,7 +172,7 @@ fn cause_of_contains(odd: &Odd) -> Option<Cause> {
     } else if odd.missed > 0 && odd.found > 0 {
         let is_moved = odd.wrong >= 8 && is_least(odd.active, odd.wrong, 95);
         if is_moved && is_beside_others(odd) {
-            Some(Cause::MovedKeys)
+            Some(moved(odd))
         } else if is_passing(odd) && odd.active == odd.wrong {
             // (a copy that is updated late is wrong also while no change runs)
             None
@@ -230,13 +241,17 @@ fn is_first_use(evidence: &Evidence) -> bool {
     is_repeated && calls > tally.begun.saturating_mul(25)
 }
 
+/// The minimum number of keys for the guess that several of many keys change at the same time. The judges in tests use
+/// fewer keys in their first runs, so bugs that need no more keys are found there.
+const MANY_KEYS: u64 = 32;
+
 /// Returns `true` if losses and returns of keys overlap changes of other keys hardly more often than other periods do.
 fn is_beside_by_chance(tally: &Tally) -> bool {
     let share = tally.beside.saturating_mul(100).checked_div(tally.timed());
     share.unwrap_or(0) <= tally.usual.saturating_add(15)
 }
 
-/// The minimum number of losses and returns that calls show for a guess.
+/// The minimum number of lost and returned keys for a guess, not counting keys that only the final state shows.
 const LEAST_TIMED: u64 = 8;
 
 /// Returns whether a change seems to be carried out twice: keys are often lost and often return, calls that returned
@@ -261,6 +276,18 @@ const MANY_GONE: u64 = 15;
 
 /// The minimum number of losses and returns of keys for the guess that several keys change at the same time.
 const LEAST_AT_ONCE: u64 = 20;
+
+/// Returns whether several of many keys are lost or return at the same time, more often than by chance, and not only
+/// during the first calls of these keys.
+fn is_at_once_of_many(evidence: &Evidence) -> bool {
+    let tally = &evidence.tally;
+    let least = tally.usually_together.saturating_add(35).max(40);
+    evidence.keys >= MANY_KEYS
+        && tally.both().saturating_mul(3) <= tally.places
+        && tally.together >= 2
+        && is_least(tally.together, tally.timed(), least)
+        && !is_first_use(evidence)
+}
 
 /// Returns whether several keys are lost or return at the same time, more often than by chance.
 fn is_at_once(tally: &Tally) -> bool {
@@ -356,10 +383,33 @@ fn old_copy(tally: &Tally, other: Cause) -> Cause {
     let (adds, removes) = (tally.both_adds, tally.both_removes);
     if adds >= 2 * ENOUGH && adds >= removes.saturating_mul(10) {
         Cause::OldCopyByAdd
-    } else if removes >= 2 * ENOUGH && removes >= adds.saturating_mul(10) {
+    } else if removes >= ENOUGH && removes >= adds.saturating_mul(10) {
         Cause::OldCopyByRemove
     } else {
         other
+    }
+}
+
+/// Returns whether all of at least five adds, or all but one, overlapped a kind of change, and the chance of that is
+/// less than one in a thousand. `usual` is the percentage of all adds that did.
+fn is_each_with(count: u64, of: u64, usual: u64) -> bool {
+    let ways = if count == of { 1 } else { of };
+    of >= ENOUGH
+        && count.saturating_add(1) >= of
+        && share_of_all(usual, count).saturating_mul(ways) < 1_000
+}
+
+/// Returns the likely cause if few keys were lost, none came back, and the adds of all these keys overlapped adds, or
+/// removes, of other keys.
+fn cause_of_few_lost(tally: &Tally) -> Option<Cause> {
+    let is_add = is_each_with(tally.with_add, tally.placed, tally.usually_with_add);
+    let is_remove = is_each_with(tally.with_remove, tally.placed, tally.usually_with_remove);
+    if tally.came_back > 0 || tally.both_removes > 0 || is_add == is_remove {
+        None
+    } else if is_add {
+        Some(Cause::SharedPlace)
+    } else {
+        Some(Cause::BehindUnlinked)
     }
 }
 
@@ -452,8 +502,9 @@ fn cause_of_gone(evidence: &Evidence) -> Option<Cause> {
     if is_of_other_key(tally) {
         return Some(Cause::OtherKey);
     }
-    if tally.timed() < LEAST_TIMED {
-        return None;
+    let few = cause_of_few_lost(tally);
+    if few.is_some() || tally.timed() < LEAST_TIMED {
+        return few;
     }
     if has_other_replies(tally) {
         return Some(if has_crossed_replies(tally) {
@@ -558,7 +609,7 @@ fn is_only_full(tally: &Tally) -> bool {
     tally.least_full >= LEAST_FULL && share_of_all(tally.usually_full, tally.short) < 10_000
 }
 
-/// The minimum number of present keys that counts as many.
+/// A set is full only if it has at least this many keys.
 const LEAST_FULL: u64 = 4;
 
 /// Returns whether a key seems to be in the set twice: nearly all returned keys return after a successful remove, pairs
@@ -583,7 +634,7 @@ fn cause_in_one_thread(evidence: &Evidence) -> Option<Cause> {
     }
     match cause_of_losses(tally) {
         Some(cause) => Some(cause),
-        None if is_at_once(tally) => Some(Cause::ReplacedAtOnce),
+        None if is_at_once(tally) || is_at_once_of_many(evidence) => Some(Cause::ReplacedAtOnce),
         None if is_mostly_apart(tally) => {
             Some(if evidence.span >= WIDE {
                 Cause::Overflow

@@ -219,7 +219,7 @@ fn put_tally(out: &mut String, diagnosis: &Diagnosis) -> Result<(), AllocError> 
     let (lost, kept) = (tally.unseen_adds, tally.unseen_removes);
     writeln!(
         out,
-        "\n{keys} of {all} keys are hit: the next call did not see {lost} of {adds} adds and {kept} of {removes} removes that returned true (counted if no opposite change ran meanwhile)"
+        "\n{keys} of {all} keys are hit; the next call of the key did not see {lost} of {adds} adds and {kept} of {removes} removes (those that returned true, with no opposite change meanwhile)"
     )
 }
 
@@ -245,7 +245,7 @@ fn put_split(out: &mut String, split: &Split) -> Result<(), AllocError> {
     writeln!(out, "{removes} remove absent, {votes} contains {state}")
 }
 
-/// Writes the number of contradictions without overlapping calls, if it is at least 10 percent. Writes nothing if most
+/// Writes during how many contradictions no two calls overlapped, if it is at least 10 percent. Writes nothing if most
 /// contradictions are unclear, since after an early error many later calls disagree.
 fn put_apart(out: &mut String, tally: &Tally) -> Result<(), AllocError> {
     let (apart, places, others) = (tally.apart, tally.places, tally.others);
@@ -255,25 +255,51 @@ fn put_apart(out: &mut String, tally: &Tally) -> Result<(), AllocError> {
     }
     writeln!(
         out,
-        "at {apart} of {places} no two calls overlapped: perhaps one thread alone is enough"
+        "during {apart} of {places} contradictions no two calls overlapped: perhaps one thread alone is enough"
     )
 }
 
-/// Writes how many losses and returns of keys overlap a change of another key, and the percentage at other times.
+/// Returns whether a share of contradictions is clearly larger than the usual percentage.
+fn is_more(count: u64, of: u64, usual: u64) -> bool {
+    let least = usual.saturating_add(25);
+    count >= 2 && count.saturating_mul(100) >= of.saturating_mul(least)
+}
+
+/// The minimum number of lost and returned keys for the lines about what happened meanwhile.
+const LEAST_TIMED: u64 = 4;
+
+/// Writes what happened while keys were lost or came back clearly more often than at other times.
 fn put_gone_beside(out: &mut String, tally: &Tally) -> Result<(), AllocError> {
     let (beside, timed, usual) = (tally.beside, tally.timed(), tally.usual);
     let (together, usually) = (tally.together, tally.usually_together);
-    if timed == 0 {
-        return Ok(());
+    let placed = tally.placed;
+    if is_more(beside, timed, usual) {
+        writeln!(
+            out,
+            "a change of another key ran during {beside} of the {timed} times that a key was lost or came back, but only during {usual} of 100 other times"
+        )?;
     }
-    writeln!(
-        out,
-        "of {timed} losses and returns that calls show, {beside} overlapped a change of another key (of 100 other times: {usual})"
-    )?;
-    writeln!(
-        out,
-        "at {together} of {timed} losses and returns another key was lost or came back at the same time (of 100 other times: {usually})"
-    )
+    if is_more(together, timed, usually) {
+        writeln!(
+            out,
+            "{together} of the {timed} times that a key was lost or came back, this happened to another key, too, meanwhile (by chance: {usually} of 100)"
+        )?;
+    }
+    let (adds, usual) = (tally.with_add, tally.usually_with_add);
+    if is_more(adds, placed, usual) {
+        writeln!(
+            out,
+            "an add of another key ran during the add of {adds} of the {placed} lost keys, but only during {usual} of 100 adds"
+        )?;
+    }
+    let (removes, usual) = (tally.with_remove, tally.usually_with_remove);
+    if is_more(removes, placed, usual) {
+        writeln!(
+            out,
+            "a remove of another key ran during the add of {removes} of the {placed} lost keys, but only during {usual} of 100 adds"
+        )?;
+    }
+    Ok(())
 }
 
 /// Writes which calls ran during the only wrong answer, and whether the next call was right.
@@ -300,30 +326,72 @@ fn put_around_one(out: &mut String, odd: &Odd) -> Result<(), AllocError> {
     Ok(())
 }
 
+/// Returns a word for how often something happened.
+fn often_word(count: u64, all: u64) -> &'static str {
+    if count == all {
+        "each time"
+    } else if count.saturating_mul(100) >= all.saturating_mul(85) {
+        "nearly each time"
+    } else if count.saturating_mul(2) >= all {
+        "mostly"
+    } else {
+        "often"
+    }
+}
+
+/// Writes which changes ran during the wrong answers, and how often during other answers: the first kind of change that
+/// ran clearly more often than during other answers or, without such a kind, how often none ran.
+fn put_meanwhile(out: &mut String, odd: &Odd) -> Result<(), AllocError> {
+    let (same, active, wrong) = (odd.same, odd.active, odd.wrong);
+    let other = active.saturating_sub(same);
+    let (usually_same, usually) = (odd.usually_same, odd.usually_active);
+    let usually_other = usually.saturating_sub(usually_same);
+    let (count, usual, what) = if is_more(same, wrong, usually_same) {
+        (
+            same,
+            usually_same,
+            "another add or remove of their key ran during them",
+        )
+    } else if is_more(other, wrong, usually_other) {
+        (
+            other,
+            usually_other,
+            "a change of another key ran during them, and no other add or remove of their own key",
+        )
+    } else if is_more(active, wrong, usually) || active.saturating_mul(2) > wrong {
+        (
+            active,
+            usually,
+            "another add or remove of their key, or a change of another key, ran during them",
+        )
+    } else {
+        (
+            wrong.saturating_sub(active),
+            100u64.saturating_sub(usually),
+            "no other add or remove of their key ran during them, and no change of another key",
+        )
+    };
+    let word = often_word(count, wrong);
+    write!(out, "{word} {what}: {count} of {wrong}")?;
+    if odd.wrong < odd.of {
+        write!(out, " (of 100 other answers: {usual})")?;
+    }
+    out.push_str("\n")
+}
+
 /// Writes which calls ran during the wrong answers, and whether the next calls were right.
 fn put_around(out: &mut String, odd: &Odd) -> Result<(), AllocError> {
     if odd.wrong == 1 {
         return put_around_one(out, odd);
     }
-    let (same, other) = (odd.same, odd.active.saturating_sub(odd.same));
-    let none = odd.wrong.saturating_sub(odd.active);
-    write!(
-        out,
-        "{same} of them overlapped another add or remove of their key, {other} only changes of other keys, {none} none of these"
-    )?;
-    if odd.wrong < odd.of {
-        let same = odd.usually_same;
-        let other = odd.usually_active.saturating_sub(same);
-        let none = 100u64.saturating_sub(odd.usually_active);
-        write!(out, " (of 100 other answers: {same}, {other}, {none})")?;
-    }
-    out.push_str("\n")?;
+    put_meanwhile(out, odd)?;
     put_unseen(out, odd)?;
     let (right, wrong, word) = (odd.then_right, odd.then_wrong, odd.operation.word());
-    if odd.is_exact && right.saturating_add(wrong) > 0 {
+    let all = right.saturating_add(wrong);
+    if odd.is_exact && all > 0 {
         writeln!(
             out,
-            "the next {word} of the key, with no change between, was right after {right} of them, wrong again after {wrong}"
+            "if the next {word} of the key followed without a change between, it was right {right} of {all} times"
         )?;
     }
     Ok(())
@@ -338,16 +406,26 @@ fn put_unseen(out: &mut String, odd: &Odd) -> Result<(), AllocError> {
     }
     writeln!(
         out,
-        "the last completed change that they contradict was made by the same thread before {own} of them and by another before {others}, and had ended at most {latest} moments earlier"
+        "the last change that they contradict had ended at most {latest} moments before them; it was made by the same thread at {own} of them, by another thread at {others}"
     )
 }
 
 /// Writes a line if the headline and the picture show a contradiction that the verdict does not name.
 pub(crate) fn put_first(out: &mut String, diagnosis: &Diagnosis) -> Result<(), AllocError> {
-    if diagnosis.is_example() {
-        out.push_str("headline and picture are of another contradiction than the verdict\n")?;
+    if !diagnosis.is_example() {
+        return Ok(());
     }
-    Ok(())
+    let (key, moment) = (diagnosis.first_key, diagnosis.first_moment);
+    if diagnosis.key == key && diagnosis.until > moment {
+        writeln!(
+            out,
+            "(shown because it is easier to see: a later contradiction of key {key}, not the first one, which ends at moment {moment})"
+        )
+    } else {
+        out.push_str(
+            "(shown because it is easier to see: another contradiction than the one above)\n",
+        )
+    }
 }
 
 /// Returns the sentence for a likely cause of wrong answers.
@@ -364,7 +442,9 @@ fn answers_cause_text(cause: Cause) -> &'static str {
         Cause::Shortcut =>
             "contains has a shortcut that returns false too early (a size, a filter, a bucket, a remembered node)",
         Cause::MovedOrShortcut =>
-            "contains walks while other calls move its key, or has a shortcut that returns false too early (a size, a filter)",
+            "contains walks while changes of other keys move its key, or has a shortcut that returns false too early (a size, a filter)",
+        Cause::HalfDone =>
+            "contains meets a half done add or remove of its key (a node linked before it is complete, a node cut out or reused too early)",
         Cause::MarkOrCopy =>
             "contains finds a key just removed: it does not look at a mark, or reads a copy that is updated a little later",
         Cause::SizeFirst =>
@@ -372,7 +452,7 @@ fn answers_cause_text(cause: Cause) -> &'static str {
         Cause::ThreadCache =>
             "contains reads a cache of its thread, which changes by other threads do not update",
         Cause::MovedKeys =>
-            "the search walks while other calls move its key (an array, a swap, a flush, a half moved bucket), and does not look again",
+            "the search walks while changes of other keys move its key or the way to it (an array, a swap, a node reused, a half moved bucket), and does not look again",
         Cause::LateCopy =>
             "contains reads a copy that is updated after add and remove return (a cache, a replica)",
         Cause::OneKey => "a hash, a comparison, a filter or a limit treats a key unlike others",
@@ -442,7 +522,7 @@ pub(crate) fn cause_text(cause: Cause) -> &'static str {
         Cause::OldCopyByAdd =>
             "add writes back what it read before, over newer changes (a copy or link stored without a compare-and-swap, a lock released too early); remove does not",
         Cause::OldCopyByRemove =>
-            "remove writes back what it read before, over newer changes (a copy or word stored without a compare-and-swap); add does not",
+            "remove writes back what it read before, over newer changes (a copy, link or word stored without a compare-and-swap, a lock released too early); add does not",
         Cause::SharedWord =>
             "some keys share a word or bucket, and a change of one writes back an older state of the other (a load, then a store)",
         Cause::OtherReply =>
@@ -480,7 +560,7 @@ pub(crate) fn put_known(out: &mut String, diagnosis: &Diagnosis) -> Result<(), A
         }
         None => put_tally(out, diagnosis)?,
     }
-    if diagnosis.cause.is_none() && diagnosis.few.is_empty() {
+    if diagnosis.cause.is_none() && diagnosis.evidence.tally.timed() >= LEAST_TIMED {
         put_gone_beside(out, &diagnosis.evidence.tally)?;
     }
     if let Some(split) = diagnosis.evidence.split.filter(|split| split.is_long()) {
