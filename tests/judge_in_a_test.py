@@ -317,6 +317,22 @@ def test_a_refusal_is_passed_on_unchanged(form):
     assert kept[0].read_text() == "listset-calls 1\n# 1\n" and kept[1].read_text().count("\ncall ") == 1000
 
 
+# Refuses the third recording, and accepts the first two as the program does, except for the number of overlapping calls.
+REFUSES_THIRD = """#!/bin/sh
+case $1 in judge) ;; *) exec '%program' "$@" ;; esac
+[ "$2" = --only ] || echo >> '%room/judged'
+[ $(wc -l < '%room/judged') -lt 3 ] || exec '%refuses' "$@"
+'%program' "$@" | sed 's/^[0-9]* of them /900 of them /'
+"""
+
+
+@each(LANGUAGES)
+def test_a_refusal_names_the_presets_that_passed_before(form, program):
+    script = REFUSES_THIRD.replace("%program", str(program)).replace("%room", str(form.room)).replace("%refuses", str(refusing(form)))
+    kind, said = form.told(form.script("third", script), "right", "threads=4 calls=250 runs=3", LISTSET_RECORD=str(form.room / "kept"))
+    assert kind == "refused" and "\nseed 3 (multiples of 64), 4 threads; passed before: few keys, fresh sets; key 1 of the recording is 64; recorded in " in said, said
+
+
 @each(LANGUAGES)
 def test_recordings_of_runs_that_pass_are_not_kept(form, program):
     assert form.told(program, "right", FEW, LISTSET_RECORD=str(form.room / "kept"))[0] == "ok"

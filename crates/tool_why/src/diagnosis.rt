@@ -191,6 +191,19 @@ fn is_beside(place: &Place, neighbours: &Neighbours, operation: Option<Operation
     neighbours.overlap(place.key, place.clash.begun(), place.clash.until, operation)
 }
 
+/// Returns whether two contradicting calls overlap neither each other nor a completed change of another key.
+fn is_apart(place: &Place, neighbours: &Neighbours) -> bool {
+    for call in [place.clash.first, place.clash.second]
+        .into_iter()
+        .flatten()
+    {
+        if neighbours.overlap(place.key, call.begun, call.ended, None) {
+            return false;
+        }
+    }
+    !place.clash.overlaps()
+}
+
 /// Returns whether a contradiction is an example of the likely cause.
 fn shows(place: &Place, cause: Option<Cause>, is_odd: bool, neighbours: &Neighbours) -> bool {
     let (since, until) = (place.clash.begun(), place.clash.until);
@@ -207,9 +220,7 @@ fn shows(place: &Place, cause: Option<Cause>, is_odd: bool, neighbours: &Neighbo
         Some(Cause::MadeAgain | Cause::CarriedOutTwice) => {
             place.is_gone() && place.silent.is_some()
         }
-        Some(Cause::KeptTwice | Cause::OneThread | Cause::Overflow) => {
-            !place.clash.overlaps() && !is_beside(place, neighbours, None)
-        }
+        Some(Cause::KeptTwice | Cause::OneThread | Cause::Overflow) => is_apart(place, neighbours),
         Some(Cause::GoesOn) => place.symptom == Symptom::Lost && place.clash.stretch.is_some(),
         Some(Cause::Unlinked | Cause::WrittenBack) => {
             place.is_gone() && neighbours.unlink_below(place.key, since, until)
