@@ -564,7 +564,7 @@ const OF_WHY = [
     const isOfEach = keysOf(it).every((key) => hasOrderOf(it, key) || told.some((one) => one.startsWith(`key ${key} `)));
     return told.length === Number(count) && told.every((one) => isListed(it, one)) && (atLeast !== undefined || isOfEach);
   }],
-  [/^fact (each time|nearly each time|mostly|often) ((?:another|a|no other) .* ran during them.*): (\d+) of (\d+)(?: \(of 100 other answers: (\d+)\))?$/,
+  [/^fact (each time|nearly each time|mostly|often) ((?:another|a|no other) .* ran during them.*): (\d+) of (\d+)(?: \(during other answers: (\d+) of 100\))?$/,
     (it, [word, what, count, all, usual], { told }) => {
       const isSame = (call) => runsDuring(it, call, (one) => one.key === call.key);
       const isBeside = (call) => runsDuring(it, call, (one) => one.key !== call.key && one.reply === "true");

@@ -374,7 +374,7 @@ fn put_meanwhile(out: &mut String, odd: &Odd) -> Result<(), AllocError> {
     let word = often_word(count, wrong);
     write!(out, "{word} {what}: {count} of {wrong}")?;
     if odd.wrong < odd.of {
-        write!(out, " (of 100 other answers: {usual})")?;
+        write!(out, " (during other answers: {usual} of 100)")?;
     }
     out.push_str("\n")
 }
