@@ -44,6 +44,14 @@ fn is_beside_others(odd: &Odd) -> bool {
         && share_of_all(odd.usually_active, odd.wrong) < 100_000
 }
 
+/// Returns whether all of at least five wrong answers overlapped another add or remove of their key or a change of
+/// another key, and the chance of that is less than one in a thousand.
+fn is_beside_each(odd: &Odd) -> bool {
+    odd.wrong >= ENOUGH
+        && odd.active == odd.wrong
+        && share_of_all(odd.usually_active, odd.wrong) < 1_000
+}
+
 /// Returns whether the wrong answers overlapped another add or remove of their key or a change of another key hardly
 /// more often than the other answers did.
 fn is_beside_by_habit(odd: &Odd) -> bool {
@@ -92,7 +100,7 @@ fn cause_of_misses(odd: &Odd) -> Option<Cause> {
     } else if is_passing(odd) && odd.wrong >= LEAST_BESIDE && is_least(odd.active, odd.wrong, 90) {
         Some(moved(odd))
     } else if odd.missed < LEAST_WRONG {
-        None
+        is_beside_each(odd).then_some(Cause::MovedOrShortcut)
     } else if is_beside_by_habit(odd) || !is_least(odd.active, odd.wrong, 80) {
         Some(if odd.is_exact && is_least(odd.active, odd.wrong, 50) {
             Cause::MovedOrShortcut
@@ -390,13 +398,15 @@ fn old_copy(tally: &Tally, other: Cause) -> Cause {
     }
 }
 
-/// Returns whether all of at least five adds, or all but one, overlapped a kind of change, and the chance of that is
-/// less than one in a thousand. `usual` is the percentage of all adds that did.
+/// Returns whether nearly all of the adds overlapped a kind of change, and at most one in four does so usually: of at
+/// least eight adds three quarters, of at least five all but one, if the chance of that is less than one in a thousand.
+/// `usual` is the percentage of all adds that did.
 fn is_each_with(count: u64, of: u64, usual: u64) -> bool {
     let ways = if count == of { 1 } else { of };
-    of >= ENOUGH
-        && count.saturating_add(1) >= of
-        && share_of_all(usual, count).saturating_mul(ways) < 1_000
+    let is_rare = share_of_all(usual, count).saturating_mul(ways) < 1_000;
+    let is_nearly_each = of >= ENOUGH && count.saturating_add(1) >= of;
+    let is_most = of >= LEAST_TIMED && is_least(count, of, 75);
+    usual <= 25 && (is_most || (is_nearly_each && is_rare))
 }
 
 /// Returns the likely cause if few keys were lost, none came back, and the adds of all these keys overlapped adds, or
