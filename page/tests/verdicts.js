@@ -456,6 +456,17 @@ function isWrongAlone(it) {
   });
 }
 
+// Decides whether no two calls overlap from a call that an answer contradicts to the end of the answer or, if the answer contradicts the opening
+// state, during the answer.
+function isAlone(it, answer) {
+  const firsts = ofKey(it, answer.key).filter((call) => call.ended !== null && call.ended < answer.begun && leaves(call) !== needsKey(answer));
+  const begins = [...firsts.map(({ begun }) => begun), ...(opens(it, answer.key) === needsKey(answer) ? [] : [answer.begun])];
+  return begins.some((since) => {
+    const meanwhile = it.calls.filter((call) => inTime(call, since, answer.ended)).sort((one, other) => one.begun - other.begun);
+    return meanwhile.every((call, at) => at === 0 || (meanwhile[at - 1].ended ?? LAST) < call.begun);
+  });
+}
+
 // Decides whether a contains or remove that returned false contradicts an earlier call that left the key present and for which `isOfKind` returns true.
 const isMissed = (it, isOfKind) => it.calls.some((call) => call.operation !== "add" && call.reply === "false"
   && ofKey(it, call.key).some((first) => first.ended !== null && first.ended < call.begun && leaves(first) && isOfKind(first) && isNoneBetween(it, call.key, "remove", first.begun, call.ended)));
@@ -616,7 +627,8 @@ const OF_WHY = [
     return why.isOfEnd || why.shown.some(isOfFirst) || Math.max(...why.shown.map(({ call }) => call.ended ?? LAST)) !== first;
   }],
   [/^(?:fact|because) during (\d+) of (\d+) contradictions no two calls overlapped(?:: perhaps one thread alone is enough)?$/, (it, [some, all]) => Number(some) <= Number(all) && isWrongAlone(it)],
-  [/^because at (\d+) of (\d+) wrong answers no two calls overlapped, from the call that the answer contradicts to its end$/, (it, [some, all]) => Number(some) <= Number(all) && isWrongAlone(it)],
+  [/^because no two calls overlapped during (\d+) of (\d+) wrong answers, nor since the calls that these contradict$/, (it, [some, all], { told }) =>
+    Number(all) <= told.wrong.length && told.wrong.filter((answer) => isAlone(it, answer)).length >= Number(some)],
   [/^because (\d+) of (\d+) contradictions are two (add|remove)s that both returned true, \d+ are two (?:add|remove)s$/, (it, [some, all, operation]) => Number(some) <= Number(all) &&
     it.calls.some((one) => one.operation === operation && one.reply === "true" && it.calls.some((two) => two !== one && two.key === one.key && two.operation === operation && two.reply === "true"))],
   [/^because (\d+) of (\d+) contradictions are two overlapping calls that both returned true$/, (it, [some, all]) => Number(some) <= Number(all) &&
@@ -676,7 +688,7 @@ const OF_WHY = [
     /^because no change of another key ran during (\d+) of the (\d+) times that a key was lost or came back$/,
     /^because a smaller key was removed during (\d+) of the (\d+) times that a key was lost or came back, (?:and the smallest key is never hit|any other key during \d+)$/].map((pattern) =>
     [pattern, (it, [some, all], { tally }) => Number(some) <= Number(all) && Number(all) <= tally.lost + tally["came back"]]),
-  [/^because keys are lost \((\d+)\)( and never come back)?, and at (\d+)(?: of (\d+))? losses (?:beside one|that a call shows)/, (it, [lost, never, some, all], { tally }) =>
+  [/^because keys are lost \((\d+)\)( and never come back)?, and at (\d+)(?: of (\d+))? losses (?:during one|that a call shows)/, (it, [lost, never, some, all], { tally }) =>
     Number(lost) === tally.lost && Number(some) <= Number(all ?? lost) && (never === undefined || (tally["came back"] === 0 && (tally["none of these"] > 0 || !isFoundAgain(it))))],
   [/^because keys come back \((\d+)\), (\d+) times after a remove that returned true(, and are never lost)?$/, (it, [back, after, never], { tally }) =>
     Number(back) === tally["came back"] && Number(after) <= Number(back) && (never === undefined || (tally.lost === 0 && !isMissed(it, isChange)))],

@@ -116,7 +116,7 @@ fn put_because_of_odd(out: &mut String, odd: &Odd, cause: Cause) -> Result<(), A
         ),
         Cause::EndsEarly => writeln!(
             out,
-            "at {apart} of {placed} wrong answers no two calls overlapped, from the call that the answer contradicts to its end"
+            "no two calls overlapped during {apart} of {placed} wrong answers, nor since the calls that these contradict"
         ),
         _ => writeln!(out, "without these answers all other calls have an order"),
     }
