@@ -480,7 +480,7 @@ const TALLIED = ["lost", "came back", "two adds true", "two removes true", "one 
 // Maps the words in the sentence that counts contradictions to the kinds of contradictions.
 const KINDS = {
   "where a key was lost": "lost", "where a key came back": "came back", "with two adds that both returned true": "two adds true",
-  "with two removes that both returned true": "two removes true", "with one wrong answer": "one wrong answer", "of no such kind": "none of these",
+  "with two removes that both returned true": "two removes true", "with one wrong answer": "one wrong answer", "of another kind": "none of these",
 };
 // Returns, for each completed change by an operation, whether the next call on the key sees the change. Leaves out a change that an opposite change can have
 // undone.

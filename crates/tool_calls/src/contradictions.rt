@@ -17,8 +17,7 @@ pub struct Clash {
     pub first: Option<Made>,
     /// The call that needs the state opposite to `was`. `None` if the final state is the opposite of `was`.
     pub second: Option<Made>,
-    /// Overlapping changes that leave the key in the state `was`. This follows from the number of adds and removes
-    /// among them.
+    /// Overlapping changes that leave the key in the state `was`, as the numbers of adds and removes among them show.
     pub stretch: Option<Stretch>,
     pub was: Presence,
     pub since: u64,

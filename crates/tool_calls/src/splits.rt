@@ -127,7 +127,7 @@ pub fn longest_split(alloc: Global, key: &KeyCalls) -> Result<Option<Split>, All
     Ok(larger(best, split))
 }
 
-/// Returns the candidate with more answers. `next` counts only if its calls disagree as `is_split` demands.
+/// Returns the split with more answers. `next` is considered only if `is_split` accepts it.
 fn larger(best: Option<Split>, next: Split) -> Option<Split> {
     if !next.is_split() {
         return best;

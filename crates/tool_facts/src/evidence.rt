@@ -11,7 +11,7 @@ use tool_calls::{
 /// The facts that determine the likely cause.
 #[derive(Clone, Copy)]
 pub struct Evidence {
-    /// Two keys. If the calls of both keys are treated as calls of one key, they are linearizable.
+    /// Two refused keys whose calls are linearizable if they are taken as calls of one key.
     pub merged: Option<(u32, u32)>,
     pub odd: Option<Odd>,
     pub tally: Tally,
@@ -102,8 +102,8 @@ fn losses_of(alloc: Global, gone: &[Place]) -> Result<Vec<Place>, AllocError> {
     Ok(losses)
 }
 
-/// Returns whether one of these contradictions of a refused key begins by the moment when the key's calls first have no
-/// order. The contradictions must be ordered by time.
+/// Returns whether the first of these contradictions begins before the refused key's calls have no order, or at that
+/// moment. The contradictions must be ordered by time.
 fn has_first(places: &[Place], refused: Refused) -> bool {
     match places.first() {
         Some(place) => place.clash.begun() <= refused.moment,

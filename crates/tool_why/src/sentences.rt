@@ -158,7 +158,7 @@ fn put_kinds(out: &mut String, tally: &Tally) -> Result<(), AllocError> {
             tally.missed.saturating_add(tally.found),
             "with one wrong answer",
         ),
-        (tally.others, "of no such kind"),
+        (tally.others, "of another kind"),
     ];
     let mut is_first = true;
     for (count, kind) in kinds {
