@@ -29,11 +29,6 @@ def tests():
     return [it for it in lines_of() if TESTS.fullmatch(it)]
 
 
-def programs():
-    """Returns the names of the crates that are programs."""
-    return [it for it in lines_of() if (TOP / "crates" / it / "src/main.rt").exists()]
-
-
 def below(names, root=TOP, lines=None):
     """Returns these crates and all their dependencies, dependencies first. (crates.txt lists each crate after its
     dependencies.)
