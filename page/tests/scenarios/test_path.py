@@ -158,7 +158,7 @@ def test_the_sentence_about_a_change_stays_until_the_next_press(visitor):
 
 def test_the_label_of_a_press_names_each_of_its_deeds(visitor):
     for address, keys, words in (("#story=6", "aa", "walk, then lock pred and curr"), ("#story=7.2", "aa", "walk, then lock pred and curr"), ("#story=7", "", "walk to 5, read its mark, return"),
-                                 ("#story=4.2", "b", "read the next number; lock to walk on"), ("#story=4.3", "b", "lock the next node")):
+                                 ("#story=4.2", "b", "read the next; lock it to pass"), ("#story=4.3", "b", "lock the next node")):
         visitor.open(address)
         visitor.step(keys)
         assert words in visitor.text(".dock"), address
