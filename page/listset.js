@@ -335,8 +335,8 @@ function tellError(text, hint = noHint) {
 
 const noHint = () => "";
 
-// Returns a function that returns a hint for the error `said` in these arguments or, if `said` is empty, for the refusal in `bytes`. The hint can be
-// empty.
+// Returns a function that returns a hint for a failed command with these arguments: for the error message `said` or, if `said` is empty, for the refusal
+// that the command printed (`bytes`). The hint can be empty.
 function hintOn(engine, words) {
   return (said, bytes) => {
     const hint = asCalled(said === "" ? keysHint(words, bytes) : hintOf(engine, words, said));

@@ -69,7 +69,7 @@ def test_examples_of_the_program_are_the_files(program):
 
 @pytest.mark.parametrize("file", sorted(EXAMPLES.glob("*.broken.report")), ids=lambda it: it.name)
 def test_no_order_explains_a_broken_report(program, file):
-    """Tests that `show` prints below the picture of the report that no order explains the calls."""
+    """Tests that `show` prints that no order explains the calls, below the picture of the report."""
     assert "\n\nnot linearizable\nno order explains the calls of key " in "\n".join(lines_of(program, "show", file, status=1))
 
 

@@ -66,7 +66,9 @@ def events_of(schedule):
 @pytest.mark.parametrize("words", ["draft", "trace", "replay", "show --from 400000", "show --svg --from 400000", "replay --lacks mark-in-contains",
                                    "show --lacks mark-in-contains --from 400000"])
 def test_no_command_keeps_its_events(program, words):
-    """Runs commands with hundreds of thousands of events, also on a broken list. `trace` prints tens of megabytes."""
+    """Tests that commands with hundreds of thousands of events need little memory, on a broken list too. `trace` prints tens of
+    megabytes.
+    """
     schedule = well(program, "draft", text=long_walks())
     many = events_of(schedule)
     assert many > 400_000  # (`show` draws at most 64 of the events)

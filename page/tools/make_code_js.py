@@ -1,6 +1,6 @@
-"""Makes made/code.js from the plain loops of the proved crates: the source of the functions that execute the steps of calls, with the rows of the step
+"""Makes made/code.js from the loops in the proved crates: the source of the functions that execute the steps of calls, with the rows of the step
 table that each line executes. Comments at these lines name the rows ('// row 3', '// rows 5, 6, 7'). The page uses the rows to show each thread at its
-line. On lists with marks, a ceiling has no loop of its own: the interpreter of the step tables executes it.
+line. On lists with marks, `ceiling` has no loop of its own: the interpreter of the step tables executes it.
 """
 
 import json

@@ -75,8 +75,8 @@ impl Set {
         }
     }
 
-    /// Does in a late `remove` what the variable SET names, while holding the lock: hangs, crashes, exits, panics or
-    /// naps. A panic happens without the lock, since other threads would also panic at a poisoned lock.
+    /// Misbehaves in a late `remove`, as the variable SET says: hangs, crashes, exits, panics or naps while holding the
+    /// lock. Panics without the lock, since other threads would also panic at a poisoned lock.
     fn stop(&self) {
         let _held = (self.is != "throws").then(|| self.keys.0.lock().unwrap());
         match (&*self.is, self.calls.fetch_add(1, SeqCst)) {

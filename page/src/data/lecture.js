@@ -1,5 +1,5 @@
-// The slides of the lecture, which the addresses #lecture=1 and so on open. A slide has its duration in minutes, a title, the address that it shows, a question
-// to the class, and the answer.
+// The slides of the lecture. The addresses #lecture=1, #lecture=2 and so on open them. A slide has its duration in minutes, a title, the address that it
+// shows, a question for the class, and the answer.
 /** @type {[number, string, string, string, string][]} */
 export const LECTURE = [
   [4, "Lose a number", "#story=2&view=lecture", "No lock. Let the class call out A or B until a number is lost.",

@@ -1,4 +1,4 @@
-// The page for teachers: lecture, embedding, homework as one link, checking of hand-ins.
+// The page for teachers: the lecture, embedding, setting homework with one link, and checking hand-ins.
 import { LACKING } from "../../made/classics.js";
 import { LISTS } from "../../made/rows.js";
 import { LECTURE, slideAddress } from "../data/lecture.js";
