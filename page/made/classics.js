@@ -27,7 +27,7 @@ export const CLASSICS = {
  "hand-over-hand": {
   "question": "Thread 0 has locked the head and 9, to add 5 between them. Thread 1 wants to remove 9. How far does thread 1 get?",
   "turnsOn": "Not even to the head, until thread 0 releases the head's lock. Then thread 1 goes hand over hand: it releases the head's lock only when it holds the lock of 5.",
-  "without": "A walk that holds no lock can be at an unlinked node, and lose the key that it adds after that node (hand-over-hand). A walk concurrent with a remove that locks only pred can lose a key too (second-lock).",
+  "without": "A walk that holds no lock can be at an unlinked node, and lose the key that it adds after that node (hand-over-hand). A walk beside a remove that unlinks with only pred locked can lose a key too (second-lock).",
   "turns": [
    17,
    28
