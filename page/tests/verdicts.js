@@ -273,7 +273,7 @@ function callOfLine(it, words) {
 function checkWhy(ask, it) {
   const lines = ask("listset_why_record", it.text).text.split("\n").filter((line) => line !== "").map((line) => line.split(" "));
   const told = lines.map((words) => (["call", "also"].includes(words[0]) ? { call: callOfLine(it, words.slice(1)), says: [words[0], ...words.slice(7)].join(" "), mark: words.slice(7).join(" ") } : { says: words.join(" ") }));
-  const why = { shown: told.filter(({ says }) => says.startsWith("call ")), because: told.filter(({ says }) => says.startsWith("because ")), told: null,
+  const why = { shown: told.filter(({ says }) => says.startsWith("call ")), also: told.filter(({ says }) => says === "also").map(({ call }) => call), because: told.filter(({ says }) => says.startsWith("because ")), told: null,
     isOfEnd: told.some(({ says }) => / at the end$/.test(says) && says.startsWith("headline ")), isOfOdd: told.some(({ says }) => says.startsWith("fact only ")) };
   for (const { call } of told.filter(({ says }) => /^(call|also)/.test(says))) if (call === undefined) return result.failed.push(`no such call on\n${it.text}`);
   for (const line of told) checkSentence(OF_WHY, it, line.says, why, line);
@@ -294,7 +294,7 @@ function checkText(ask, it, told) {
   const isOfCount = (line) => /^(contradiction: | {2}(need key|and (no|only)) )/.test(line);
   const lines = ask("listset_why", it.text).text.split("\n").filter((line) => line !== "" && !isOfCount(line));
   const NOTES = [[/^ +<-- expected (\w+)$/, "call expected $1"], [/^ +key \d+ is (\w+)$/, "call leaves $1"], [/^ +<-- one of two$/, "call either"], [/^ +finds key \d+ (\w+)$/, "call finds $1"]];
-  const [isOfPicture, BAR] = [/^thread |^ +\.\.\.$|^-+ also running(?: \(\d+ of (?:\d+|many)\))?$/, /^thread (\d+) +\[(\w+) (\d+)-*(?:(\w+)\]|\.\.) +(\d+) to (\d+|\.\.)(.*)$/];
+  const [isOfPicture, BAR] = [/^thread |^ +\.\.\.$|^-+ also running(?:: (?:\d+|many) calls, \d+ shown)?$/, /^thread (\d+) +\[(\w+) (\d+)-*(?:(\w+)\]|\.\.) +(\d+) to (\d+|\.\.)(.*)$/];
   const bars = lines.filter((line) => line.startsWith("thread ")).map((line) => {
     const [, thread, operation, key, reply, begun, ended, note] = BAR.exec(line) ?? [];
     const mark = NOTES.find(([pattern]) => pattern.test(note));
@@ -420,6 +420,17 @@ const runsBeside = (it, call, operation) => it.calls.some((one) => one !== call 
 // Returns whether another add or remove, for which `holds` returns true, ran at the same time as a call.
 const runsDuring = (it, call, holds) => it.calls.some((one) => one !== call && one.operation !== "contains" && holds(one) && inTime(one, call.begun, call.ended));
 
+const isSame = (it, call) => runsDuring(it, call, (one) => one.key === call.key);
+const isBeside = (it, call) => runsDuring(it, call, (one) => one.key !== call.key && one.reply === "true");
+
+// Returns whether a sentence compares a share with that of other answers as it should. The empty text is right if there are no other answers.
+function isRate(rate, count, all) {
+  const [, near, , usual] = /^(?:(, about as often as during other answers) \((\d+) of 100\)| \(during other answers: (\d+) of 100\))$/.exec(rate) ?? [];
+  const [, other] = /(\d+) of 100/.exec(rate) ?? [];
+  const isNear = Math.abs(Math.floor((Number(count) * 100) / Number(all)) - Number(other)) <= 10;
+  return rate === "" || (Number(other) <= 100 && isNear === (near !== undefined) && (near !== undefined || usual !== undefined));
+}
+
 function isHeadline(it, why, [key, gone, operation, ofCall, reply, expected]) {
   // if no reply was expected, the call need not be drawn
   const told = expected === undefined ? it.calls.map((call) => ({ call, mark: "-" })) : why.shown;
@@ -471,6 +482,10 @@ function isAlone(it, answer) {
 const isMissed = (it, isOfKind) => it.calls.some((call) => call.operation !== "add" && call.reply === "false"
   && ofKey(it, call.key).some((first) => first.ended !== null && first.ended < call.begun && leaves(first) && isOfKind(first) && isNoneBetween(it, call.key, "remove", first.begun, call.ended)));
 
+// Decides whether a call of an operation and an overlapping one both returned true.
+const isTwice = (it, call, operation) => call.operation === operation && call.reply === "true"
+  && it.calls.some((one) => one !== call && one.key === call.key && one.operation === operation && one.reply === "true" && inTime(one, call.begun, call.ended));
+
 // Decides whether a call that changes nothing found a key that an earlier remove had removed.
 const isFoundAgain = (it) => it.calls.some((call) => call.ended !== null && !isChange(call) && needsKey(call)
   && ofKey(it, call.key).some((first) => first.operation === "remove" && first.reply === "true" && first.ended < call.begun && isNoneBetween(it, call.key, "add", first.begun, call.ended)));
@@ -482,6 +497,18 @@ const KINDS = {
   "where a key was lost": "lost", "where a key came back": "came back", "with two adds that both returned true": "two adds true",
   "with two removes that both returned true": "two removes true", "with one wrong answer": "one wrong answer", "of another kind": "none of these",
 };
+// Returns whether the calls around an answer are not linearizable with it, but are without it or, for contains, with the other reply.
+const isOnlyWrong = (it, answer) => [...around(it, answer.key, answer)].some(({ calls, isThere, left }) =>
+  calls.includes(answer) && !hasOrder(calls, answer.key, isThere, left) && hasOrder(calls.filter((one) => one !== answer), answer.key, isThere, left));
+
+// Returns whether the numbers of wrong answers of each kind, as in `2 add false, 1 contains true`, are true and add up.
+function areWrongAnswers(it, all, told) {
+  const kinds = told.split(", ").map((one) => /^(\d+) (add|remove|contains) (true|false)$/.exec(one));
+  const areSo = ([, count, operation, reply]) =>
+    it.calls.filter((call) => call.operation === operation && call.reply === reply && !isChange(call) && isOnlyWrong(it, call)).length >= Number(count);
+  return kinds.every((one) => one !== null && areSo(one)) && kinds.reduce((sum, [, count]) => sum + Number(count), 0) === all;
+}
+
 // Returns, for each completed change by an operation, whether the next call on the key sees the change. Leaves out a change that an opposite change can have
 // undone.
 function nextCallsSee(calls, operation) {
@@ -530,7 +557,10 @@ const OF_WHY = [
   }],
   [/^call -$/, () => true],
   [/^call finds (present|absent)$/, (it, [state], why, { call }) => call.ended !== null && needsKey(call) === (state === "present")],
-  [/^call expected (true|false)$/, (it, [reply], why, { call }) => reply === turned(call).reply && isExpected(it, call)],
+  [/^call expected (true|false)$/, (it, [reply], why, { call }) => {
+    const isDrawn = !why.isOfOdd || !isBeside(it, call) || why.also.some((change) => inTime(change, call.begun, call.ended));
+    return reply === turned(call).reply && isExpected(it, call) && isDrawn;
+  }],
   [/^call leaves (present|absent)$/, (it, [state], why, { call }) => {
     const next = Math.min(...why.shown.map(({ call: one }) => one.begun).filter((begun) => begun > call.ended), LAST);
     const look = { thread: 98, operation: "contains", key: call.key, begun: call.ended + 0.25, ended: call.ended + 0.5, reply: String(state === "absent") };
@@ -554,10 +584,12 @@ const OF_WHY = [
     }],
   [/^fact at least (\d+) contradictions?: (\d+ (?:where|with|of no) .*)$/, (it, [count, kinds], why) => {
     why.tally = Object.fromEntries(TALLIED.map((kind) => [kind, 0]));
-    for (const [, many, kind] of kinds.split(" + ").map((one) => /^(\d+) (.*)$/.exec(one))) why.tally[KINDS[kind]] = Number(many);
-    return Object.keys(why.tally).length === TALLIED.length && Object.values(why.tally).reduce((sum, many) => sum + many, 0) === Number(count);
+    const told = kinds.split(" + ").map((one) => /^(\d+) ([^(]*[^( ])(?: \((.*)\))?$/.exec(one));
+    for (const [, many, kind] of told) why.tally[KINDS[kind]] = Number(many);
+    const areAnswers = told.every(([, many, kind, answers]) => (KINDS[kind] === "one wrong answer" ? areWrongAnswers(it, Number(many), answers) : answers === undefined));
+    return Object.keys(why.tally).length === TALLIED.length && Object.values(why.tally).reduce((sum, many) => sum + many, 0) === Number(count) && areAnswers;
   }],
-  [/^fact (\d+) of (\d+) keys are hit; the next call of the key did not see (\d+) of (\d+) adds and (\d+) of (\d+) removes \(those that returned true, with no opposite change meanwhile\)$/, (it, [hit, all, ...counts]) => {
+  [/^fact (\d+) of (\d+) keys are hit; after (\d+) of (\d+) successful adds the next call found the key absent, after (\d+) of (\d+) successful removes present \(no opposite change ran meanwhile\)$/, (it, [hit, all, ...counts]) => {
     const refused = keysOf(it).filter((key) => !hasOrderOf(it, key));
     const seen = ["add", "remove"].map((operation) => refused.flatMap((key) => nextCallsSee(ofKey(it, key), operation)));
     const isOfKeys = Number(hit) === refused.length && Number(all) === new Set([...keysOf(it), ...it.padding.map(({ key }) => key)]).size;
@@ -575,20 +607,15 @@ const OF_WHY = [
     const isOfEach = keysOf(it).every((key) => hasOrderOf(it, key) || told.some((one) => one.startsWith(`key ${key} `)));
     return told.length === Number(count) && told.every((one) => isListed(it, one)) && (atLeast !== undefined || isOfEach);
   }],
-  [/^fact (each time|nearly each time|mostly|often) ((?:another|a|no other) .* ran during them.*): (\d+) of (\d+)(?: \(during other answers: (\d+) of 100\))?$/,
-    (it, [word, what, count, all, usual], { told }) => {
-      const isSame = (call) => runsDuring(it, call, (one) => one.key === call.key);
-      const isBeside = (call) => runsDuring(it, call, (one) => one.key !== call.key && one.reply === "true");
-      const isSo = {
-        "another add or remove of their key ran during them": isSame,
-        "a change of another key ran during them, and no other add or remove of their own key": (call) => !isSame(call) && isBeside(call),
-        "another add or remove of their key, or a change of another key, ran during them": (call) => isSame(call) || isBeside(call),
-        "no other add or remove of their key ran during them, and no change of another key": (call) => !isSame(call) && !isBeside(call),
-      }[what];
-      const share = Number(count) / Number(all);
-      const isOften = share === (word === "each time" ? 1 : share) && share >= { "each time": 1, "nearly each time": 0.85, mostly: 0.5, often: 0.25 }[word];
-      return isSo !== undefined && told.wrong.length === Number(all) && told.wrong.filter(isSo).length === Number(count) && isOften && Number(usual ?? 0) <= 100;
-    }],
+  [/^fact (another add or remove of their key|a change of another key|another add or remove of their key, or a change of another key,) ran during (\d+) of the (\d+) wrong answers(.*)$/, (it, [what, count, all, rest], { told }) => {
+    const isSo = { "another add or remove of their key": isSame, "a change of another key": isBeside }[what] ?? ((...both) => isSame(...both) || isBeside(...both));
+    const [, rate, alone] = /^(.*?)(?:; during (\d+) of these no other add or remove of their own key ran)?$/.exec(rest);
+    const isAlone = (call) => isBeside(it, call) && !isSame(it, call);
+    const isTrue = told.wrong.length === Number(all) && told.wrong.filter((call) => isSo(it, call)).length === Number(count);
+    return isTrue && isRate(rate, count, all) && (alone === undefined || (what === "a change of another key" && told.wrong.filter(isAlone).length === Number(alone)));
+  }],
+  [/^fact during (\d+) of the (\d+) wrong answers no other add or remove of their key ran, and no change of another key(.*)$/, (it, [count, all, rate], { told }) =>
+    told.wrong.length === Number(all) && told.wrong.filter((call) => !isSame(it, call) && !isBeside(it, call)).length === Number(count) && isRate(rate, count, all)],
   [/^fact an? (add|remove)( and a remove)? of the key ran during it$/, (it, [operation, both], { told }) => {
     const operations = both === undefined ? [operation] : ["add", "remove"];
     const isSaid = (call) => ["add", "remove"].every((one) => runsDuring(it, call, (other) => other.key === call.key && other.operation === one) === operations.includes(one));
@@ -608,18 +635,18 @@ const OF_WHY = [
     const latest = Math.max(...changes.map(({ answer, change }) => answer.begun - change.ended));
     return `${[latest, own, changes.length - own]}` === `${found.map(Number)}`;
   }],
-  [/^fact the next (add|remove|contains) of the key, with no change between, was right$/, (it, [operation], { told }) =>
+  [/^fact with no change between, the next (add|remove|contains) of the key was right$/, (it, [operation], { told }) =>
     told.wrong.some((answer) => nextCall(it, answer, operation) !== undefined && !told.wrong.includes(nextCall(it, answer, operation)))],
-  [/^fact if the next (add|remove|contains) of the key followed without a change between, it was right (\d+) of (\d+) times$/, (it, [operation, right, all], { told }) => {
+  [/^fact with no change between, the next (add|remove|contains) of the key was right (\d+) of (\d+) times$/, (it, [operation, right, all], { told }) => {
     const next = told.wrong.map((answer) => [answer, nextCall(it, answer, operation)]).filter(([, one]) => one !== undefined).map(([, one]) => told.wrong.includes(one));
     return told.isAll && next.filter((isWrong) => !isWrong).length === Number(right) && next.length === Number(all);
   }],
-  [/^fact \(shown because it is easier to see: a later contradiction of key (\d+), not the first one, which ends at moment (\d+)\)$/, (it, [key, moment], why) => {
+  [/^fact \(the picture shows a later contradiction of key (\d+) that is easier to see; the first ends at moment (\d+)\)$/, (it, [key, moment], why) => {
     const isFirst = (until) => !keysOf(it).every((one) => hasOrder(knownBy(ofKey(it, one), until), one, opens(it, one)));
     const isLater = why.isOfEnd || why.shown.some(({ call }) => (call.ended ?? LAST) > Number(moment));
     return why.shown.every(({ call }) => call.key === Number(key)) && isFirst(Number(moment)) && !isFirst(Number(moment) - 1) && isLater;
   }],
-  [/^fact \(shown because it is easier to see: another contradiction than the one above\)$/, (it, found, why) => {
+  [/^fact \(the picture shows another contradiction that is easier to see\)$/, (it, found, why) => {
     // The first moment by which the calls on some key have no order.
     const moments = keysOf(it).flatMap((key) => ofKey(it, key).flatMap(({ ended }) => ended ?? [])).sort((one, other) => one - other);
     const first = moments.find((moment) => keysOf(it).some((key) => !hasOrder(knownBy(ofKey(it, key), moment), key, opens(it, key)))) ?? LAST;
@@ -718,6 +745,16 @@ const OF_WHY = [
   [/^because (\d+) of (\d+) undone changes of key (\d+) overlapped changes of key (\d+), and fewer overlapped those of any third key$/, (it, [some, all, one, two], { tally }) =>
     Number(some) <= Number(all) && Number(all) <= tally.lost + tally["came back"] && one !== two && !hasOrderOf(it, Number(one))],
   [/^because they disagree as long as nothing changes the key$/, () => true],
+  [/^because (\d+) adds of an absent key and (\d+) removes of a present key returned false, and the key stayed so(?:; a change of another key ran during (\d+) of them, but only during (\d+) of 100 adds and removes)?$/,
+    (it, [adds, removes, beside, usual], { tally }) => {
+      const wrong = (operation) => it.calls.filter((call) => call.operation === operation && call.reply === "false" && isOnlyWrong(it, call));
+      const isEach = wrong("add").length >= Number(adds) && wrong("remove").length >= Number(removes);
+      const isOften = beside === undefined || [...wrong("add"), ...wrong("remove")].filter((call) => isBeside(it, call)).length >= Number(beside);
+      return isEach && isOften && Number(adds) + Number(removes) <= tally["one wrong answer"] && (beside === undefined || Number(usual) <= 75);
+    }],
+  [/^because after (\d+) of (\d+) pairs of adds that both returned true, the next remove left the key present$/, (it, [some, all], { tally }) =>
+    Number(some) <= Number(all) && Number(all) === tally["two adds true"] && it.calls.some((one) => isTwice(it, one, "add") && it.calls.some((two) =>
+      two.key === one.key && two.begun > one.ended && two.operation === "remove" && two.reply === "true" && (isTwice(it, two, "remove") || isFoundAgain(it))))],
 ];
 
 // ---- A key with calls that disagree for a long time: adds find the key present and removes find it absent, while nothing changes it.

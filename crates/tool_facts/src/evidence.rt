@@ -126,6 +126,7 @@ fn add_key(
         found.places.push(*place)?;
     }
     found.tally.add_followed(key);
+    found.tally.add_doubled(key, &places);
     let bound = bound_of(alloc, key, &places, neighbours)?;
     found.bound.add(bound, places.len());
     if !has_first(&places, refused) {

@@ -18,6 +18,17 @@ pub struct Tally {
     pub missed: u64,
     /// The number of wrong answers that found an absent key.
     pub found: u64,
+    /// The part of `found` that are adds: they returned false and changed nothing, although the key was absent.
+    pub refused_adds: u64,
+    /// The part of `missed` that are removes: they returned false and changed nothing, although the key was present.
+    pub refused_removes: u64,
+    /// The part of `refused_adds` and `refused_removes` that overlaps a change of another key.
+    pub refused_beside: u64,
+    /// The percentage of sampled adds and removes that overlap a change of another key.
+    pub usually_refused_beside: u64,
+    /// The number of pairs of adds that both returned true, if the next change of the key is part of a return of the key
+    /// or of a pair of removes that both returned true.
+    pub doubled: u64,
     pub others: u64,
     /// The number of losses and returns of keys that would be repaired if an add or remove that returned false had
     /// returned true.
@@ -151,8 +162,18 @@ impl Tally {
         self.both_adds.saturating_add(self.both_removes)
     }
 
+    /// Returns the number of adds and removes that are the only wrong answer of a contradiction.
+    pub fn refused(&self) -> u64 {
+        self.refused_adds.saturating_add(self.refused_removes)
+    }
+
     /// Counts the kind of a contradiction.
     fn add_kind(&mut self, place: &Place) {
+        match place.symptom {
+            Symptom::Missed(Operation::Remove) => more(&mut self.refused_removes),
+            Symptom::Found(Operation::Add) => more(&mut self.refused_adds),
+            _ => {}
+        }
         match place.symptom {
             Symptom::Lost => more(&mut self.lost),
             Symptom::CameBack => more(&mut self.came_back),
@@ -210,6 +231,16 @@ impl Tally {
         }
         if key.has_change_beside(change) {
             more(&mut self.own);
+        }
+    }
+
+    /// Counts the pairs of adds that both returned true, if the next remove of the key left the key present. `places`
+    /// are the contradictions of the key, ordered by time.
+    pub fn add_doubled(&mut self, key: &KeyCalls, places: &[Place]) {
+        for (one, next) in places.iter().zip(places.get(1..).unwrap_or(&[])) {
+            if is_doubled(key, one, next) {
+                more(&mut self.doubled);
+            }
         }
     }
 
@@ -364,6 +395,18 @@ impl Tally {
         Ok(())
     }
 
+    /// Counts an add or remove that is the only wrong answer of a contradiction, if it overlaps a change of another key.
+    fn add_refused(&mut self, place: &Place, neighbours: &Neighbours) {
+        let Some(wrong) = place.wrong else {
+            return;
+        };
+        if wrong.operation != Operation::Contains
+            && neighbours.overlap(wrong.key, wrong.begun, wrong.ended, None)
+        {
+            more(&mut self.refused_beside);
+        }
+    }
+
     /// Counts the keys that a remove had removed and that returned, if another key was lost during the remove. `losses`
     /// must be ordered by time.
     fn add_swapped(&mut self, places: &[Place], losses: &[Place]) {
@@ -398,12 +441,14 @@ impl Tally {
         self.add_swapped(places, losses);
         self.usual = usual_share(places, neighbours);
         self.add_usual(calls, neighbours);
+        self.usually_refused_beside = usual_of_writers(calls, neighbours);
         for place in places {
             self.add_time(alloc, place, neighbours)?;
             if let (Symptom::Missed(_), Some(wrong)) = (place.symptom, place.wrong) {
                 let is_beside = neighbours.overlap(wrong.key, wrong.begun, wrong.ended, None);
                 self.missed_beside = self.missed_beside.saturating_add(u64::from(is_beside));
             }
+            self.add_refused(place, neighbours);
             if crossings.has_none(calls, place.clash.since, place.clash.until) {
                 more(&mut self.apart);
             }
@@ -427,6 +472,40 @@ impl Tally {
         self.least_full = least;
         self.usually_full = full.share_between(calls, least, u64::MAX);
     }
+}
+
+/// Returns whether a contradiction is a pair of adds that both returned true, and the next change of the key is part of
+/// the next contradiction: a return of the key, or a pair of removes that both returned true.
+fn is_doubled(key: &KeyCalls, one: &Place, next: &Place) -> bool {
+    let is_left = matches!(
+        next.symptom,
+        Symptom::CameBack | Symptom::BothTrue(Operation::Remove)
+    );
+    if one.symptom != Symptom::BothTrue(Operation::Add) || !is_left {
+        return false;
+    }
+    let later = key.after(one.clash.until);
+    match later.iter().find(|call| call.changes()) {
+        Some(change) => next.clash.begun() <= change.begun && change.begun <= next.clash.until,
+        None => false,
+    }
+}
+
+/// Returns the percentage of sampled adds and removes that overlap a change of another key.
+fn usual_of_writers(calls: &[Made], neighbours: &Neighbours) -> u64 {
+    let step = calls.len().checked_div(MOST_COMPARED).unwrap_or(0);
+    let (mut beside, mut tried, mut next) = (0u64, 0u64, 0usize);
+    for (index, call) in calls.iter().enumerate() {
+        let is_sampled = index >= next && call.operation != Operation::Contains;
+        if is_sampled && call.reply.is_some() {
+            next = index.saturating_add(step);
+            more(&mut tried);
+            if neighbours.overlap(call.key, call.begun, call.ended, None) {
+                more(&mut beside);
+            }
+        }
+    }
+    percent(beside, tried)
 }
 
 /// Returns the number of contradictions that overlap a contradiction of another key, and the percentage of comparison

@@ -157,9 +157,9 @@ fn is_after_gap(bars: &[Bar], call: Made) -> bool {
 /// there are.
 fn put_rule(out: &mut String, shown: usize, all: usize) -> Result<(), AllocError> {
     if all >= MOST_AROUND {
-        writeln!(out, "---------- also running ({shown} of many)")
+        writeln!(out, "---------- also running: many calls, {shown} shown")
     } else if shown < all {
-        writeln!(out, "---------- also running ({shown} of {all})")
+        writeln!(out, "---------- also running: {all} calls, {shown} shown")
     } else {
         out.push_str("---------- also running\n")
     }

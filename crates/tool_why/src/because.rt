@@ -154,6 +154,13 @@ fn put_because_of_calls(out: &mut String, tally: &Tally, cause: Cause) -> Result
             out,
             "{removes} of {places} contradictions are two removes that both returned true, {adds} are two adds"
         ),
+        Cause::InsertedTwice => {
+            let doubled = tally.doubled;
+            writeln!(
+                out,
+                "after {doubled} of {adds} pairs of adds that both returned true, the next remove left the key present"
+            )
+        }
         _ => writeln!(out, "they disagree as long as nothing changes the key"),
     }
 }
@@ -239,6 +246,27 @@ fn put_because_of_mixed(out: &mut String, tally: &Tally, cause: Cause) -> Result
             out,
             "during {some} of {all} changes that were undone another key came back or was lost"
         ),
+    }
+}
+
+/// Writes the fact that supports `cause`, if adds and removes give up.
+fn put_because_of_refusals(
+    out: &mut String,
+    tally: &Tally,
+    cause: Cause,
+) -> Result<(), AllocError> {
+    let (adds, removes) = (tally.refused_adds, tally.refused_removes);
+    let (beside, usual) = (tally.refused_beside, tally.usually_refused_beside);
+    write!(
+        out,
+        "{adds} adds of an absent key and {removes} removes of a present key returned false, and the key stayed so"
+    )?;
+    match cause {
+        Cause::GivesUpBeside => writeln!(
+            out,
+            "; a change of another key ran during {beside} of them, but only during {usual} of 100 adds and removes"
+        ),
+        _ => out.push_str("\n"),
     }
 }
 
@@ -369,6 +397,7 @@ pub(crate) fn put_because(
         | Cause::RemoveChecks
         | Cause::OldCopyByAdd
         | Cause::OldCopyByRemove
+        | Cause::InsertedTwice
         | Cause::TwoPlaces => put_because_of_calls(out, &evidence.tally, cause),
         Cause::Displaced | Cause::Batch | Cause::Evicted => {
             put_because_of_lost(out, &evidence.tally, cause)
@@ -384,6 +413,9 @@ pub(crate) fn put_because(
         | Cause::RemovedLater
         | Cause::MovedKeys => { put_because_of_mixed(out, &evidence.tally, cause) }
         Cause::SharedWord => put_because_of_pairs(out, evidence),
+        Cause::GivesUp | Cause::GivesUpBeside => {
+            put_because_of_refusals(out, &evidence.tally, cause)
+        }
         Cause::KeptTwice | Cause::Overflow | Cause::OneThread => {
             put_because_of_one(out, evidence, cause)
         }

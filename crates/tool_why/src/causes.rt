@@ -43,6 +43,12 @@ pub enum Cause {
     RemoveShortcut,
     /// `remove` returns false too early, although the key is present.
     RemoveGivesUp,
+    /// `add` and `remove` give up, and return false.
+    GivesUp,
+    /// `add` and `remove` give up while another key is changed, and return false.
+    GivesUpBeside,
+    /// Two overlapping adds both insert their key.
+    InsertedTwice,
     /// Operations search for a key in two different places.
     TwoPlaces,
     /// When a part of the set is first used, two calls each create this part, and one of the two copies is lost.

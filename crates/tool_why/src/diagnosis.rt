@@ -239,10 +239,12 @@ fn shows(place: &Place, cause: Option<Cause>, is_odd: bool, neighbours: &Neighbo
             | Cause::SharedPlace
             | Cause::BehindUnlinked,
         ) => { place.is_gone() && is_beside(place, neighbours, None) }
-        Some(Cause::MovedKeys | Cause::AddGivesUp | Cause::RemoveShortcut) => match place.wrong {
-            Some(wrong) => neighbours.overlap(wrong.key, wrong.begun, wrong.ended, None),
-            None => true,
-        },
+        Some(Cause::GivesUp) => place.wrong.is_some(),
+        Some(Cause::MovedKeys | Cause::AddGivesUp | Cause::RemoveShortcut | Cause::GivesUpBeside) =>
+            match place.wrong {
+                Some(wrong) => neighbours.overlap(wrong.key, wrong.begun, wrong.ended, None),
+                None => true,
+            },
         _ => is_odd || place.symptom != Symptom::Unclear,
     }
 }
@@ -576,6 +578,11 @@ impl Diagnosis {
         }
     }
 
+    /// Returns whether a change of another key in the picture overlaps a call. Returns `false` without a call.
+    fn runs_beside(&self, call: Option<Made>) -> bool {
+        self.beside.iter().any(|change| is_at(call, change))
+    }
+
     /// Adds a call, if given, to the picture.
     fn add_if(&mut self, call: Option<Made>) -> Result<(), AllocError> {
         match call {
@@ -630,6 +637,8 @@ impl Diagnosis {
         let has_room = self.beside.is_empty() || self.shown.len() < MOST_SHOWN;
         if let Some(second) = place.clash.second.filter(|_| is_before) {
             self.mark(second, Mark::Finds(other(place.clash.was)));
+        } else if self.evidence.odd.is_some() && self.runs_beside(place.wrong) {
+            // (the facts tell what the next calls of the key found)
         } else if !place.is_gone() || has_room {
             self.later = self.call_after(key, &place);
             self.show_later()?;

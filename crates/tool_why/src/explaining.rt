@@ -45,12 +45,18 @@ fn put_some(out: &mut String, known: &str, extra: usize) -> Result<(), AllocErro
     Ok(())
 }
 
-/// Returns the number of lines for the picture, of which `room` are free. If no operation alone is wrong, some of the
-/// `known` facts are left out, so that the picture can show a change of another key.
+/// Returns the number of lines for the picture, of which `room` are free. Some of the `known` facts can be left out, so
+/// that the picture shows a change of another key: all but the first or, if an operation alone is wrong, all but the
+/// first two.
 fn room_of_picture(diagnosis: &Diagnosis, room: usize, known: usize) -> usize {
     let wanted = diagnosis.shown.len().saturating_add(2);
-    let most = room.saturating_add(known.saturating_sub(1));
-    if diagnosis.beside.is_empty() || diagnosis.evidence.odd.is_some() || wanted > most {
+    let kept = if diagnosis.evidence.odd.is_some() {
+        2
+    } else {
+        1
+    };
+    let most = room.saturating_add(known.saturating_sub(kept));
+    if diagnosis.beside.is_empty() || wanted > most {
         room
     } else {
         room.max(wanted)

@@ -89,7 +89,7 @@ fn cause_of_misses(odd: &Odd) -> Option<Cause> {
         Some(Cause::SizeFirst)
     } else if odd.running == odd.missed {
         Some(Cause::NotSeenYet)
-    } else if is_last(odd) {
+    } else if is_last(odd) && !is_passing(odd) {
         Some(Cause::LastKey)
     } else if needs_no_overlap(odd) {
         Some(Cause::EndsEarly)
@@ -753,6 +753,43 @@ fn is_missed_beside(tally: &Tally) -> bool {
         && gone.saturating_mul(10) <= tally.places
 }
 
+/// The minimum number of adds and removes that returned false for the guess that they give up.
+const LEAST_REFUSED: u64 = 8;
+
+/// Returns the likely cause if most contradictions are single adds and removes that returned false and changed nothing,
+/// and other wrong answers are rare.
+fn cause_of_refusals(tally: &Tally) -> Option<Cause> {
+    let (refused, beside) = (tally.refused(), tally.refused_beside);
+    let replies = tally.missed.saturating_add(tally.found);
+    let other = tally.gone().saturating_add(tally.both());
+    let both = tally.refused_adds.min(tally.refused_removes);
+    if refused < LEAST_REFUSED
+        || !is_least(refused, replies, 90)
+        || !is_least(refused, tally.places, 60)
+        || other.saturating_mul(10) > tally.places
+        || !is_least(both, refused, 20)
+    {
+        None
+    } else if is_least(
+        beside,
+        refused,
+        tally.usually_refused_beside.saturating_add(25),
+    ) {
+        Some(Cause::GivesUpBeside)
+    } else {
+        Some(Cause::GivesUp)
+    }
+}
+
+/// Returns whether pairs of adds that both returned true seem to insert their key twice: the next remove of the key leaves
+/// the key present after at least half of these pairs, and other returns of keys and pairs of removes are at most as many.
+fn is_inserted_twice(tally: &Tally) -> bool {
+    let left = tally.came_back.saturating_add(tally.both_removes);
+    tally.doubled > 0
+        && is_least(tally.doubled, tally.both_adds, 50)
+        && is_least(tally.doubled, left, 50)
+}
+
 /// Returns the likely cause. Returns `None` if the facts fit no cause, or if the recording is too small.
 pub(crate) fn likely(evidence: &Evidence) -> Option<Cause> {
     if !is_enough(evidence) {
@@ -775,11 +812,18 @@ pub(crate) fn likely(evidence: &Evidence) -> Option<Cause> {
     if evidence.bound.is_some() && is_least(tally.gone(), tally.places, 30) {
         return Some(Cause::SharedWord);
     }
+    if is_inserted_twice(tally) {
+        return Some(Cause::InsertedTwice);
+    }
     if is_check_then_act(tally) {
         return Some(check_then_act(tally));
     }
     if is_missed_beside(tally) {
         return Some(Cause::MovedKeys);
+    }
+    let refusals = cause_of_refusals(tally);
+    if refusals.is_some() {
+        return refusals;
     }
     if is_unlinked(evidence) {
         return Some(Cause::Unlinked);

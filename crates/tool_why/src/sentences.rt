@@ -158,7 +158,6 @@ fn put_kinds(out: &mut String, tally: &Tally) -> Result<(), AllocError> {
             tally.missed.saturating_add(tally.found),
             "with one wrong answer",
         ),
-        (tally.others, "of another kind"),
     ];
     let mut is_first = true;
     for (count, kind) in kinds {
@@ -168,7 +167,34 @@ fn put_kinds(out: &mut String, tally: &Tally) -> Result<(), AllocError> {
             is_first = false;
         }
     }
-    Ok(())
+    put_answers(out, tally)?;
+    let others = tally.others;
+    match others {
+        0 => Ok(()),
+        _ if others == tally.places => write!(out, ": {others} of another kind"),
+        _ => write!(out, " + {others} of another kind"),
+    }
+}
+
+/// Writes the single wrong answers of each kind in parentheses. Writes nothing if no contradiction has a single wrong
+/// answer.
+fn put_answers(out: &mut String, tally: &Tally) -> Result<(), AllocError> {
+    let (adds, removes) = (tally.refused_adds, tally.refused_removes);
+    let kinds = [
+        (adds, "add false"),
+        (removes, "remove false"),
+        (tally.found.saturating_sub(adds), "contains true"),
+        (tally.missed.saturating_sub(removes), "contains false"),
+    ];
+    let mut is_first = true;
+    for (count, kind) in kinds {
+        if count > 0 {
+            out.push_str(if is_first { " (" } else { ", " })?;
+            write!(out, "{count} {kind}")?;
+            is_first = false;
+        }
+    }
+    out.push_str(if is_first { "" } else { ")" })
 }
 
 /// Returns the words for a contradiction's symptom in a short list of contradictions.
@@ -219,7 +245,7 @@ fn put_tally(out: &mut String, diagnosis: &Diagnosis) -> Result<(), AllocError> 
     let (lost, kept) = (tally.unseen_adds, tally.unseen_removes);
     writeln!(
         out,
-        "\n{keys} of {all} keys are hit; the next call of the key did not see {lost} of {adds} adds and {kept} of {removes} removes (those that returned true, with no opposite change meanwhile)"
+        "\n{keys} of {all} keys are hit; after {lost} of {adds} successful adds the next call found the key absent, after {kept} of {removes} successful removes present (no opposite change ran meanwhile)"
     )
 }
 
@@ -320,61 +346,77 @@ fn put_around_one(out: &mut String, odd: &Odd) -> Result<(), AllocError> {
     if odd.then_right > 0 {
         writeln!(
             out,
-            "the next {word} of the key, with no change between, was right"
+            "with no change between, the next {word} of the key was right"
         )?;
     }
     Ok(())
 }
 
-/// Returns a word for how often something happened.
-fn often_word(count: u64, all: u64) -> &'static str {
-    if count == all {
-        "each time"
-    } else if count.saturating_mul(100) >= all.saturating_mul(85) {
-        "nearly each time"
-    } else if count.saturating_mul(2) >= all {
-        "mostly"
+/// Writes during what percentage of other answers the same calls ran. `count` is the number of wrong answers during which
+/// they ran.
+fn put_rate(out: &mut String, odd: &Odd, count: u64, usual: u64) -> Result<(), AllocError> {
+    let share = count
+        .saturating_mul(100)
+        .checked_div(odd.wrong)
+        .unwrap_or(0);
+    if odd.wrong >= odd.of {
+        Ok(())
+    } else if share.max(usual).saturating_sub(share.min(usual)) <= 10 {
+        write!(
+            out,
+            ", about as often as during other answers ({usual} of 100)"
+        )
     } else {
-        "often"
+        write!(out, " (during other answers: {usual} of 100)")
     }
 }
 
+/// Writes during how many wrong answers calls of this kind ran, and how often they ran during other answers.
+fn put_ran(
+    out: &mut String,
+    odd: &Odd,
+    what: &str,
+    count: u64,
+    usual: u64,
+) -> Result<(), AllocError> {
+    let wrong = odd.wrong;
+    write!(
+        out,
+        "{what} ran during {count} of the {wrong} wrong answers"
+    )?;
+    put_rate(out, odd, count, usual)
+}
+
 /// Writes which changes ran during the wrong answers, and how often during other answers: the first kind of change that
-/// ran clearly more often than during other answers or, without such a kind, how often none ran.
+/// ran clearly more often than during other answers or, without such a kind, how often any or none ran.
 fn put_meanwhile(out: &mut String, odd: &Odd) -> Result<(), AllocError> {
     let (same, active, wrong) = (odd.same, odd.active, odd.wrong);
-    let other = active.saturating_sub(same);
+    let alone = active.saturating_sub(same);
     let (usually_same, usually) = (odd.usually_same, odd.usually_active);
-    let usually_other = usually.saturating_sub(usually_same);
-    let (count, usual, what) = if is_more(same, wrong, usually_same) {
-        (
+    if is_more(same, wrong, usually_same) {
+        put_ran(
+            out,
+            odd,
+            "another add or remove of their key",
             same,
             usually_same,
-            "another add or remove of their key ran during them",
-        )
-    } else if is_more(other, wrong, usually_other) {
-        (
-            other,
-            usually_other,
-            "a change of another key ran during them, and no other add or remove of their own key",
-        )
+        )?;
+    } else if is_more(alone, wrong, usually.saturating_sub(usually_same)) {
+        put_ran(out, odd, "a change of another key", odd.beside, odd.usual)?;
+        write!(
+            out,
+            "; during {alone} of these no other add or remove of their own key ran"
+        )?;
     } else if is_more(active, wrong, usually) || active.saturating_mul(2) > wrong {
-        (
-            active,
-            usually,
-            "another add or remove of their key, or a change of another key, ran during them",
-        )
+        let what = "another add or remove of their key, or a change of another key,";
+        put_ran(out, odd, what, active, usually)?;
     } else {
-        (
-            wrong.saturating_sub(active),
-            100u64.saturating_sub(usually),
-            "no other add or remove of their key ran during them, and no change of another key",
-        )
-    };
-    let word = often_word(count, wrong);
-    write!(out, "{word} {what}: {count} of {wrong}")?;
-    if odd.wrong < odd.of {
-        write!(out, " (during other answers: {usual} of 100)")?;
+        let count = wrong.saturating_sub(active);
+        write!(
+            out,
+            "during {count} of the {wrong} wrong answers no other add or remove of their key ran, and no change of another key"
+        )?;
+        put_rate(out, odd, count, 100u64.saturating_sub(usually))?;
     }
     out.push_str("\n")
 }
@@ -391,7 +433,7 @@ fn put_around(out: &mut String, odd: &Odd) -> Result<(), AllocError> {
     if odd.is_exact && all > 0 {
         writeln!(
             out,
-            "if the next {word} of the key followed without a change between, it was right {right} of {all} times"
+            "with no change between, the next {word} of the key was right {right} of {all} times"
         )?;
     }
     Ok(())
@@ -419,12 +461,10 @@ pub(crate) fn put_first(out: &mut String, diagnosis: &Diagnosis) -> Result<(), A
     if diagnosis.key == key && diagnosis.until > moment {
         writeln!(
             out,
-            "(shown because it is easier to see: a later contradiction of key {key}, not the first one, which ends at moment {moment})"
+            "(the picture shows a later contradiction of key {key} that is easier to see; the first ends at moment {moment})"
         )
     } else {
-        out.push_str(
-            "(shown because it is easier to see: another contradiction than the one above)\n",
-        )
+        out.push_str("(the picture shows another contradiction that is easier to see)\n")
     }
 }
 
@@ -489,6 +529,12 @@ pub(crate) fn cause_text(cause: Cause) -> &'static str {
             "a remove takes another key than its own (an index found earlier, the next node)",
         Cause::OneThread =>
             "an error without a race (a probe that ends too early, a comparison, a limit)",
+        Cause::GivesUp =>
+            "add and remove give up and return false (a try-lock or a compare-and-swap that failed and is not repeated, a timeout), or meet a half done change",
+        Cause::GivesUpBeside =>
+            "add and remove give up and return false while another key changes (a try-lock or a compare-and-swap on a shared lock or word that failed and is not repeated)",
+        Cause::InsertedTwice =>
+            "two adds insert the same key twice, in two places (each looked before the other inserted), and a remove takes one of them",
         Cause::TwoPlaces =>
             "calls test the key in two ways that no longer agree (a node reused too early, as in ABA; a slot and its node; a count that went below 0)",
         Cause::FirstUse =>
