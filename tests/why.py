@@ -83,7 +83,7 @@ def test_an_operation_that_alone_is_wrong_is_named_with_a_cause(program, path):
     said = ran(program, "judge", path).stdout
     assert "\ncontains(3) returned true, expected false\n" in said
     assert "only contains is wrong: 20 of its 20 answers (found an absent key, and never missed a present key)\n" in said
-    assert "\neach time another add or remove of their key ran during them: 20 of 20\n" in said
+    assert "\nanother add or remove of their key ran during 20 of the 20 wrong answers\n" in said
     assert "\nlikely: contains does not look at what remove changes first" in said
 
 

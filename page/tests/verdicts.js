@@ -582,7 +582,7 @@ const OF_WHY = [
       why.told = wrongAnswers(it, "contains", aside !== undefined);
       return why.told !== null && isTold(it, why.told, ["contains", atLeast, count, of, found, missed]);
     }],
-  [/^fact at least (\d+) contradictions?: (\d+ (?:where|with|of no) .*)$/, (it, [count, kinds], why) => {
+  [/^fact at least (\d+) contradictions?: (\d+ (?:where|with|of another) .*)$/, (it, [count, kinds], why) => {
     why.tally = Object.fromEntries(TALLIED.map((kind) => [kind, 0]));
     const told = kinds.split(" + ").map((one) => /^(\d+) ([^(]*[^( ])(?: \((.*)\))?$/.exec(one));
     for (const [, many, kind] of told) why.tally[KINDS[kind]] = Number(many);
@@ -752,7 +752,7 @@ const OF_WHY = [
       const isOften = beside === undefined || [...wrong("add"), ...wrong("remove")].filter((call) => isBeside(it, call)).length >= Number(beside);
       return isEach && isOften && Number(adds) + Number(removes) <= tally["one wrong answer"] && (beside === undefined || Number(usual) <= 75);
     }],
-  [/^because after (\d+) of (\d+) pairs of adds that both returned true, the next remove left the key present$/, (it, [some, all], { tally }) =>
+  [/^because after (\d+) of (\d+) pairs of adds that both returned true, two removes returned true, too, or the key was found after the next remove$/, (it, [some, all], { tally }) =>
     Number(some) <= Number(all) && Number(all) === tally["two adds true"] && it.calls.some((one) => isTwice(it, one, "add") && it.calls.some((two) =>
       two.key === one.key && two.begun > one.ended && two.operation === "remove" && two.reply === "true" && (isTwice(it, two, "remove") || isFoundAgain(it))))],
 ];

@@ -158,7 +158,7 @@ fn put_because_of_calls(out: &mut String, tally: &Tally, cause: Cause) -> Result
             let doubled = tally.doubled;
             writeln!(
                 out,
-                "after {doubled} of {adds} pairs of adds that both returned true, the next remove left the key present"
+                "after {doubled} of {adds} pairs of adds that both returned true, two removes returned true, too, or the key was found after the next remove"
             )
         }
         _ => writeln!(out, "they disagree as long as nothing changes the key"),
