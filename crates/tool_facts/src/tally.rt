@@ -26,8 +26,8 @@ pub struct Tally {
     pub refused_beside: u64,
     /// The percentage of sampled adds and removes that overlap a change of another key.
     pub usually_refused_beside: u64,
-    /// The number of pairs of adds that both returned true, if the next change of the key is part of a return of the key
-    /// or of a pair of removes that both returned true.
+    /// The number of pairs of adds that both returned true, if the next change of the key is part of the next
+    /// contradiction: a return of the key, or a pair of removes that both returned true.
     pub doubled: u64,
     pub others: u64,
     /// The number of losses and returns of keys that would be repaired if an add or remove that returned false had
@@ -395,7 +395,7 @@ impl Tally {
         Ok(())
     }
 
-    /// Counts an add or remove that is the only wrong answer of a contradiction, if it overlaps a change of another key.
+    /// Counts an add or remove that is the only wrong answer of a contradiction and overlaps a change of another key.
     fn add_refused(&mut self, place: &Place, neighbours: &Neighbours) {
         let Some(wrong) = place.wrong else {
             return;

@@ -781,8 +781,8 @@ fn cause_of_refusals(tally: &Tally) -> Option<Cause> {
     }
 }
 
-/// Returns whether pairs of adds that both returned true seem to insert their key twice: the next remove of the key leaves
-/// the key present after at least half of these pairs, and other returns of keys and pairs of removes are at most as many.
+/// Returns whether pairs of adds that both returned true seem to insert their key twice: after at least half of these
+/// pairs, the next remove leaves the key present. Other returns of keys and pairs of removes must be at most as many.
 fn is_inserted_twice(tally: &Tally) -> bool {
     let left = tally.came_back.saturating_add(tally.both_removes);
     tally.doubled > 0

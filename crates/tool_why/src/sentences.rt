@@ -352,8 +352,8 @@ fn put_around_one(out: &mut String, odd: &Odd) -> Result<(), AllocError> {
     Ok(())
 }
 
-/// Writes during what percentage of other answers the same calls ran. `count` is the number of wrong answers during which
-/// they ran.
+/// Writes during what percentage of other answers the same calls ran. They ran during `count` wrong answers. Writes
+/// nothing if there are no other answers.
 fn put_rate(out: &mut String, odd: &Odd, count: u64, usual: u64) -> Result<(), AllocError> {
     let share = count
         .saturating_mul(100)
