@@ -745,7 +745,7 @@ const OF_WHY = [
   [/^because (\d+) of (\d+) undone changes of key (\d+) overlapped changes of key (\d+), and fewer overlapped those of any third key$/, (it, [some, all, one, two], { tally }) =>
     Number(some) <= Number(all) && Number(all) <= tally.lost + tally["came back"] && one !== two && !hasOrderOf(it, Number(one))],
   [/^because they disagree as long as nothing changes the key$/, () => true],
-  [/^because (\d+) adds of an absent key and (\d+) removes of a present key returned false, and the key stayed so(?:; a change of another key ran during (\d+) of them, but only during (\d+) of 100 adds and removes)?$/,
+  [/^because (\d+) adds of an absent key and (\d+) removes of a present key returned false and changed nothing(?:; a change of another key ran during (\d+) of them, but only during (\d+) of 100 adds and removes)?$/,
     (it, [adds, removes, beside, usual], { tally }) => {
       const wrong = (operation) => it.calls.filter((call) => call.operation === operation && call.reply === "false" && isOnlyWrong(it, call));
       const isEach = wrong("add").length >= Number(adds) && wrong("remove").length >= Number(removes);

@@ -259,7 +259,7 @@ fn put_because_of_refusals(
     let (beside, usual) = (tally.refused_beside, tally.usually_refused_beside);
     write!(
         out,
-        "{adds} adds of an absent key and {removes} removes of a present key returned false, and the key stayed so"
+        "{adds} adds of an absent key and {removes} removes of a present key returned false and changed nothing"
     )?;
     match cause {
         Cause::GivesUpBeside => writeln!(
