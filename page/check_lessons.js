@@ -110,7 +110,7 @@ async function checked(ask, { assignment, csv, link }, words) {
   const { rows, columns } = result;
   if (rows.length === 0) return isBad ? 2 : toldCourses(courses, link);
   const whole = rows.map((row) => toldRow(row, columns)).filter((isAll) => isAll).length;
-  if (result.common.length > 0) say(`same schedules: many students have one, perhaps the obvious one: ${result.common.join("; ")}`);
+  if (result.common.length > 0) say(`same schedules: ${inPage("commonText")(result.common)}`);
   if (rows.length > 1) say(`${whole} of ${rows.length} students have solved all`);
   if (csv !== undefined) withFile(csv, () => fs.writeFileSync(csv, inPage("csvOf")(result)));
   if (isBad) return 2;

@@ -23,7 +23,7 @@ import { learnView } from "./story/learn_view.js";
 import { handoutView, notesView } from "./story/notes_view.js";
 import { pathView } from "./story/path_view.js";
 import { isScene, leaveScene, listenToScene, renderScene, VIEWS } from "./story/scene.js";
-import { goOnSlide, pressInScene } from "./story/slide.js";
+import { goOnSlide, pressInScene, toSlide } from "./story/slide.js";
 import { teachView } from "./story/teach_view.js";
 
 const EMPTY_TRACE = "listset-trace 1\nlist lazy\nthreads 2\nquota 4\nend\n";
@@ -38,7 +38,7 @@ const LISTEN = [listenToMenu, listenToBar, listenToBench, listenToWork, listenTo
 
 function listen() {
   for (const begin of LISTEN) begin();
-  Object.assign(keysOf, { scene: pressInScene, slide: goOnSlide });
+  Object.assign(keysOf, { scene: pressInScene, slide: goOnSlide, next: () => toSlide(1) });
   document.addEventListener("click", stopUnable, true);
   document.addEventListener("keydown", pressKey);
   document.addEventListener("focusin", uncover);

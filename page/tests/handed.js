@@ -98,7 +98,7 @@ function checkTeacher(course, folder) {
   const answers = course.lessons.map(({ name, solution }) => ({ name, schedule: solution }));
   const text = (student, solutions, orders = []) => handInText(NAME, student, solutions, orders);
   const all = said(folder, text("Ada", answers, [ORDER, BROKEN]));
-  const very = `Ada: the lesson’s own answer: ${course.lessons.map(({ title }) => title).join("; ")}`;
+  const very = `Ada: ${course.lessons.map(({ title }) => title).join("; ")}: same schedule as the answer that the page shows`;
   check(`all: ${all.lines}`, same(all, { status: 0, lines: ["Ada: 14 of 14 solved", very], fault: "" }));
   const whole = said(folder, text("Ada", answers, [BROKEN.replace(",b0.add.5,g0.8", "")]));
   check(`explained: ${whole.lines[1]}`, whole.status === 1 && whole.lines[1].endsWith("Not broken yet: some order explains this run."));
@@ -151,13 +151,13 @@ function checkOwn(ask, course, folder) {
   const group = said(folder, text("Ada", first, [BROKEN_OWN]), text("Dee", grouped, [BROKEN_OWN]), ...many).lines;
   const copies = group.filter((line) => line.includes("same schedules: "));
   const due = ["Ada: same schedules: 3 of 3 with Dee", "Dee: same schedules: 3 of 3 with Ada"];
-  check(`the same schedules: ${copies}`, same(copies.slice(0, 2), due) && copies.length === 3 && /many students have one.*\(\d+ students: /.test(copies[2]));
+  check(`the same schedules: ${copies}`, same(copies.slice(0, 2), due) && copies.length === 3 && /: one schedule is shared by \d+ students; short ones often are\.$/.test(copies[2]));
   const table = path.join(folder, "groups.csv");
   const files = ["Ada", "Bo", "Cy", "Di", "Ed"].map((name, at) => [`g${at}.txt`, text(name, [], [`${BROKEN_OWN}${at % 2 === 0 ? " named" : ""}`, at < 2 ? ORDER : ORDER.replace(/replies/, "points")])]);
   for (const [name, words] of files) fs.writeFileSync(path.join(folder, name), words);
   told("--csv", table, ...files.map(([name]) => path.join(folder, name)));
   const rows = fs.readFileSync(table, "utf8").split("\r\n").slice(1);
-  check(`the group of a schedule is named: ${rows[0]}`, rows[0].includes("LockFreeList, #break=2: as Bo, Cy and 2 more"));
+  check(`the group of a schedule is named: ${rows[0]}`, rows[0].includes("Break 2: LockFreeList: as Bo, Cy and 2 more"));
   check(`how a task was solved: ${rows}`, rows[0].includes("check named") && rows[1].includes("check not named") && rows[0].includes("replies and moments") && rows[2].includes("moments alone"));
   const example = ask("listset_example", "stale-pred").text;
   const trace = new (inPage("Trace"))(ask("listset_lacking", "second-walk", example, "trace").text, inPage("versionOf")(example));

@@ -28,7 +28,7 @@ function html(place) {
   const preset = ([name, href]) => tag("a", { class: "button", href }, escaped(name));
   const choice = (name, at) => tag("label", {}, ["left ", "right "][at], tag("select", { id: `sides-${name}` }, listOptions(listsOf(place)[at])));
   const lead = `<p class="prose">Each turn executes the thread’s next step in both lists. A list that has finished the call waits for the other list. <a class="beside" href="tables.html#progress">Progress of each list: blocking, lock-free, wait-free</a></p>`;
-  return `<section class="screen on-stage">${head("", "The same calls on two lists: which one waits, and which one finishes?", lead)}
+  return `<section class="screen on-stage">${head("", "The same calls on two lists: which one waits?", lead)}
     <div id="sides-presets" class="line">${PRESETS.map(preset).join(" ")}<details id="sides-own"><summary>Your own program</summary><div class="line small">${SIDES.map(choice).join("")}
       <label>initial keys <input id="sides-opening" spellcheck="false" placeholder="no keys" size="8"></label>
       <label>calls <textarea id="sides-program" rows="2" cols="24" spellcheck="false"></textarea></label>

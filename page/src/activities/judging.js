@@ -1,10 +1,13 @@
 // The panel for judging the current run: the reader chooses a moment and a reply for each call.
 import { CLASSICS } from "../../made/classics.js";
+import { LISTS } from "../../made/rows.js";
+import { slideAddress } from "../data/lecture.js";
 import { GROWN, SMALL_GROWN, WIDE_GROWN } from "../draw/history.js";
 import { drawJudged, drawOwnOrder, judgeScale } from "../draw/judged_bars.js";
 import { byId, redraw } from "../page/dom.js";
 import { askNow, dispatch, exampleShown, isJudging, isLecture, now, say } from "../page/now.js";
-import { addressOf, partsOfSeed } from "../run/address.js";
+import { linkTo } from "../page/visit.js";
+import { addressOf, partsOfSeed, warningOf } from "../run/address.js";
 import { exerciseOf, LEVELS, MOST_JUDGED, OwnAnswer, repliesOf, verdictOn, wordOfAnswer } from "../run/judged.js";
 import { callText, chipOf, escaped } from "../run/markup.js";
 import { itemOf } from "../story/ask_branches.js";
@@ -93,9 +96,10 @@ class Judging {
   draw() {
     const { level, calls } = this.exercise;
     this.count = now.run.count;
-    const zoom = isLecture() ? innerHeight / 450 : 1;
+    const isSlide = isLecture() && !isNarrow();
+    const zoom = isSlide ? innerHeight / 450 : 1;
     judgePart("bars").style.setProperty("--zoom", String(zoom));
-    this.scale = judgeScale(this.exercise, Math.max(300, judgePart("bars").clientWidth / zoom), isLecture() ? { bar: 20, grown: GROWN } : { grown: isNarrow() ? SMALL_GROWN : WIDE_GROWN });
+    this.scale = judgeScale(this.exercise, Math.max(300, judgePart("bars").clientWidth / zoom), isSlide ? { bar: 20, grown: GROWN } : { grown: isNarrow() ? SMALL_GROWN : WIDE_GROWN });
     judgePart("of").textContent = itemOf({ id: exampleShown() })?.question ?? "Your answer is right if, in the order of your moments, every reply is correct.";
     judgePart("task").textContent = `${now.task.kind === "seed" ? `Run ${partsOfSeed(now.task.id).number}. ` : ""}${LEVELS[level].task}`;
     redraw(judgePart("bars"), drawJudged(this));
@@ -125,9 +129,11 @@ class Judging {
     const isAsked = homeworkOf(now.place, now.task) !== null && verdict?.isRight !== true; // in homework, buttons that reveal the answer are hidden until the reader's answer is right
     for (const name of ["end", "levels"]) judgePart(name).style.visibility = isAsked ? "hidden" : "";
     const told = isLecture() ? now.scene.note : ""; // the answer, at the end of the last slide
+    const link = linkTo(slideAddress(now.place.slide));
+    const where = now.place.slide === 0 ? "" : `${LISTS[now.run.trace.kind].name}. ${warningOf(link) === "" ? `This slide for everybody: ${link.replace(/^https?:..|index.html/g, "")}` : ""}`;
     const kind = told === "" ? ({ true: "right", false: "wrong" }[verdict?.isRight] ?? "") : "told";
     judgePart("verdict").className = kind;
-    judgePart("verdict").textContent = told || (verdict?.says ?? "");
+    judgePart("verdict").textContent = told || (verdict?.says ?? where);
     judgePart("tries").textContent = tries === 0 ? "" : `${tries} ${tries === 1 ? "try" : "tries"} refused`;
     judgePart("hint").textContent = kind === "wrong" && tries >= 2 ? hintOfRun() : "";
     judgePart("line").innerHTML = kind === "right" ? `<details><summary>Saved. The line to hand in</summary><code>${escaped(this.line)}</code></details>` : "";

@@ -11,7 +11,7 @@ export const LECTURE = [
   [5, "A walk without locks", "#story=5&view=lecture", "Both lock what they change, and 5 gets lost all the same. Let the class find the order.",
     "A walks until its pred is 3, B removes 3, then A locks, checks pred.next and links 5 behind a removed node."],
   [5, "Why a second walk", "#ask=stale-pred&view=lecture", "Is it safe for A to write? Then the same on a list without this check: 5 is lost.",
-    "No: an unlinked node keeps its arrow. Only a new walk from the head shows that pred is gone."],
+    "No: an unlinked node keeps its arrow. In OptimisticList only a new walk from the head shows it."],
   [5, "LazyList: a mark", "#story=7&view=lecture", "Press B: it marks 5, and the node is still in the chain. What does A answer?",
     "false: with the mark, 5 has left the set. contains reads the mark and takes no lock."],
   [4, "In another thread’s step", "#ask=read-in-anothers-step&view=lecture", "A will return false. When is that correct?",
@@ -23,7 +23,7 @@ export const LECTURE = [
   [4, "Helping", "#ask=snip&view=lecture", "A has marked 5 and stops. Does B have to wait?",
     "No: B unlinks 5 itself and links 7. A’s own attempt to unlink fails later, and A still returns true."],
   [3, "Everybody judges", "#seed=lock-free.2.3.1.5&judge&view=lecture",
-    "Three calls in 17 events. Everybody opens this slide by the short link on the board, and states what each call returns.",
+    "Three calls of LockFreeList in 17 events. If the page is on a web server, everybody opens the address on the slide, and states what each call returns.",
     "contains returns false, the add and the remove return true. The order: contains, add, remove."],
 ];
 

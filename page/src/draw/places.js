@@ -20,9 +20,10 @@ const HANDS = { height: 26, over: -2, left: 28, letter: 10.4, right: 12 };
 const SMALL_HANDS = { height: 24, over: -2, left: 21, letter: 9.8, right: 5 };
 const WIDE = { least: 0.9, key: 56, lock: 32, slot: 100, gap: 0.5, hand: HANDS, kind: "", below: [54, 30, 0, -14] };
 const SMALL = { least: 0.82, key: 44, lock: 28, slot: 62, gap: 0.28, hand: SMALL_HANDS, kind: "small-hands", below: [44, 34] };
+const SLIDE = { ...WIDE, key: 44, lock: 28, slot: 92, gap: 0.35, below: [44, 24, 0, -10] }; // lower nodes, so that a slide has room for larger labels
 const LEAST_OF_ALL = 0.6; // pixels of a unit, if the stage is too low for a form
 const LOW = 60; // distance from the upper edge of the chain to the upper edge of the nodes in its gaps
-const formOf = ({ wide }) => (wide < 600 ? SMALL : WIDE);
+const formOf = ({ wide, isSlide }) => (wide < 600 ? SMALL : isSlide ? SLIDE : WIDE);
 
 function pointersOf(state, event) {
   const inCall = state.threads.map((held, thread) => ({ held, thread })).filter(({ held }) => held.pc !== 0);
@@ -201,7 +202,7 @@ function freeHand(own, placed, { x, y, width: node }, { height, over }, width) {
  * The space for a drawing, and what to draw: the size of the stage in pixels (`wide`, `high`) and the smallest number of pixels per unit (`least`); the maximum
  * number of nodes in the chain (`slots`); where a lock is shown (`lock` is "list", "nodes" or ""); whether every node stays in the chain (`flat`); how tight
  * the last drawing was (`tight`); the pixels left free at both ends (`ends`); and the registers without a hand (`hides`).
- * @typedef {{ wide: number, high: number, least?: number, slots: number, lock: string, flat?: boolean, tight?: number, ends?: number[], hides: string[], names?: boolean, isWhole?: boolean }} Room
+ * @typedef {{ wide: number, high: number, least?: number, slots: number, lock: string, flat?: boolean, tight?: number, ends?: number[], hides: string[], names?: boolean, isWhole?: boolean, isSlide?: boolean }} Room
  */
 export function arranged(state, event, room) {
   const chain = state.chain();

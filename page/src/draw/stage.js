@@ -32,20 +32,20 @@ function drawNode(state, name, place, event, room) {
     event?.word?.startsWith(`${name}.`) ? tag("rect", { "data-hot": x, class: `hot ${colourOf(event.thread)}`, x: x - 6, y: y - 6, width: width + 12, height: row + 12, rx: 12 }) : "",
     tag("rect", { class: "box", x, y, width, height: row, rx: 8, ...(isMarked ? { style: "fill:url(#hatch)" } : {}) }),
     tag("line", { class: "side", x1: side, x2: side, y1: y, y2: y + key }),
-    drawKey(node, (x + side) / 2, middle, width, isMarked && width > 110, isNamed && width < 90),
+    drawKey(node, (x + side) / 2, middle, width, isMarked && width > 110 ? y + key - 5 : 0, isNamed && width < 90),
     isNamed ? label({ class: "name", x: x + 6, y: y + 19 }, name) : "",
     isMarked ? label({ class: "cross", x: (side + x + width) / 2, y: middle + 9 }, "✗") : "",
     row > key ? drawLock(node.lock, x, y + key, width, row - key) : "",
   );
 }
 
-function drawKey(node, x, middle, width, hasSign, isBelowName) {
+function drawKey(node, x, middle, width, sign, isBelowName) {
   const text = wordOf(node);
   const isNumber = /^\d/.test(text);
-  const size = isBelowName ? 20 : text.length > 4 ? 18 : hasSign ? 24 : isNumber ? 30 : width > 110 ? 20 : width > 70 ? 18 : width > 52 ? 16 : 14.5;
+  const size = isBelowName ? 20 : text.length > 4 ? 18 : sign > 0 ? 24 : isNumber ? 30 : width > 110 ? 20 : width > 70 ? 18 : width > 52 ? 16 : 14.5;
   const spacing = !isNumber && width <= 80 ? ";letter-spacing:-.8px;font-weight:500;stroke-width:1.5" : ""; // in a narrow node the word "head" needs narrow letters
-  const key = label({ class: "key", x, y: middle + (hasSign ? -1 : isBelowName ? 13 : isNumber ? 9.5 : 4), style: `font-size:${size}px${spacing}` }, text);
-  return key + (hasSign ? label({ class: "sign", x, y: middle + 18.5 }, "marked") : "");
+  const key = label({ class: "key", x, y: sign > 0 ? sign - 19.5 : middle + (isBelowName ? 13 : isNumber ? 9.5 : 4), style: `font-size:${size}px${spacing}` }, text);
+  return key + (sign > 0 ? label({ class: "sign", x, y: sign }, "marked") : "");
 }
 
 const CLOSED = "M-6 -2 v-5 a6 6 0 0 1 12 0 v5";

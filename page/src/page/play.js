@@ -48,7 +48,7 @@ function goToTurn(step) {
 }
 
 // ---- The keys of the keyboard. Letters and digits can be switched off.
-export const keysOf = { scene: (event) => event, slide: (by) => by }; // handlers: of all keys in a scene, and of a presenter's keys on a slide
+export const keysOf = { scene: (event) => event, slide: (by) => by, next: () => {} }; // handlers: of all keys in a scene, of a presenter's keys on a slide, and of N
 const WAYS = { PageDown: 1, ArrowRight: 1, ArrowDown: 1, " ": 1, PageUp: -1, ArrowLeft: -1, ArrowUp: -1 };
 const isPress = ({ key, target }) => key === " " && target.matches(":is(button, a, summary):focus-visible"); // Space presses the focused button or link
 
@@ -61,6 +61,7 @@ export function pressKey(event) {
     if (document.activeElement.matches("button")) document.activeElement.blur(); // otherwise Space would also press the button
     return keysOf.slide(WAYS[event.key]);
   }
+  if (isLecture() && event.key === "n" && now.prefs.letters) return keysOf.next();
   if (now.place.screen === "scene") return keysOf.scene(event);
   const { total } = now.run.trace;
   const steps = { ArrowRight: 1, ArrowLeft: -1, PageDown: 10, PageUp: -10, Home: -total, End: total };

@@ -110,7 +110,7 @@ function textOfParts(parts) {
 }
 
 export const warningOf = (link) =>
-  link.startsWith("file:") ? " Others cannot open it, since it leads to a file on this computer: copy it from a page on a web server." : "";
+  /^(file:|https?:..(localhost|127\.|\[::1\]))/.test(link) ? " This address works on this computer only. Put the page on a web server, open it there, and copy the link again." : "";
 
 // ---- Numbered runs: the engine generates a schedule from a number. All readers get the same run for the same number.
 const TRIES = 200;

@@ -41,7 +41,7 @@ export const QUESTIONS = [
   {
     name: "stale-pred", list: "optimistic", title: "A pred that is gone", opening: [3], hides: [6, 7],
     lines: ["begin 0 add 5", "go 0 4", "begin 1 remove 3", "go 1 out", "go 0 2"], rest: ["go 0 out"],
-    question: "A’s pred is 3. Meanwhile B has removed 3, but its node still points to the end. A has its locks. Is it safe for A to write?",
+    question: "A’s pred is 3. Meanwhile B has removed 3, but the node of 3 still points to tail. A has its locks. Is it safe for A to write?",
     options: [
       { text: "Yes: pred still points to curr", says: "It does. But a walk from the head no longer reaches this 3." },
       { text: "No", right: true, says: "" },
@@ -107,7 +107,7 @@ export const QUESTIONS = [
       { text: "No: it links 7 behind 5", says: "Then 7 would be unlinked together with 5." },
       { text: "No: it unlinks 5 itself", right: true, says: "" },
     ],
-    why: "<b>B unlinks 5 itself.</b> Then it links its 7 behind the head. A’s own attempt to unlink 5 fails then. That does not matter: A has set the mark, so it returns true.",
+    why: "<b>No: B does not wait, it unlinks 5 itself.</b> Then it links its 7 behind the head. A’s own attempt to unlink 5 fails then. That does not matter: A has set the mark, so it returns true.",
     lacks: "mark-in-add", without: { lines: ["begin 1 add 7", "go 1 to 7", "begin 0 remove 5", "go 0 to 10", "go 1 out", "go 0 out"] },
     broken: "7 is lost: it was unlinked together with 5.",
   },

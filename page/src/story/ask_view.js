@@ -1,11 +1,11 @@
 // Guess, then see: a run stops at a question, and the reader predicts the answer. Then the run continues, and a text explains the answer.
-import { slideAddress } from "../data/lecture.js";
 import { isLecture, now } from "../page/now.js";
 import { QUESTIONS } from "./ask.js";
 import { ALL, drawBranches, goBack, isEmbed, itemOf, openBranch, seeAgain, takeBranch, promptOfBranch, whatIf, withoutCheck } from "./ask_branches.js";
 import { keepStory, keptStory } from "./progress.js";
 import { LiveRun } from "./live_run.js";
 import { drawOn, onStage, head, LIST_WORDS, numberOfKey, openScene, optionButtons, part, replyTo, scene, setScene, showPrompt, threadOfKey } from "./scene.js";
+import { goOnSlide, toSlide } from "./slide.js";
 
 const here = () => itemOf(now.place);
 
@@ -21,7 +21,7 @@ function html(place) {
   return `${onStage(`${top}<div id="branches" class="branches" hidden></div>`)}
     <footer class="foot">${isEmbed() ? "" : all}<span class="spread"></span>${isEmbed() ? out : ""}
     <button id="show-me" class="quiet" data-do="show">${isLecture() ? "Reveal" : "Show me"}</button>
-    <a id="go-on" class="button quiet" href="${place.slide > 0 ? slideAddress(place.slide + 1) : `#ask=${next.name}`}" ${isEmbed() ? "hidden" : ""}>Skip →</a></footer>`;
+    ${place.slide > 0 ? '<button id="go-on" data-do="on"></button>' : `<a id="go-on" href="#ask=${next.name}" ${isEmbed() ? "hidden" : ""}></a>`}</footer>`;
 }
 
 function begin(place) {
@@ -60,8 +60,19 @@ async function goes(by) {
   else if (count < trace.total) await figure.show(count);
   else if (lacks !== undefined && !branches.some(({ isFixed }) => isFixed)) await withoutCheck(here());
   else return false;
+  draw(now.scene);
   return true;
 }
+
+// Returns the words of the button at the right. On a slide, the button does what a presenter's key does.
+function onWords({ slide }, { branches }) {
+  if (slide === 0) return "Next question →";
+  const { count, trace } = scene.figure.run;
+  if (count < trace.total) return "Show the rest →";
+  return here().lacks === undefined || branches.some(({ isFixed }) => isFixed) ? "Next slide →" : "Without this check →";
+}
+
+const isShown = ({ stage }) => stage !== "guess" && stage !== "playing";
 
 function promptOf({ stage, chosen, at, branches }) {
   const item = here();
@@ -83,7 +94,7 @@ function draw(state) {
   showPrompt(promptOf(state));
   drawBranches(state);
   part("#show-me").hidden = state.stage !== "guess";
-  drawOn(state.stage !== "guess" && state.stage !== "playing", "Next question →");
+  drawOn(isShown(state), onWords(now.place, state));
 }
 
 function press(event) {
@@ -107,7 +118,7 @@ export const askView = {
   title: (place) => `${itemOf(place).title}: ${itemOf(place).question}`,
   html, begin, draw, press, goes,
   deeds: {
-    answer: ({ dataset }) => guessed(Number(dataset.option)), show: () => guessed(-1), again: seeAgain, if: whatIf, home: goBack,
+    answer: ({ dataset }) => guessed(Number(dataset.option)), show: () => guessed(-1), on: () => (isShown(now.scene) ? goOnSlide(1) : toSlide(1)), again: seeAgain, if: whatIf, home: goBack,
     without: () => withoutCheck(here()), branch: ({ dataset }) => openBranch(Number(dataset.branch)),
   },
 };

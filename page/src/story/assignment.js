@@ -36,7 +36,7 @@ function lessonTask(name) {
 function levelTask(number) {
   const name = levelOfNumber(number);
   if (name === undefined || name === NO_TASK) return null;
-  const title = `${LISTS[LACKING[name]].name}, #break=${number}`;
+  const title = `Break ${number}: ${LISTS[LACKING[name]].name}`;
   return { id: `break ${name}`, kind: "Break", title, says: BREAK_LEVELS[name].story, href: `#break=${number}` };
 }
 

@@ -62,13 +62,13 @@ export function showStrip(figure) {
   const wide = Math.max(250, figure.stripWide / zoomOf(figure));
   const grown = isLecture() ? GROWN : figure.spec.isPath ? 1 : wide < 450 ? SMALL_GROWN : WIDE_GROWN;
   const room = 26 + 9 * grown * `{${run.promised().join(", ")}}`.length; // pixels right of the last event, for the keys of the set
-  const scale = scaleOf(run.trace, run.count, wide - room, figure.hides, isLow() && (!figure.spec.isPath || isLecture()), grown);
+  const scale = scaleOf(run.trace, run.count, wide - room, figure.hides, isLow(figure), grown);
   Object.assign(scale, { edge: scale.edge + room, width: wide });
   figure.scale = scale;
   figure.part("strip").style.cssText = `--zoom:${zoomOf(figure)};--grown:${grown}`;
   setHtml(figure.part("strip"), tag("div", { class: "calls" }, drawCalls(run.trace, scale)) + drawContents(run.trace, scale) + LEGEND);
 }
-const isLow = () => innerHeight < 760 || isLecture();
+const isLow = ({ spec }) => (isLecture() ? spec.prompt !== false : innerHeight < 760 && !spec.isPath); // (the narrow bars of two lists have no room for labels)
 // The path draws its bars larger, and aligns the list with them.
 const zoomOf = ({ spec, stripWide }) => (isLecture() ? innerHeight / 450 : !spec.isPath ? 1 : stripWide < 600 ? 1.34 : stripWide < 1500 ? 1.35 : 1.55);
 export const barEnds = (figure) => [(HISTORY_LEFT - 6) * zoomOf(figure), 16 * zoomOf(figure)];

@@ -69,6 +69,7 @@ function saidHere({ run, spec }, moment) {
   return `${before} <b>${callText(call)} returns ${answer}.</b>`;
 }
 
+const LABEL = 18; // units: the smallest text of a drawing
 const HIDDEN = { false: ["succ"], true: [] }; // the path shows pred and curr only; the code of the lock-free list also uses succ
 export const lockShown = ({ list, plain, locks = true }) => (!locks || plain ? "" : list === "coarse" ? "list" : list === "lock-free" ? "" : "nodes");
 
@@ -79,8 +80,9 @@ function placeTheList(figure, { state, event: made }, isNear) {
   const box = figure.part("list");
   const { names = false, slots = 4, flat, strip, isPath = false } = spec;
   const hides = HIDDEN[String(names || (spec.list === "lock-free" && !isPath))];
-  const least = innerWidth >= 1900 ? 1 : 0;
-  const room = { wide, high: tall, least, slots: Math.max(slots, drawn.slots), lock: lockShown(spec), flat, tight: drawn.tight, hides, names, ends: strip && isPath ? barEnds(figure) : undefined, isWhole: figure.box.classList.contains("judged") };
+  const isSlide = isLecture();
+  const least = isSlide ? Math.min(0.019 * innerWidth, 0.0335 * innerHeight) / LABEL : innerWidth >= 1900 ? 1 : 0;
+  const room = { wide, high: tall, least, slots: Math.max(slots, drawn.slots), lock: lockShown(spec), flat, tight: drawn.tight, hides, names, ends: strip && isPath ? barEnds(figure) : undefined, isSlide, isWhole: isSlide || figure.box.classList.contains("judged") };
   const list = arranged(state, event, room);
   const fallen = drawn.chain.filter((name) => !list.chain.includes(name) && !state.nodes[name]?.link.endsWith("*"));
   const isStep = isNear && run.count === drawn.count + 1;

@@ -50,7 +50,7 @@ export async function checkAll(files, assignment, sayProgress = (_at, _of) => {}
     for (const row of same) row.large ||= `(${titleOf(task, courses)}: as ${fewNames(same.filter((other) => other !== row), FEW_NAMES)})`;
   }
   for (const row of rows) row.notes.unshift(...notesOnNames(row, rows));
-  return { rows, columns, empty, common: common.map(({ task, rows: same }) => `${titleOf(task, courses)} (${counted(same.length, "student")}: ${fewNames(same)})`) };
+  return { rows, columns, empty, common: common.map(({ task, rows: same }) => ({ title: titleOf(task, courses), rows: same })) };
 }
 
 // Adds a text to the row of its student, who is found by number and name. A text without a student's number gets a row of its own.
@@ -73,7 +73,7 @@ function takeText(students, text, courses, assignment) {
   for (const one of isOther ? [] : read.solutions) judgePart(own, course?.lessons ?? [], one, assignment?.tasks ?? null, odd);
   const [others, answers] = [odd.others, odd.answers].map((some) => [...some].map((task) => titleOf(task, courses)));
   if (others.length > 0) own.notes.push(`${counted(others.length, "solution")} of tasks not asked: ${others.join("; ")}`);
-  if (answers.length > 0) own.notes.push(`the lesson’s own answer: ${answers.join("; ")}`);
+  if (answers.length > 0) own.notes.push(`${answers.join("; ")}: same schedule as the answer that the page shows`);
 }
 
 // Judges one solution. `odd` collects the tasks that are not in the assignment, and the solutions that equal the lesson's own answer.
@@ -101,7 +101,8 @@ function titleOf(task, courses) {
   if (kind === "break") return tasksOf({ break: String(numberOfLevel(name)) }).tasks[0]?.title ?? task;
   if (kind !== "judge") return courses.flatMap(({ lessons }) => lessons).find((lesson) => lesson.name === task)?.title ?? task;
   const [, list] = /list=([a-z-]+)/.exec(name) ?? [];
-  return LISTS[list] === undefined ? task : `Judged: ${LISTS[list].name}, ${/event=(\d+)/.exec(name)?.[1] ?? "?"} events`;
+  const steps = [...name.matchAll(/[=,](b|g\d+\.(\d+))/g)].reduce((sum, [, , many]) => sum + Number(many ?? 1), 0);
+  return LISTS[list] === undefined ? task : `Judge: ${LISTS[list].name}, ${counted(steps, "event")}`;
 }
 
 export const markOf = ({ solved, wrong }, { id }) => (solved.has(id) ? "solved" : wrong.has(id) ? "wrong" : "none");
@@ -148,10 +149,20 @@ export function copiesText({ copies }, all = false) {
   const groups = copies.filter(({ isListed }) => all || isListed);
   return groups.map(({ count, of, rows }) => `${count} of ${of} with ${namesOf(rows)}`).join("; ");
 }
-const fewNames = (rows, most = MOST_NAMES) => `${namesOf(rows.slice(0, most))}${rows.length > most ? ` and ${rows.length - most} more` : ""}`;
+export const fewNames = (rows, most = MOST_NAMES) => `${namesOf(rows.slice(0, most))}${rows.length > most ? ` and ${rows.length - most} more` : ""}`;
 const namesOf = (rows) => rows.map(({ name, number }) => (number === "" ? name : `${name} (${number})`)).join(", ");
 
 export const sumsOf = ({ rows, columns }) => columns.map(({ id }) => rows.filter(({ solved }) => solved.has(id)).length);
+
+// Describes the schedules that many students have, for each task.
+export function commonText(common) {
+  const titles = [...new Set(common.map(({ title }) => title))];
+  return titles.map((title) => {
+    const counts = common.filter((one) => one.title === title).map(({ rows }) => rows.length);
+    const many = counts.length === 1 ? `one schedule is shared by ${counts[0]}` : `${counts.length} schedules are shared by ${counts.slice(0, -1).join(", ")} and ${counts.at(-1)}`;
+    return `${title}: ${many} students; short ones often are.`;
+  }).join(" ");
+}
 
 // Returns a table for a spreadsheet. `parted` separates the cells: German and French spreadsheets need semicolons. A cell that a spreadsheet would
 // read as a formula becomes plain text.

@@ -3,7 +3,7 @@ import { textOfBytes } from "../course/hand_in.js";
 import { saveText } from "../page/files.js";
 import { linkTo } from "../page/visit.js";
 import { counted, escaped, tag } from "../run/markup.js";
-import { assignmentOfLink, checkAll, copiesText, countOf, csvOf, markOf, sumsOf } from "./handins.js";
+import { assignmentOfLink, checkAll, commonText, copiesText, countOf, csvOf, fewNames, markOf, sumsOf } from "./handins.js";
 import { part } from "./scene.js";
 
 const MOST_BYTES = 2_000_000; // largest size of a file
@@ -19,12 +19,14 @@ export const handInsHtml = () => `<section class="panel" id="handins"><h2>What t
     <input id="in-link" placeholder="${escaped(linkTo("#assignment=…"))}"></label>
   <label class="drop" id="in-drop"><input type="file" multiple id="in-files"><b>Drop files or a folder here</b>
     <span class="small">or press to choose them</span></label>
-  <progress id="in-progress" hidden aria-label="files checked"></progress><p id="in-said" role="status"></p>
+  <progress id="in-progress" hidden aria-label="files checked"></progress><p id="in-said" role="status"></p><div id="in-shared"></div>
   <div id="in-table" class="scroll" tabindex="0" role="group" aria-label="the hand-ins"></div>
   <p class="line" id="in-save" hidden><button class="primary" data-do="csv">Save as CSV</button>
   <button data-do="csv" data-parted=";">Save with semicolons (German, French)</button>
   <label><input type="checkbox" id="in-wrong"> only rows with a wrong solution or an error</label> <span id="in-hidden" class="small" role="status"></span><button class="quiet" data-do="clear">Clear</button></p>
-  <p class="small">In the CSV a wrong solution is 0, a missing one an empty cell. The check shows that a solution solves its task, and that two students
+  <p class="small">✓: solved; ✗: handed in and wrong, so the text was changed or is old; –: not solved or not tried, since the page hands in solutions
+  only. The CSV has all rows, by name; a wrong solution is 0, a missing one an empty cell. The page does not check the due date: use the time of your mail
+  or course system. The check shows that a solution solves its task, and that two students
   have the same schedule. It cannot show who wrote a text: use it to admit students to an exam rather than for marks. A level of Break counts when the
   run breaks the list; “check named” adds that the student also chose the missing check on the page.</p></section>`;
 
@@ -104,12 +106,15 @@ function drawRow(row, columns) {
 
 function drawResult({ rows, columns, empty, common }) {
   const full = rows.filter((row) => countOf(row, columns) === columns.length).length;
-  const odd = [["Without a hand-in", empty], ["Too long", given.tooLong], ["Many students have the same schedule, which may be the obvious one", common]];
+  const odd = [["Without a hand-in", empty], ["Too long", given.tooLong]];
+  const names = common.map((one) => `${escaped(`${one.title}: ${fewNames(one.rows)}`)}.`).join("<br>");
+  const shared = common.length === 0 ? "" : `<details class="small"><summary>${escaped(commonText(common))}</summary>${names}</details>`;
   const wrong = odd.filter(([, names]) => names.length > 0).map(([what, names]) => tag("span", { class: "odd" }, `${what}: ${escaped(names.join(", "))}.`));
   const merged = rows.reduce((sum, { files }) => sum + files.length - 1, 0);
   const files = `${counted(given.files.length + given.tooLong.length, "file")}: <b>${counted(rows.length, "student")}</b>`;
-  piece("said").innerHTML = `${files}, ${merged} merged, ${empty.length} without a hand-in. ${full} with all ${columns.length} tasks. ${wrong.join(" ")}`;
-  const head = (name, at) => tag("th", { scope: "col" }, tag("button", { "data-do": "sort", "data-at": at }, escaped(name)));
+  piece("said").innerHTML = `${files}, ${merged} merged, ${empty.length} without a hand-in. ${full} with ${columns.length === 1 ? "the task" : `all ${columns.length} tasks`}. ${wrong.join(" ")}`;
+  piece("shared").innerHTML = shared;
+  const head = (name, at) => tag("th", { scope: "col", ...(at === 0 ? { "aria-sort": "ascending" } : {}) }, tag("button", { "data-do": "sort", "data-at": at }, escaped(name)));
   const heads = ["Student", "Number", ...columns.map(({ title }) => title), "Solved", "Same schedules", "Notes"].map(head);
   const body = rows.map((row) => drawRow(row, columns)).join("");
   const sums = sumsOf({ rows, columns }).map((sum) => `<td class="mark">${sum} of ${rows.length}</td>`).join("");
@@ -120,7 +125,7 @@ function drawResult({ rows, columns, empty, common }) {
 }
 
 function showNothing(says) {
-  piece("table").innerHTML = "";
+  piece("table").innerHTML = piece("shared").innerHTML = "";
   piece("said").textContent = says;
   piece("save").hidden = piece("progress").hidden = true;
 }
@@ -136,7 +141,12 @@ export const handInDeeds = {
   clear,
   sort({ dataset: { at } }) {
     const body = piece("table").querySelector("tbody");
-    const sign = at > given.result.columns.length + 2 ? -1 : 1; // largest counts and longest notes first
+    const head = piece("table").querySelectorAll("thead th")[at];
+    const before = head.getAttribute("aria-sort");
+    const isDown = before === null ? at > given.result.columns.length + 1 : before === "ascending"; // largest counts and longest notes first; again: the other way
+    for (const other of piece("table").querySelectorAll("thead th")) other.removeAttribute("aria-sort");
+    head.setAttribute("aria-sort", isDown ? "descending" : "ascending");
+    const sign = isDown ? -1 : 1;
     const textOf = ({ cells }) => cells[at].dataset.sort ?? cells[at].innerText;
     const compared = (one, other) => sign * textOf(one).localeCompare(textOf(other), undefined, { numeric: true });
     body.append(...[...body.rows].sort(compared));

@@ -18,7 +18,7 @@ const twoDigits = (count) => String(count).padStart(2, "0");
 function notesHtml() {
   return `${head("Notes to the slides", "", '<p id="notes-says" class="lead"></p><p id="notes-answer" class="prose"></p><p id="notes-next" class="prose"></p>', "title")}
     <p class="clock" role="timer"><b id="notes-clock"></b> <span id="notes-plan" class="small"></span></p>
-    <p class="small">Keep this window on your own screen. In this browser it follows the slides; ← and → turn its pages by hand.</p>
+    <p class="small">Keep this window on your own screen. In this browser it follows the slides; ← and → turn its pages by hand. If you are late, N on a slide opens the next one.</p>
     ${foot('<a class="button quiet" href="#teachers">For teachers</a>', `<button data-do="restart">Restart</button>
       <a class="button primary" target="_blank" href="${slideAddress(1)}">Open the slides ↗</a>`)}`;
 }

@@ -3,8 +3,8 @@ import { LACKING } from "../../made/classics.js";
 import { LISTS } from "../../made/rows.js";
 import { LECTURE, slideAddress } from "../data/lecture.js";
 import { BREAK_LEVELS } from "../data/levels.js";
-import { escaped, listOptions, tag } from "../run/markup.js";
-import { seedOf } from "../run/address.js";
+import { counted, escaped, listOptions, tag } from "../run/markup.js";
+import { seedOf, warningOf } from "../run/address.js";
 import { linkTo } from "../page/visit.js";
 import { QUESTIONS } from "./ask.js";
 import { addressOfTasks, allLevels, bookCourse } from "./assignment.js";
@@ -21,9 +21,9 @@ function lectureHtml() {
       tag("button", { class: "quiet", "data-do": "link", "data-link": slideAddress(at + 1) }, "Copy link"));
   const sum = LECTURE.reduce((total, [minutes]) => total + minutes, 0);
   return `<section class="panel" id="slides"><h2>A lecture of ${sum} minutes</h2>
-    <p class="prose">Each slide is as large as the screen. A presenter’s keys, the arrows and Space go on and back, through all of them; A and B
-    let a thread step; Escape leads back here. Ask the class first, then step. The project has no licence yet: show the slides and link to them, but ask
-    before you copy them.</p>
+    <p class="prose">Each slide is as large as the screen. A presenter’s keys, the arrows and Space go on and back, through all of them; N opens
+    the next slide at once; A and B let a thread step; Escape leads back here. Ask the class first, then step. The project has no licence yet: show the
+    slides, link to them, and print the handout for your class, but ask before you copy more.</p>
     <p class="line"><a class="button" target="_blank" href="#notes">Notes and a clock, for your own screen ↗</a><a class="button" target="_blank" href="#handout">A handout to print ↗</a></p><ol class="plan">${LECTURE.map(slide).join("")}</ol></section>`;
 }
 
@@ -68,12 +68,13 @@ goal
 
 // ---- Homework: the ticked lessons, levels and numbered runs are packed into one link.
 const FIRST_NUMBER = 17;
-const work = { seeds: [] };
+const work = { title: "Concurrent lists, week 1", due: "", learn: [], break: [], seeds: [] }; // kept while the teacher looks at other places
 const piece = (name) => part(`#hw-${name}`);
 
 function pick(kind, value, number, title, says) {
   const words = `<span><i>${number}</i> <b>${escaped(title)}</b> <span class="small">${escaped(says)}</span></span>`;
-  return tag("label", { class: "pick" }, tag("input", { type: "checkbox", "data-kind": kind, value }), words);
+  const isTicked = work[kind].includes(String(value));
+  return tag("label", { class: "pick" }, tag("input", { type: "checkbox", "data-kind": kind, value, ...(isTicked ? { checked: "" } : {}) }), words);
 }
 
 const picks = (kind, title, items) => `<fieldset><legend>${title} <button class="quiet small" data-do="all" data-all="${kind}">all</button></legend>
@@ -82,28 +83,28 @@ const picks = (kind, title, items) => `<fieldset><legend>${title} <button class=
 function homeworkHtml() {
   const lessons = bookCourse().lessons.map(({ name, title, list }, at) => pick("learn", name, at + 1, title, LISTS[list].name));
   const levels = allLevels().map(({ name, number }) => pick("break", number, number, LISTS[LACKING[name]].name, BREAK_LEVELS[name].story));
-  return `<section class="panel" id="homework"><h2>Homework, as one link</h2><p class="prose">Tick tasks. The link contains the whole assignment: it needs no server, it
-    can be bookmarked, forwarded and opened on another computer, and it never changes.</p>
-    <div class="line"><label class="wide-label">Title <input id="hw-title" value="Concurrent lists, week 1" maxlength="60"></label>
-    <label class="wide-label">Due (optional; students see it) <input id="hw-due" type="date"></label></div>
+  return `<section class="panel" id="homework"><h2>Homework, as one link</h2><p class="prose">Tick tasks. The link contains the whole assignment: it can be bookmarked
+    and forwarded, and it never changes. If the page is on a web server, every computer opens it.</p>
+    <div class="line"><label class="wide-label">Title <input id="hw-title" value="${escaped(work.title)}" maxlength="60"></label>
+    <label class="wide-label">Due (optional; students see it) <input id="hw-due" type="date" value="${work.due}"></label></div>
     <div class="columns">${picks("learn", "Solve", lessons)}${picks("break", "Break", levels)}
     <fieldset><legend>Judge: numbered runs</legend><p class="small">All students get the same run and state what each call returns and when it
       takes effect.</p><div class="line"><select id="hw-kind" aria-label="list of the run">${listOptions("lazy")}</select>
       <input id="hw-number" type="number" min="1" max="9999" value="${FIRST_NUMBER}" aria-label="number of the run">
       <button data-do="add">Add this run</button></div><ul id="hw-seeds"></ul></fieldset></div>
-    <div class="made-link"><p id="hw-count" class="small"></p><pre id="hw-link" class="snippet" tabindex="0"></pre>
+    <div class="made-link"><p id="hw-count" class="small" role="status"></p><pre id="hw-link" class="snippet" tabindex="0"></pre>
     <div class="line"><button class="primary" data-do="copy">Copy the link</button>
     <a id="hw-open" class="button" target="_blank">Open it as a student ↗</a></div></div></section>`;
 }
 
 const ticked = (kind) => [...part("#homework").querySelectorAll(`[data-kind=${kind}]:checked`)].map(({ value }) => value);
-const addressNow = () =>
-  addressOfTasks(piece("title").value.trim() || "Assignment", { learn: ticked("learn"), levels: ticked("break"), seeds: work.seeds, due: piece("due").value });
+const addressNow = () => addressOfTasks(work.title.trim() || "Assignment", { ...work, levels: work.break });
 
 function fill() {
+  Object.assign(work, { title: piece("title").value, due: piece("due").value, learn: ticked("learn"), break: ticked("break") });
   const address = addressNow();
-  const count = ticked("learn").length + ticked("break").length + work.seeds.length;
-  piece("count").textContent = count === 0 ? "Nothing is ticked yet." : `${count} task${count === 1 ? "" : "s"}`;
+  const count = work.learn.length + work.break.length + work.seeds.length;
+  piece("count").textContent = count === 0 ? "Nothing is ticked yet." : `${counted(count, "task")}.${warningOf(linkTo(address))}`;
   piece("link").textContent = linkTo(address);
   piece("open").href = address;
   if (count > 0) Object.assign(part("#in-link"), { value: linkTo(address) }).oninput?.(); // the panel of hand-ins then checks for this assignment
