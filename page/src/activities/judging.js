@@ -130,10 +130,10 @@ class Judging {
     for (const name of ["end", "levels"]) judgePart(name).style.visibility = isAsked ? "hidden" : "";
     const told = isLecture() ? now.scene.note : ""; // the answer, at the end of the last slide
     const link = linkTo(slideAddress(now.place.slide));
-    const where = now.place.slide === 0 ? "" : `${LISTS[now.run.trace.kind].name}. ${warningOf(link) === "" ? `This slide for everybody: ${link.replace(/^https?:..|index.html/g, "")}` : ""}`;
+    const where = isNarrow() || warningOf(link) !== "" ? "" : ` · ${link.replace(/^https?:..|index.html/g, "")}`; // for the class
     const kind = told === "" ? ({ true: "right", false: "wrong" }[verdict?.isRight] ?? "") : "told";
     judgePart("verdict").className = kind;
-    judgePart("verdict").textContent = told || (verdict?.says ?? where);
+    judgePart("verdict").textContent = told || (verdict?.says ?? (now.place.slide === 0 ? "" : `${LISTS[now.run.trace.kind].name}${where}`));
     judgePart("tries").textContent = tries === 0 ? "" : `${tries} ${tries === 1 ? "try" : "tries"} refused`;
     judgePart("hint").textContent = kind === "wrong" && tries >= 2 ? hintOfRun() : "";
     judgePart("line").innerHTML = kind === "right" ? `<details><summary>Saved. The line to hand in</summary><code>${escaped(this.line)}</code></details>` : "";

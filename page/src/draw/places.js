@@ -89,7 +89,7 @@ function unitsOf(state, room, slots, isFlat) {
   const sizes = [1, 2, 3, 4, 5, MOST_POINTING].map(sizeWith).filter(({ isGood }) => isGood);
   const { lanes, scale: largest } = sizes.reduce((one, other) => (other.scale > one.scale + 0.001 ? other : one));
   const heights = heightsOf(form.below[tight], lanes);
-  const scale = room.isWhole ? Math.min(largest, Math.max(LEAST_OF_ALL, (room.high + MARGIN / 2) / heights.height)) : largest; // smaller labels, but nothing is cut
+  const scale = room.isWhole ? Math.min(largest, Math.max(LEAST_OF_ALL, (room.high + MARGIN / 4) / heights.height)) : largest; // smaller labels, but nothing is cut
   return { ...heights, form, scale, tight, row, isLow: form.below[tight] <= 0, width: Math.max(room.wide / scale, slots * form.slot), spare: Math.max(0, room.high / scale - heights.height) };
 }
 

@@ -47,6 +47,7 @@ async function guessed(index) {
   setScene({ branches: [{ ...now.scene.branches[0], from: asked }] });
   openBranch(0);
   scene.figure.moveTo(stop);
+  draw(now.scene);
 }
 
 async function goes(by) {

@@ -44,7 +44,7 @@ if (isStage) {
   for (const it of all("#scene :is(.stage, .list, .prompt, .said)")) if (it.scrollHeight > it.clientHeight + 3) found.push(`scrolls: ${nameOf(it)}`);
   for (const it of all(".stage > *")) if (boxOf(it).bottom > boxOf(it.parentElement).bottom + 1) found.push(`leaves the stage: ${nameOf(it)}`);
   for (const it of all(".on-stage :is(p, h1, li, button, a, select, input, summary, td, th)")) {
-    if (it.closest("svg, .lines, .codebox:not([open]) > :not(summary), #sides-presets, .unseen")) continue;
+    if (it.closest("svg, .lines, .codebox:not([open]) > :not(summary), #sides-presets, .unseen, [data-view=lecture] :is(.codebox:not([open]), .dock .again)")) continue; // (the last two are in the bar of a slide)
     const { left, right, top, bottom, width } = boxOf(it);
     if (width > 0 && (bottom > foot + 1 || right > innerWidth + 1 || left < -1 || top < -1)) found.push(`under a bar or outside: ${nameOf(it)}`);
   }
@@ -190,4 +190,19 @@ def test_slides_are_readable(visitor, size):
         walk.look(f"#lecture={number}, one key on")
         bars = visitor.script("return [...document.querySelectorAll(':is(.strip, #judge-bars) text')].filter((it) => it.getClientRects().length > 0).map((it) => [it.textContent, parseFloat(getComputedStyle(it).fontSize) * it.ownerSVGElement.getBoundingClientRect().width / it.ownerSVGElement.viewBox.baseVal.width / innerHeight])")
         assert all(share > .033 for text, share in bars if text not in ("should", "have")), (number, bars)
+        walk.go(f"#lecture={number}")
+        visitor.idle()
+        visitor.script("return new Promise((done) => setTimeout(() => requestAnimationFrame(() => requestAnimationFrame(done)), 100))")  # the figure is drawn in its final size
+        labels = visitor.script("return [...document.querySelectorAll('.list svg text')].filter((it) => it.getClientRects().length > 0).map((it) => [it.textContent, parseFloat(getComputedStyle(it).fontSize) * it.getScreenCTM().a / innerHeight])")
+        assert size[0] < 1900 or all(share > .0325 for _, share in labels), (number, labels)
     walk.end()
+
+
+def test_the_last_slide_fits_a_phone(visitor):
+    fit(visitor, 390, 844)
+    visitor.open("#lecture=11")
+    visitor.wait("return document.querySelector('#judge-bars svg') !== null")
+    room, wide, window = visitor.script("const it = document.getElementById('judge-bars'); return [it.clientWidth, it.scrollWidth, innerWidth]")
+    visitor.devtools("Emulation.clearDeviceMetricsOverride")
+    visitor.devtools("Emulation.setTouchEmulationEnabled", enabled=False)
+    assert wide <= room and (visitor.name != "chromium" or room > 0.85 * window), (room, wide, window)

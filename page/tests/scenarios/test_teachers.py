@@ -42,13 +42,44 @@ def test_the_link_contains_the_due_day(visitor):
     assert visitor.text(".due") == "Due: 2026-12-04"
 
 
+def test_the_homework_stays_while_other_places_are_open(visitor):
+    visitor.open("#teachers")
+    visitor.type("#hw-due", "2026-12-07")
+    visitor.click("[value=one-lock]")
+    visitor.click("[data-kind=break][value='1']")
+    visitor.click("[data-do=add]")
+    link = visitor.text("#hw-link")
+    visitor.script("location.hash = '#lecture=4'")
+    visitor.wait("return document.body.dataset.view === 'lecture'")
+    visitor.press("Escape")
+    visitor.wait("return document.getElementById('hw-link') !== null")
+    assert visitor.text("#hw-link") == link and "3 tasks" in visitor.text("#hw-count") and "this computer only" in visitor.text("#hw-count")
+    assert visitor.script("return [document.getElementById('in-link').value, document.querySelector('[value=one-lock]').checked]") == [link, True]
+
+
+def test_the_button_of_a_slide_does_what_a_key_does(visitor):
+    visitor.open("#lecture=5")
+    visitor.press("1")
+    visitor.revealed()
+    assert visitor.text(".reveal .you").startswith("You said: yes")
+    visitor.click("#go-on", "Show the rest")
+    visitor.wait("return document.getElementById('go-on').innerText === 'Without this check →'")
+    visitor.click("#go-on")
+    visitor.wait("return document.getElementById('go-on').innerText === 'Next slide →'", seconds=90)
+    assert "5 is lost" in visitor.text(".reveal")
+    visitor.click("#go-on")
+    visitor.wait("return location.hash === '#lecture=6'")
+    visitor.press("n")
+    visitor.wait("return location.hash === '#lecture=7'")
+
+
 def test_notes_follow_the_slides_and_a_handout_can_be_printed(visitor):
     visitor.open("#notes")
     assert visitor.text("h1") == "1. Lose a number" and ":" in visitor.text("#notes-clock")
     visitor.press("Right")
     assert visitor.text("h1") == "2. One lock"
     visitor.open("#handout")
-    assert visitor.script("return document.querySelectorAll('.sheet .list svg').length") == 13
+    assert visitor.script("return document.querySelectorAll('.sheet .list svg').length") == 14
 
 
 def test_an_assignment_names_its_unknown_tasks(visitor):
@@ -107,13 +138,13 @@ def test_hand_ins_of_a_class_are_checked(visitor):
     visitor.wait("return document.querySelectorAll('.class tbody tr').length === 33", seconds=60)
     told = visitor.text("#in-said")
     assert "34 files: 33 students, 0 merged, 1 without a hand-in. 31 with all 2 tasks." in told and "notes.txt" in told
-    assert "may be the obvious one: CoarseList, #break=1 (" in told
+    assert "Break 1: CoarseList: one schedule is shared by" in visitor.text("#in-shared summary")
     row = lambda name: visitor.script("return [...document.querySelectorAll('.class tbody tr')].find((it) => it.innerText.includes(arguments[0])).innerText", name)
     assert "2 of 2 with Student 8 (1008), Student 9 (1009)" in row("Student 7\t") and " of 2 with" not in row("Student 6\t")
     assert "2 rows with this name, since a number is missing: max.txt, max-2.txt" in row("Max Maier")
     assert "handed in for “Week 2”: not counted" in row("Eva")
     assert visitor.text(".class tfoot").split()[2:5] == ["31", "of", "33"]
-    assert "CoarseList, #break=1: as Max Maier, Max Maier and 29 more" in row("Student 6\t") and "check not named" in row("Student 6\t")
+    assert "Break 1: CoarseList: as Max Maier, Max Maier and 29 more" in row("Student 6\t") and "check not named" in row("Student 6\t")
     visitor.click("#in-wrong")
     assert visitor.script("return [...document.querySelectorAll('.class tbody tr')].filter((it) => it.getClientRects().length > 0).map((it) => it.cells[0].innerText)") == ["Eva"]
     assert visitor.text("#in-hidden") == "32 of 33 rows hidden"
@@ -121,6 +152,8 @@ def test_hand_ins_of_a_class_are_checked(visitor):
     assert visitor.text("#in-hidden") == ""
     visitor.click(".class thead button", "Same schedules")
     assert "2 of 2 with" in visitor.text(".class tbody tr")
+    solved = lambda: [visitor.click(".class thead button", "Solved"), visitor.script("return document.querySelector('.class tbody tr .mark:nth-last-child(3)').innerText")][1]
+    assert [solved(), solved()] == ["2", "0"] and visitor.is_seen(".class [aria-sort=ascending]")
     visitor.type("#in-link", "http://example.org/foo")
     assert visitor.text("#in-said") == "This is not the link of an assignment: “#assignment=” is missing." and not visitor.is_seen(".class")
 
@@ -233,14 +266,14 @@ def test_the_presenters_keys_end_the_last_slide(visitor):
     for _ in range(total):
         visitor.press("PageDown")
     visitor.wait("return document.getElementById('where').innerText === arguments[0]", f"event {total} of {total}")
-    assert visitor.text("#judge-verdict") == ""
+    assert visitor.text("#judge-verdict") == "LockFreeList"
     visitor.press("PageDown")
     visitor.wait("return document.getElementById('judge-verdict').innerText.startsWith('The answer: contains returns false')")
     assert visitor.hash == "#lecture=11" and visitor.in_window("#judge-verdict")
     visitor.press("PageUp")
-    visitor.wait("return document.getElementById('judge-verdict').innerText === ''")
+    visitor.wait("return document.getElementById('judge-verdict').innerText === 'LockFreeList'")
     visitor.press("PageDown")
-    visitor.wait("return document.getElementById('judge-verdict').innerText !== ''")
+    visitor.wait("return document.getElementById('judge-verdict').innerText !== 'LockFreeList'")
     visitor.press("PageDown")
     visitor.wait("return location.hash === '#teachers'")
 
