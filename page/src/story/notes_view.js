@@ -3,6 +3,8 @@ import { LECTURE, slideAddress } from "../data/lecture.js";
 import { drawStage } from "../draw/stage.js";
 import { HERE, keptUnder } from "../page/kept.js";
 import { now } from "../page/now.js";
+import { linkTo } from "../page/visit.js";
+import { warningOf } from "../run/address.js";
 import { tag } from "../run/markup.js";
 import { lockShown } from "./figure_parts.js";
 import { LiveRun } from "./live_run.js";
@@ -77,17 +79,21 @@ function pictureOf(figure) {
   return drawStage(run.state, null, { ...ROOM, slots, flat, lock: lockShown(figure) }, `h${figure.slots}${run.lines.length}`);
 }
 
+// On paper nothing can be pressed.
+const onPaper = (task) =>
+  task.replace(/^Press A and B in/, "Write").replace("an order that", "an order of A and B that").replace(/^Press [^.]* until (A’s|its) call returns\./, "A goes on until its call returns: draw the list then.");
+
 /** @param {any} screen @param {number} at */
 function sheetOf({ question, prose, figure, ask, options, task }, at) {
   const choices = options === undefined ? "" : tag("ol", { class: "choices" }, ...options.map(({ text }) => tag("li", {}, text)));
   return `<section class="sheet"><h2>${at + 1}. ${question}</h2><p>${prose}</p><div class="list">${pictureOf(figure)}</div>
-    <p><b>${ask ?? task}</b></p>${choices}<p class="lines-to-write" aria-hidden="true"></p></section>`;
+    <p><b>${ask ?? onPaper(task)}</b></p>${choices}<p class="lines-to-write" aria-hidden="true"></p></section>`;
 }
 
 export const handoutView = {
   kind: "handout",
   title: () => "Handout · Why not just one lock?",
-  html: () => `${head("Handout", "Why not just one lock?", "", "title")}
+  html: () => `${head("Handout: the screens of the path", "Why not just one lock?", warningOf(linkTo("")) === "" ? `<p class="small">${linkTo("#story=1")}</p>` : "", "title")}
     ${SCREENS.flatMap((screen) => [screen, ...(screen.parts ?? [])]).map(sheetOf).join("")}
     ${foot('<a class="button quiet" href="#teachers">For teachers</a>', '<button class="primary" data-do="print">Print</button>')}`,
   deeds: { print: () => print() },

@@ -24,7 +24,7 @@ function lectureHtml() {
     <p class="prose">Each slide is as large as the screen. A presenter’s keys, the arrows and Space go on and back, through all of them; N opens
     the next slide at once; A and B let a thread step; Escape leads back here. Ask the class first, then step. The project has no licence yet: show the
     slides, link to them, and print the handout for your class, but ask before you copy more.</p>
-    <p class="line"><a class="button" target="_blank" href="#notes">Notes and a clock, for your own screen ↗</a><a class="button" target="_blank" href="#handout">A handout to print ↗</a></p><ol class="plan">${LECTURE.map(slide).join("")}</ol></section>`;
+    <p class="line"><a class="button" target="_blank" href="#notes">Notes and a clock, for your own screen ↗</a><a class="button" target="_blank" href="#handout">A handout to print: the path ↗</a></p><ol class="plan">${LECTURE.map(slide).join("")}</ol></section>`;
 }
 
 const titleOf = (name) => QUESTIONS.find((item) => item.name === name).title;

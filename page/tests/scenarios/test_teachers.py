@@ -79,6 +79,7 @@ def test_notes_follow_the_slides_and_a_handout_can_be_printed(visitor):
     visitor.press("Right")
     assert visitor.text("h1") == "2. One lock"
     visitor.open("#handout")
+    assert "Press" not in visitor.text("#scene").replace("Press A or B", "") and "Write an order of A and B that loses a number." in visitor.text("#scene")
     assert visitor.script("return document.querySelectorAll('.sheet .list svg').length") == 14
 
 
