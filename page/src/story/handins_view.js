@@ -70,10 +70,7 @@ export function beginHandIns() {
   piece("files").onchange = ({ target }) => take([...target.files].map((file) => ({ name: file.name, file })));
   piece("link").oninput = check;
   piece("wrong").onchange = showRows;
-  drop.ondragover = (event) => {
-    event.preventDefault();
-    drop.classList.add("over");
-  };
+  drop.ondragover = (event) => (event.preventDefault(), drop.classList.add("over"));
   drop.ondragleave = () => drop.classList.remove("over");
   drop.ondrop = async (event) => {
     event.preventDefault();
@@ -108,12 +105,11 @@ function drawResult({ rows, columns, empty, common }) {
   const full = rows.filter((row) => countOf(row, columns) === columns.length).length;
   const odd = [["Without a hand-in", empty], ["Too long", given.tooLong]];
   const names = common.map((one) => `${escaped(`${one.title}: ${fewNames(one.rows)}`)}.`).join("<br>");
-  const shared = common.length === 0 ? "" : `<details class="small"><summary>${escaped(commonText(common))}</summary>${names}</details>`;
   const wrong = odd.filter(([, names]) => names.length > 0).map(([what, names]) => tag("span", { class: "odd" }, `${what}: ${escaped(names.join(", "))}.`));
   const merged = rows.reduce((sum, { files }) => sum + files.length - 1, 0);
   const files = `${counted(given.files.length + given.tooLong.length, "file")}: <b>${counted(rows.length, "student")}</b>`;
   piece("said").innerHTML = `${files}, ${merged} merged, ${empty.length} without a hand-in. ${full} with ${columns.length === 1 ? "the task" : `all ${columns.length} tasks`}. ${wrong.join(" ")}`;
-  piece("shared").innerHTML = shared;
+  piece("shared").innerHTML = common.length === 0 ? "" : `<details class="small"><summary>${escaped(commonText(common))}</summary>${names}</details>`;
   const head = (name, at) => tag("th", { scope: "col", ...(at === 0 ? { "aria-sort": "ascending" } : {}) }, tag("button", { "data-do": "sort", "data-at": at }, escaped(name)));
   const heads = ["Student", "Number", ...columns.map(({ title }) => title), "Solved", "Same schedules", "Notes"].map(head);
   const body = rows.map((row) => drawRow(row, columns)).join("");

@@ -113,11 +113,6 @@ function fill() {
   piece("seeds").innerHTML = work.seeds.map(item).join("");
 }
 
-function beginHomework() {
-  part("#homework").addEventListener("input", fill);
-  fill();
-}
-
 function addRun() {
   const seed = seedOf(piece("kind").value, Math.max(1, Number(piece("number").value) || FIRST_NUMBER));
   if (!work.seeds.includes(seed)) work.seeds.push(seed);
@@ -131,16 +126,6 @@ function tickAll({ dataset }) {
   for (const box of boxes) box.checked = !isAll;
   fill();
 }
-
-const homeworkDeeds = {
-  all: tickAll,
-  add: addRun,
-  drop: ({ dataset }) => {
-    work.seeds.splice(Number(dataset.at), 1);
-    fill();
-  },
-  copy: () => copyText(linkTo(addressNow()), "The link is copied."),
-};
 
 const OWN = `<section class="panel" id="own"><h2>Lessons of your own</h2>
   <p class="prose">A course is a text file. Each lesson has a question, a list, its initial keys, and the conditions that a solution meets. Write it under Solve,
@@ -161,7 +146,8 @@ function html() {
 
 function begin() {
   beginEmbed();
-  beginHomework();
+  part("#homework").addEventListener("input", fill);
+  fill();
   beginHandIns();
 }
 
@@ -171,8 +157,11 @@ export const teachView = {
   html,
   begin,
   deeds: {
-    ...homeworkDeeds,
     ...handInDeeds,
+    all: tickAll,
+    add: addRun,
+    drop: ({ dataset }) => (work.seeds.splice(Number(dataset.at), 1), fill()),
+    copy: () => copyText(linkTo(addressNow()), "The link is copied."),
     jump: ({ dataset }) => part(`#${dataset.panel}`).scrollIntoView({ behavior: "smooth" }),
     link: ({ dataset }) => copyText(linkTo(dataset.link), "The link is copied."),
     snippet: () => copyText(snippetOf(part("#embed-which").value), "The snippet is copied."),
