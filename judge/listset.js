@@ -352,7 +352,7 @@ function take(found, words) {
     takeFlag(found, word, behind);
   } else if (Object.hasOwn(found.options, name)) {
     const shown = `${name} <${found.options[name]}>`;
-    const text = behind.length > 0 ? behind.join("=") : textBehind(shown, words, found.name);
+    const text = behind.length > 0 ? behind.join("=") : textBehind(shown, words, found);
     if (found.texts[name.slice(2)] !== void 0)
       throw wrongWords(`the argument '${shown}' cannot be used multiple times`, usageOf(found.name));
     found.texts[name.slice(2)] = text;
@@ -367,12 +367,17 @@ function takeFlag(found, word, behind) {
     throw wrongWords(`the argument '${word}' cannot be used multiple times`, usageOf(found.name));
   found.isOn = true;
 }
-function textBehind(shown, words, name) {
-  if (/^-[0-9]/.test(words[0] ?? ""))
-    throw unexpected(name, words[0].slice(0, 2));
-  if (words.length === 0 || !isValue(words[0]))
-    throw wrongWords(`a value is required for '${shown}' but none was supplied`);
-  return words.shift();
+function textBehind(shown, words, found) {
+  const [word = "--"] = words;
+  if (isValue(word))
+    return words.shift();
+  const [name, ...behind] = word.split("=");
+  if (name === found.flag && behind.length > 0)
+    takeFlag(found, word, behind);
+  const isKnown = name === found.flag || Object.hasOwn(found.options, name) || ["--", "--help", "-h"].includes(name);
+  if (!isKnown)
+    throw unexpected(found.name, name.startsWith("--") ? name : word.slice(0, 2));
+  throw wrongWords(`a value is required for '${shown}' but none was supplied`);
 }
 var opened = (file = "-") => file === "-" ? 0 : fs.openSync(file, "r");
 function bytesOf2(input) {

@@ -153,7 +153,7 @@ function take(found, words) {
     takeFlag(found, word, behind);
   } else if (Object.hasOwn(found.options, name)) {
     const shown = `${name} <${found.options[name]}>`;
-    const text = behind.length > 0 ? behind.join("=") : textBehind(shown, words, found.name);
+    const text = behind.length > 0 ? behind.join("=") : textBehind(shown, words, found);
     if (found.texts[name.slice(2)] !== undefined) throw wrongWords(`the argument '${shown}' cannot be used multiple times`, usageOf(found.name));
     found.texts[name.slice(2)] = text;
   } else {
@@ -167,10 +167,15 @@ function takeFlag(found, word, behind) {
   found.isOn = true;
 }
 
-function textBehind(shown, words, name) {
-  if (/^-[0-9]/.test(words[0] ?? "")) throw unexpected(name, words[0].slice(0, 2));
-  if (words.length === 0 || !isValue(words[0])) throw wrongWords(`a value is required for '${shown}' but none was supplied`);
-  return words.shift();
+// Returns the value behind an option and removes it from `words`. As in clap, an error in the next argument takes precedence over the missing value.
+function textBehind(shown, words, found) {
+  const [word = "--"] = words;
+  if (isValue(word)) return words.shift();
+  const [name, ...behind] = word.split("=");
+  if (name === found.flag && behind.length > 0) takeFlag(found, word, behind);
+  const isKnown = name === found.flag || Object.hasOwn(found.options, name) || ["--", "--help", "-h"].includes(name);
+  if (!isKnown) throw unexpected(found.name, name.startsWith("--") ? name : word.slice(0, 2));
+  throw wrongWords(`a value is required for '${shown}' but none was supplied`);
 }
 
 // Opens a file and returns its descriptor, or that of standard input if no file is named.
