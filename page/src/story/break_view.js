@@ -72,7 +72,7 @@ function notYet(run, { kind, isExplained }) {
 
 const whyOf = ({ why }, wasShown) => {
   const ofList = why.replace(/the set (has|does not have) it/, "the list $1 it"); // a broken list is no set
-  return `${ofList}. No order of the calls explains that. (Checked by a proved program.)${wasShown ? " This run was shown to you: find one of your own." : ""}`;
+  return `${ofList}. No order of the calls explains that. (Checked by a program that is proved correct.)${wasShown ? " This run was shown to you: find one of your own." : ""}`;
 };
 
 const NOBODY_KNOWS = "No run is known that breaks this list. Try it, and say why.";
