@@ -81,7 +81,7 @@ function pictureOf(figure) {
 
 // On paper nothing can be pressed.
 const onPaper = (task) =>
-  task.replace(/^Press A and B in/, "Write").replace("an order that", "an order of A and B that").replace(/^Press [^.]* until (A’s|its) call returns\./, "A goes on until its call returns: draw the list then.");
+  task.replace(/^Press A and B in/, "Write").replace("an order that", "an order of A and B that").replace(/^Press [^.]* until (A’s|its) call returns\./, "Let A run until its call returns, and draw the list.");
 
 /** @param {any} screen @param {number} at */
 function sheetOf({ question, prose, figure, ask, options, task }, at) {
