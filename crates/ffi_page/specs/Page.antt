@@ -16,20 +16,20 @@ abbrev pub status_of : Made → ℕ
 status_of (Ok answer) = answer.status
 status_of (Err t) = trouble.status_of t
 
--- States that the text is at the start of the buffer and the rest of the buffer is unchanged. If the text does not fit,
+-- Holds if the text is at the start of the buffer and the rest of the buffer is unchanged. If the text does not fit,
 -- the whole buffer is unchanged.
 abbrev pub Handed : List ℕ → List ℕ → List ℕ → Type 0
 Handed text old new =
     ((length text ≤ length old) × (new ≡ text ++ drop (length text) old)) ⊎ ((length old < length text) × (new ≡ old))
 
--- States that the caller receives the result: the text if it fits into the buffer, the status, and the length of the
+-- Holds if the caller receives the result: the text if it fits into the buffer, the status, and the length of the
 -- text.
 pub record IsHanded (made : Made) (old new : List ℕ) (status count : ℕ) : Type 0 where
   pub text : Handed (text_of made) old new
   pub status_is : status ≡ status_of made
   pub count_is : count ≡ length (text_of made)
 
--- States that the result is correct for a text. The command reads no file, so the error is never `CannotRead`.
+-- Holds if the result is correct for a text. The command reads no file, so the error is never `CannotRead`.
 abbrev pub OfText : (List ℕ → Made → Type 0) → List ℕ → Made → Type 0
 OfText Makes text made = Makes text made × (made ≢ Err CannotRead)
 
@@ -37,10 +37,10 @@ OfText Makes text made = Makes text made × (made ≢ Err CannotRead)
 abbrev pub words_in : List ℕ → List (List ℕ)
 words_in bytes = cut_at 0 (utf8_lossy bytes)
 
--- States that the result is correct for the arguments, or `Memory` if storing the arguments failed.
+-- Holds if the result is correct for the arguments, or `Memory` if storing the arguments failed.
 abbrev pub OfWords : (List (List ℕ) → Made → Type 0) → List ℕ → Made → Type 0
 OfWords Makes bytes made = (made ≡ Err Memory) ⊎ Makes (words_in bytes) made
 
--- States that the caller receives the text, the status and the text length of a result that the first argument accepts.
+-- Holds if the caller receives the text, the status and the text length of a result that the first argument accepts.
 abbrev pub Hands : (Made → Type 0) → List ℕ → List ℕ → ℕ → ℕ → Type 0
 Hands IsMade old new status count = (made : Made) × IsMade made × IsHanded made old new status count

@@ -13,8 +13,8 @@ use Rattle.lset_live.specs.Explained.{HasAnswered, HasMadeAtMost}
 use Rattle.ffi_sets.specs.declared.held.Held.{Held}
 use Rattle.ffi_sets.specs.Sets.{table_in, set_in, seat_in, spare_in, keys_in, number_in, receipt_in, SameSet}
 
--- States the effect of a call from a seat of a set (the right to call as one thread). Either the call returned this
--- reply, or the call gave up and the seat is lost, or the seat was already lost.
+-- The effect of a call from a seat of a set (the right to call as one thread): the call returned this reply, or the
+-- call gave up and the seat is lost, or the seat was already lost.
 abbrev pub HasCalledOf : Table → SetValue → Option SeatValue → Call → Option Reply → Option SeatValue → Type 0
 HasCalledOf T set (Some old) c (Some r) (Some new) = HasAnswered T set old c r new
 HasCalledOf T set (Some old) c None None = Unit {0}
@@ -34,15 +34,15 @@ abbrev pub CallsIn : Option Table → Option SetValue → Option SeatValue → C
 CallsIn (Some T) (Some set) old c r new = HasCalledOf T set old c r new
 CallsIn T set old c r new = r ≡ None
 
--- States the effect of call `c` on the value that a C handle owns. The list, the set, its number, and the seats that
--- can be split off do not change. A receipt or a closed set cannot make a call: the reply is `None`.
+-- The effect of call `c` on the value that a C handle owns. The list, the set, its number, and the seats that can be
+-- split off do not change. A receipt or a closed set has no seat (right to call the set), so the reply is `None`.
 pub record HasCalledHeld (h : Held) (c : Call) (r : Option Reply) (h' : Held) : Type 0 where
   pub same : SameSet h h'
   pub spare : spare_in h' ≡ spare_in h
   pub keys : keys_in h' ≡ keys_in h
   pub called : CallsIn (table_in h) (set_in h) (seat_in h) c r (seat_in h')
 
--- States that the last call from a seat of a set took at most as many steps as the definition `most_reads` allows.
+-- Holds if the last call from a seat of a set took at most as many steps as the definition `most_reads` allows.
 abbrev pub HasReadOf : SetValue → Option SeatValue → Option SeatValue → Type 0
 HasReadOf set (Some old) (Some new) = HasMadeAtMost (most_reads (sizes set.shape)) (thread_of old.past) new.events
 HasReadOf set old new = ⊥
@@ -51,11 +51,11 @@ abbrev pub ReadsIn : Option SetValue → Option SeatValue → Option SeatValue �
 ReadsIn (Some set) old new = HasReadOf set old new
 ReadsIn None old new = ⊥
 
--- States that the last call from the seat in a C handle took at most as many steps as `most_reads` allows.
+-- Holds if the last call from the seat in a C handle took at most as many steps as `most_reads` allows.
 abbrev pub HasReadHeld : Held → Held → Type 0
 HasReadHeld h h' = ReadsIn (set_in h) (seat_in h) (seat_in h')
 
--- States that a call through a C handle returned this number. The first argument is true if the handle was full. An empty
+-- Holds if a call through a C handle returned this number. The first argument is true if the handle was full. An empty
 -- handle stays empty, and the number is 255.
 abbrev pub HasMade : Bool → Held → Call → ℕ → Bool → Held → Type 0
 HasMade true h c n true h' = (r : Option Reply) × (n ≡ code_of r) × HasCalledHeld h c r h'
@@ -73,15 +73,15 @@ HasCeiling true h c n a a' true h' = (r : Option Reply) × (n ≡ code_of r) × 
 HasCeiling false h c n a a' false h' = (n ≡ 255) × (a' ≡ a)
 HasCeiling full h c n a a' full' h' = ⊥
 
--- States that a seat of a set issued this receipt. The receipt names the seat's set and contains the events that the
--- seat has seen.
+-- Holds if a seat of a set issued this receipt. The receipt names the seat's set and contains the events that the seat
+-- has seen.
 abbrev pub HasNotedOf : Option SeatValue → Option ReceiptValue → Type 0
 HasNotedOf (Some s) (Some given) = given ≡ record { set = s.set; events = s.events }
 HasNotedOf s given = ⊥
 
--- States that a C handle with the value `h` has issued the receipt `given` (the events that the handle's seat has
--- seen), which has the number of the handle's set. `h'`, the value afterwards, has the same list, set, number and seats
--- as `h`.
+-- A seat of the C handle `h` (its right to call the set) has issued the receipt `given`: the number of the set, and
+-- the events that the seat has seen. `h'`, the value of the handle afterwards, has the same list, set, number and
+-- seats as `h`.
 pub record HasNotedHeld (h given h' : Held) : Type 0 where
   pub same : SameSet h h'
   pub spare : spare_in h' ≡ spare_in h
@@ -93,8 +93,8 @@ abbrev pub HasGiven : Bool → Held → Bool → Held → Bool → Held → Type
 HasGiven true h true given true h' = HasNotedHeld h given h'
 HasGiven full h out given full' h' = ⊥
 
--- States that a seat of a set has accepted a receipt. The seat has then seen all events of the receipt. The record of
--- the seat's own calls, and the number of seats that it holds, do not change.
+-- Holds if a seat of a set has accepted a receipt. The seat has then seen all events of the receipt. The record of the
+-- seat's own calls, and the number of seats that it holds, do not change.
 abbrev pub HasHeededOf : Option SeatValue → Option ReceiptValue → Option SeatValue → Type 0
 HasHeededOf (Some old) (Some given) (Some new) = (new.set ≡ old.set) × (new.past ≡ old.past) × (new.held ≡ old.held)
     × StartsWith new.events old.events × StartsWith new.events given.events

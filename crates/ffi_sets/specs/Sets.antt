@@ -79,23 +79,23 @@ abbrev pub keys_in : Held → Option (List ℕ)
 keys_in (Closed keys) = Some keys.items
 keys_in h = None
 
--- States that the values of two C handles have the same list, set and number.
+-- Holds if the values of two C handles have the same list, set and number.
 pub record SameSet (h h' : Held) : Type 0 where
   pub table : table_in h' ≡ table_in h
   pub set : set_in h' ≡ set_in h
   pub number : number_in h' ≡ number_in h
 
--- States that two values with the same number belong to the same set. A caller ensures this by giving each open set its
+-- Holds if two values with the same number belong to the same set. A caller ensures this by giving each open set its
 -- own number.
 abbrev pub Gathers : Held → Held → Type 0
 Gathers h h' = number_in h ≡ number_in h' → set_in h ≡ set_in h'
 
--- States that `Gathers` holds for the values of two C handles if both handles are full.
+-- If both C handles are full, `Gathers` holds for their values.
 abbrev pub GathersAt : Bool → Held → Bool → Held → Type 0
 GathersAt true h true h' = Gathers h h'
 GathersAt into h from h' = Unit {0}
 
--- States that a seat, together with the seats in the list that can be split off it, holds all seats of the set.
+-- Holds if a seat, together with the seats in the list that can be split off it, holds all seats of the set.
 abbrev pub IsWhole : SetValue → Option SeatValue → List SeatValue → Type 0
 IsWhole set (Some seat) spare = seat.held + length spare ≡ set.shape.threads
 IsWhole set None spare = ⊥

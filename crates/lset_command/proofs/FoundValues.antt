@@ -22,8 +22,8 @@ by_all_names f names all =
     f.entries.items
     ∙ sym (flat_map-map (λ (row : Row). values_by row.id (rows_of f)) row_of f.entries.items)
 
--- If `name` is an argument and not an option, then the values that clap returns for `name` are the values that the
--- specification states.
+-- If `name` names an argument and not an option, the values that clap returns for it are the values that `values_by`,
+-- the definition in the specification, returns.
 pub got : (f : Found) (name : Text) (values : Option (List Text)) → is_option name ≡ false →
     values ≡ option_map raw_values (matched_of f name)
     → values_by name (rows_of f) ≡ unwrap_or values []

@@ -80,20 +80,19 @@ row_of row = (row.0, row.1.now, map argument_of row.3.now)
 
 -- ---- Commands as values of clap's type
 
--- States that an `App` describes a command of clap, and that no argument of this command is global.
+-- Holds if an `App` describes a command of clap, and no argument of this command is global.
 abbrev pub IsApp : clap.Command → App → Type 0
 IsApp c a = (app_of c ≡ a) × ((out-Command c).has_globals ≡ false)
 
--- States that an `App` describes the command of clap, if the command was created.
+-- If clap's command was created, the `App` describes it.
 abbrev pub Makes : Result clap.Command AllocError → App → Type 0
 Makes made a = IfOk made (λ c. IsApp c a)
 
--- States that the second command is the first command with this argument added, if the first command was created.
+-- If the commands were created, the second command is the first command with this argument added.
 abbrev pub MakesWithArg : Result clap.Command AllocError → Arg → Result clap.Command AllocError → Type 0
 MakesWithArg old arg new = (a : App) (r : Rule) → Makes old a → rule_of arg ≡ r → arg.global ≡ false → Makes new (with_rule a r)
 
--- States that the third command is the first command with the second command added as a subcommand, if the first and the
--- second command were created.
+-- If the commands were created, the third command is the first command with the second added as a subcommand.
 abbrev pub MakesWithSubcommand : Result clap.Command AllocError → Result clap.Command AllocError → Result clap.Command AllocError →
     Type 0
 MakesWithSubcommand old sub new = (a b : App) → Makes old a → Makes sub b → Makes new (with_subcommand a b.top)
@@ -162,7 +161,7 @@ row_named name (row ∷ rows) = if bytes_eq row.1 name then Some row else row_na
 abbrev pub IsNamed : Text → Command → List Argument → Type 0
 IsNamed name command arguments = row_named name table ≡ Some (command, name, arguments)
 
--- The commands about whose output something is proved have these names and arguments.
+-- The names and arguments of the commands with a proved output: `replay`, `judge`, `check` and `gen`.
 abbrev pub NamesOfProved : Type 0
 NamesOfProved =
     IsNamed (codes "replay") Replay ((codes "FILE", Value) ∷ (codes "lacks", ValueOption) ∷ [])

@@ -44,7 +44,7 @@ asked_by other values options = None
 abbrev pub asked : Choice → Option Asked
 asked choice = asked_by choice.command choice.values choice.options
 
--- States that a command line can ask for this job.
+-- Holds if a command line can ask for this job.
 abbrev pub IsKnown : Job → Type 0
 IsKnown (Gen random) = IsAccepted random.threads random.quota random.keys
 IsKnown job = Unit {0}

@@ -24,12 +24,12 @@ Ending = Option (List ℕ) → Option (List ℕ) → Option (List ℕ) → Optio
 
 -- ---- Accepted command lines
 
--- States that the command ends with its result for the bytes of the input.
+-- Holds if the command ends with its result for the bytes of the input.
 abbrev pub EndsOnBytes : (List ℕ → Made → Type 0) → Option (List ℕ) → Ending
 EndsOnBytes Makes input output_old output_new stderr_old stderr_new status =
     Ends (λ made. IfSome input (λ bytes. Makes bytes made)) output_old output_new stderr_old stderr_new status
 
--- States how a job ends, depending on the bytes of its input.
+-- Describes how a job of the program ends, depending on the bytes of its input.
 abbrev pub JobEnds : Job → Option (List ℕ) → Ending
 JobEnds (Replay None) input output_old output_new stderr_old stderr_new status =
     EndsOnBytes Replays input output_old output_new stderr_old stderr_new status
@@ -43,9 +43,8 @@ JobEnds (Gen random) input output_old output_new stderr_old stderr_new status =
     Ends (Answers (Ok random)) output_old output_new stderr_old stderr_new status
 JobEnds job input output_old output_new stderr_old stderr_new status = Unit {0}
 
--- States that a job without a path ends with its result for standard input. A job with a path ends with its result for
--- the bytes of some file, or with `CannotRead`. (Nothing is proved about which file this is, or that it is read from
--- its start.)
+-- A job without a path ends with its result for standard input. A job with a path ends with its result for the bytes
+-- of some file, or with `CannotRead`. (Nothing is proved about which file this is, or that it is read from its start.)
 abbrev pub EndsOn : Option Text → Job → (Option (List ℕ) → Type 0) → Option (List ℕ) → Ending
 EndsOn None job IsFile input output_old output_new stderr_old stderr_new status =
     JobEnds job input output_old output_new stderr_old stderr_new status
@@ -53,8 +52,8 @@ EndsOn (Some path) job IsFile input output_old output_new stderr_old stderr_new 
     Ends (λ made. made ≡ Err CannotRead) output_old output_new stderr_old stderr_new status
     ⊎ ((bytes : Option (List ℕ)) × IsFile bytes × JobEnds job bytes output_old output_new stderr_old stderr_new status)
 
--- States that the job that a command line asks for ends as `EndsOn` states. If an argument is wrong, the program
--- reports the argument.
+-- The job that a command line asks for ends as `EndsOn` describes. If an argument is wrong, the program reports this
+-- argument.
 abbrev pub EndsAsked : Option Asked → Option Text → (Option (List ℕ) → Type 0) → Option (List ℕ) → Ending
 EndsAsked None path IsFile input output_old output_new stderr_old stderr_new status = Unit {0}
 EndsAsked (Some (Ok job)) path IsFile input output_old output_new stderr_old stderr_new status =
@@ -68,21 +67,20 @@ EndsOnInput choice IsFile input output_old output_new stderr_old stderr_new stat
 
 -- ---- Refused command lines
 
--- States that the user asked for the help or the version.
+-- Holds if the user asked for the help or the version.
 abbrev pub IsHelp : ErrorKind → Type 0
 IsHelp kind = (kind ≡ DisplayHelp) ⊎ (kind ≡ DisplayVersion)
 
--- States that the command line is wrong.
+-- Holds if the command line is wrong.
 abbrev pub IsMistake : ErrorKind → Type 0
 IsMistake kind = (kind ≢ OutOfMemory) × (kind ≢ DisplayHelp) × (kind ≢ DisplayVersion)
 
--- States the result if the user asked for the help or the version: a text with status 0, or an error if an allocation
--- failed.
+-- The result if the user asked for the help or the version: a text with status 0, or an error if an allocation failed.
 abbrev pub Helps : ErrorKind → Made → Type 0
 Helps kind made = (made ≡ Err Memory) ⊎ (IsHelp kind × (text : List ℕ) × (made ≡ Ok (record { text = text; status = 0 })))
 
--- States that a wrong command line writes nothing to the output and ends with status 2. clap writes the text on stderr.
--- Nothing is proved about this text.
+-- A wrong command line writes nothing to the output and ends with status 2. clap writes a text on stderr. Nothing is
+-- proved about this text.
 abbrev pub Refuses : ErrorKind → Ending
 Refuses kind output_old output_new stderr_old stderr_new status =
     IsMistake kind × Keeps output_old output_new × (text : List ℕ) × AppendsFront stderr_old stderr_new text × (status ≡ 2)

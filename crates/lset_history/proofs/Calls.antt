@@ -31,14 +31,14 @@ abbrev pub run_of : ℕ → ℕ → Log → Contents → Counts → Run
 run_of threads quota log contents counts =
     record { threads = threads; quota = quota; log = log; contents = contents; counts = counts }
 
--- States that the log entry just before the moment `begun` is the start of this call.
+-- Holds if the log entry just before the moment `begun` is the start of this call.
 pub record Beginning (r : Run) (thread : ℕ) (call : Call) (begun : ℕ) : Type 0 where
   pub before : ℕ
   pub is : begun ≡ suc before
   pub entry : r.log before ≡ began thread call
 
--- States that in the log entry just before the moment `changed`, this call changes the set, and that the call is
--- allowed to make this change.
+-- Holds if in the log entry just before the moment `changed`, this call changes the set, and the call is allowed to
+-- make this change.
 pub record ChangeAt (r : Run) (thread : ℕ) (call : Call) (begun changed : ℕ) : Type 0 where
   pub before : ℕ
   pub is : changed ≡ suc before
@@ -48,7 +48,7 @@ pub record ChangeAt (r : Run) (thread : ℕ) (call : Call) (begun changed : ℕ)
   pub entry : r.log before ≡ stepped thread (Some change) reply
   pub may : MayChange r.quota (r.counts before thread) call false (Some change)
 
--- States that in the log entry just before the moment `end`, this call ends with a correct reply. If the call makes a
+-- Holds if in the log entry just before the moment `end`, this call ends with a correct reply. If the call makes a
 -- change, it makes the change in this entry or earlier.
 pub record EndAt (r : Run) (thread : ℕ) (call : Call) (begun : ℕ) (changed : Option ℕ) (end : ℕ) (reply : Reply) : Type 0 where
   pub before : ℕ
@@ -59,16 +59,16 @@ pub record EndAt (r : Run) (thread : ℕ) (call : Call) (begun : ℕ) (changed :
   pub after_change : (m : ℕ) → changed ≡ Some m → m ≤ end
   pub right : RightReply (is_some changed) r.quota r.contents r.counts begun end thread call (Some reply)
 
--- States that this is the last call of a thread, and that it has been pending since `begun`. The call has made a
--- change if and only if `changed` is not `None`.
+-- Holds if this is the last call of a thread, and it has been pending since `begun`. The call has made a change if and
+-- only if `changed` is not `None`.
 pub record OpenAt (last : LastCall) (call : Call) (begun : ℕ) (changed : Option ℕ) : Type 0 where
   pub is : last.pending ≡ true
   pub call_is : last.call ≡ call
   pub begun_is : last.begun ≡ begun
   pub changed_is : last.changed ≡ is_some changed
 
--- States that the call `x`, in its state at moment `k`, agrees with the log, that is, its start and, if any, its change
--- and its end are entries of the log.
+-- Holds if the call `x`, in its state at moment `k`, agrees with the log: its start and, if any, its change and its
+-- end are entries of the log.
 pub record Traced (r : Run) (k : ℕ) (x : TracedCall) : Type 0 where
   pub of_a_thread : x.thread < r.threads
   pub begins : Beginning r x.thread x.call x.begun
@@ -78,7 +78,7 @@ pub record Traced (r : Run) (k : ℕ) (x : TracedCall) : Type 0 where
   pub ends : (m : ℕ) (reply : Reply) → x.ended ≡ Some (m, reply)
       → (m ≤ k) × EndAt r x.thread x.call x.begun x.changed m reply
 
--- States that call `x` begins before call `y` and, if both are calls of one thread, also ends before `y` begins.
+-- Holds if call `x` begins before call `y` and, if both are calls of one thread, also ends before `y` begins.
 pub record Later (x y : TracedCall) : Type 0 where
   pub begins : x.begun < y.begun
   pub one_thread : x.thread ≡ y.thread → IsSomeAnd x.ended (λ (e : ℕ × Reply). e.0 < y.begun)
@@ -86,7 +86,7 @@ pub record Later (x y : TracedCall) : Type 0 where
 abbrev pub IsOpenOf : ℕ → TracedCall → Type 0
 IsOpenOf t x = (x.thread ≡ t) × (x.ended ≡ None)
 
--- States that some call in the list satisfies the predicate.
+-- Holds if some call in the list satisfies the predicate.
 abbrev pub SomeCall : (TracedCall → Type 0) → List TracedCall → Type 0
 SomeCall P xs = (i : ℕ) × (i < length xs) × P (traced_at xs i)
 
@@ -94,8 +94,8 @@ pub if_some : {A : Type 0} (o : Option A) (P : A → Type 0) → ((x : A) → o 
 if_some None P f = tt
 if_some (Some x) P f = f x refl
 
--- States that the list of calls at moment `k` is right: each call agrees with the log, and the list has each pending
--- call and each call with a change.
+-- Holds if the list of calls at moment `k` is right: each call agrees with the log, and the list has each pending call
+-- and each call with a change.
 pub record Calls (r : Run) (k : ℕ) (xs : List TracedCall) : Type 0 where
   pub each : All (Traced r k) xs
   pub pairs : AllPairs Later xs

@@ -15,7 +15,7 @@ use Rattle.lset_history.proofs.ChangeLaws.{present_past}
 abbrev pub CeilingAt : (ℕ → List ℕ) → ℕ → Option ℕ → ℕ → Type 0
 CeilingAt changes key found m = IsCeiling (λ j. is_present changes j m ≡ true) key found
 
--- States that no moment of the list is after `a` and at or before `b`. If the list has all moments when a key changes,
+-- Holds if no moment of the list is after `a` and at or before `b`. If the list has all moments when a key changes,
 -- the key does not change from `a` to `b`.
 abbrev IsQuiet : List ℕ → ℕ → ℕ → Type 0
 IsQuiet ms a b = All (λ m. a < m → m ≤ b → ⊥) ms
@@ -213,7 +213,7 @@ abbrev pub IsFrom : ℕ → Option ℕ → Type 0
 IsFrom key None = Unit {0}
 IsFrom key (Some k) = key ≤ k
 
--- States that each key from `key` to just below both `next` and `end`, if present after the last change, was absent at
+-- Each key from `key` to just below both `next` and `end` that is present after the last change was absent at
 -- `moment`.
 abbrev pub CameUpTo : (ℕ → List ℕ) → ℕ → Option ℕ → Option ℕ → ℕ → Type 0
 CameUpTo changes key next end moment =

@@ -51,7 +51,7 @@ marks_more marks order i inside low holds q =
           ∙ holds q ∙ sym (more ∙ ap (λ b. stands (take i order) q || b) (ne_eqb call q ne) ∙ or-false _)
     ]
 
--- States that the sequential set returns the reply at index `i` of the order after the earlier calls of the order.
+-- Holds if the sequential set returns the reply at index `i` of the order after the earlier calls of the order.
 abbrev GivesReply : ℕ → List CallRecord → List Placed → ℕ → SetState → Type 0
 GivesReply quota calls order i s =
     reply_to quota (set_left_by s calls (take i order)) (placed_call calls order i).thread (placed_call calls order i).call

@@ -10,8 +10,8 @@ use Rattle.lset_words.specs.declared.history.Placed.{Placed}
 use Rattle.lset_history.specs.Checks.{smallest_with}
 use Rattle.lset_history.specs.Faults.{place_at, placed_call, IsTooEarly, Passes, RefusesFirst}
 
--- States that a call ended before this moment. `EndsFrom` states that some call at index `i` of the order, or at a
--- larger index, ended before this moment.
+-- `EndsBefore`: a call ended before this moment. `EndsFrom`: some call at index `i` of the order, or at a larger
+-- index, ended before this moment.
 abbrev pub EndsBefore : ℕ → Option (ℕ × Reply) → Type 0
 EndsBefore moment ended = IsSomeAnd ended (λ (end : ℕ × Reply). end.0 < moment)
 
@@ -19,7 +19,7 @@ abbrev pub EndsFrom : List CallRecord → List Placed → ℕ → ℕ → Type 0
 EndsFrom calls order i moment =
     (later : ℕ) × (i ≤ later) × (later < length order) × EndsBefore moment (placed_call calls order later).ended
 
--- States that `smallest` is the smallest end of the calls at index `i` and later, or `None` if none of these calls has
+-- Holds if `smallest` is the smallest end of the calls at index `i` and later, or `None` if none of these calls has
 -- ended.
 pub record EndsSmallest (calls : List CallRecord) (order : List Placed) (i : ℕ) (smallest : Option ℕ) : Type 0 where
   pub below : (moment : ℕ) → IsSomeAnd smallest (λ end. end < moment) → EndsFrom calls order i moment

@@ -40,12 +40,11 @@ use Rattle.lset_history.proofs.Standings.{has_place}
 abbrev pub answered_of : Standing → Answered
 answered_of s = record { thread = s.traced.thread; call = s.traced.call; reply = reply_by s.traced.changed s.traced.ended }
 
--- States that a set in state `s` returns the replies of these calls, applied one after another, and is then in state
--- `t`.
+-- Holds if a set in state `s` returns the replies of these calls, applied one after another, and is then in state `t`.
 abbrev Leads : ℕ → SetState → SetState → List Standing → Type 0
 Leads quota s t xs = IsLegal quota s (map answered_of xs) × (set_left s (map answered_of xs) ≡ t)
 
--- States that a set in state `s` returns the reply of this call, and is then in state `t`.
+-- Holds if a set in state `s` returns the reply of this call, and is then in state `t`.
 abbrev LeadsTo : ℕ → SetState → SetState → Standing → Type 0
 LeadsTo quota s t x = let b = answered_of x in
     (reply_to quota s b.thread b.call ≡ b.reply) × (after_call s b.thread b.call b.reply ≡ t)
@@ -94,11 +93,11 @@ reading_stays r s state h same increasing n =
         → reply_by changed ended ≡ h.end.1
     replied changed ended e f = rw (e, f) refl
 
--- States that the call of `q` did not end before the call of `p` began. In the order, `p` comes before `q`.
+-- Holds if the call of `q` did not end before the call of `p` began. In the order, `p` comes before `q`.
 abbrev InTime : List CallRecord → Placed → Placed → Type 0
 InTime history p q = Precedes (call_numbered history q.call) (call_numbered history p.call) → ⊥
 
--- States that the call changes the set at moment `m`.
+-- Holds if the call changes the set at moment `m`.
 abbrev ChangesIn : ℕ → Standing → Type 0
 ChangesIn m q = (makes_change q ≡ true) × (q.moment ≡ m)
 
@@ -208,7 +207,7 @@ module _ (op : Opening) (last : ℕ) (log : Log) (contents : Contents) (counts :
         | inr f ↦ grind arith
       ]
 
-  -- States that each of these calls takes effect at moment `m` or later, and after `m` if the call changes the set.
+  -- Holds if each of these calls takes effect at moment `m` or later, and after `m` if the call changes the set.
   abbrev Late : ℕ → List Standing → Type 0
   Late m xs = AllByRecursion (λ q. (m ≤ q.moment) × (makes_change q ≡ true → m < q.moment)) xs
 
@@ -221,7 +220,7 @@ module _ (op : Opening) (last : ℕ) (log : Log) (contents : Contents) (counts :
   none_due m i (q ∷ xs) late l (inl s) = let b : m < q.moment = late.0.1 s.0 in omega (arith, s.1)
   none_due m i (q ∷ xs) late l (inr s) = none_due m i xs late.1 l s
 
-  -- States that each change after moment `j` was made by one of these calls.
+  -- Holds if each change after moment `j` was made by one of these calls.
   abbrev Due : ℕ → List Standing → Type 0
   Due j xs = (i t : ℕ) (change : Change) (reply : Option Reply) → j ≤ i → i < last → log i ≡ stepped t (Some change) reply
       → SomeOf (ChangesIn (suc i)) xs

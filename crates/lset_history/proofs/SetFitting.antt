@@ -17,7 +17,7 @@ use Rattle.lset_words.specs.Account.{Content, Fits}
 use Rattle.lset_history.specs.Laws.{IncreasesFor}
 use Rattle.lset_history.proofs.Keys.{has_true, has_from, has_false, has_none, with_keeps, without_from, member_or_not}
 
--- States that `x` is the smallest key of the list at or above `k`.
+-- Holds if `x` is the smallest key of the list at or above `k`.
 abbrev pub IsCeilingIn : ℕ → List ℕ → ℕ → Type 0
 IsCeilingIn k xs x = (k ≤ x) × Contains xs x × ((j : ℕ) → k ≤ j → j < x → Contains xs j → ⊥)
 
@@ -102,7 +102,7 @@ abbrev key_told : Reply → ℕ
 key_told (reply.At x) = x.0
 key_told reply = 0
 
--- States that a content (a set of keys, as a predicate) and a list have the same keys.
+-- Holds if a content (a set of keys, as a predicate) and a list have the same keys.
 abbrev pub SameKeys : Content → List ℕ → Type 0
 SameKeys content keys = (j : ℕ) → (content j → Contains keys j) × (Contains keys j → content j)
 
@@ -110,7 +110,7 @@ pub increases_for : (call : Call) (keys : List ℕ) → IncreasesFrom 0 keys →
 increases_for (call.Ceiling k) keys r = increasing_from_increases 0 keys r
 increases_for call keys r = tt
 
--- States that the sequential set returns this reply and that the call does not change the set.
+-- Holds if the sequential set returns this reply and the call does not change the set.
 abbrev pub Replies : ℕ → SetState → ℕ → Call → Reply → Type 0
 Replies quota s thread call reply = (reply_to quota s thread call ≡ reply) × (after_call s thread call reply ≡ s)
 

@@ -36,7 +36,7 @@ abbrev pub set_at : Opening → Log → ℕ → SetState
 set_at op log zero = opening_set op
 set_at op log (suc k) = set_after (log k) (set_at op log k)
 
--- States that the state of the sequential set has exactly these keys and these numbers of successful adds.
+-- Holds if the state of the sequential set has exactly these keys and these numbers of successful adds.
 pub record Shows (threads : ℕ) (content : Content) (counts : ℕ → ℕ) (s : SetState) : Type 0 where
   pub keys : SameKeys content s.keys
   pub increasing : IncreasesFrom 0 s.keys

@@ -41,7 +41,7 @@ standing_above P n (x ∷ xs) (Some m ∷ ps) a = (
       (standing_above P (suc n) xs ps a.1),
 )
 
--- States that call `s` has a smaller number than call `r`, and begins before it.
+-- Holds if call `s` has a smaller number than call `r`, and begins before it.
 abbrev pub Follows : Standing → Standing → Type 0
 Follows s r = (s.number < r.number) × Later s.traced r.traced
 
@@ -56,7 +56,7 @@ standing_pairs n (x ∷ xs) (Some m ∷ ps) a = (
   standing_pairs (suc n) xs ps a.1,
 )
 
--- States that the element `s` has this number, this call, and moment `m` as its linearization point.
+-- Holds if the element `s` has this number, this call, and moment `m` as its linearization point.
 abbrev pub IsStanding : ℕ → TracedCall → ℕ → Standing → Type 0
 IsStanding number x m s = (s.number ≡ number) × (s.traced ≡ x) × (s.moment ≡ m)
 
@@ -72,7 +72,7 @@ standing_has n (x ∷ xs) (Some p ∷ ps) (suc i) m l e = let f : suc n + i ≡ 
     (standing_has (suc n) xs ps i m (omega arith) e))
 standing_has n xs ps i m l e = absurd cc
 
--- States that `s` is one of these calls, and that its moment is its linearization point.
+-- Holds if `s` is one of these calls, and its moment is its linearization point.
 pub record Stood (r : Run) (last : ℕ) (calls : List TracedCall) (places : List (Option ℕ)) (s : Standing) : Type 0 where
   pub known : s.number < length calls
   pub call_is : traced_at calls s.number ≡ s.traced
@@ -80,20 +80,19 @@ pub record Stood (r : Run) (last : ℕ) (calls : List TracedCall) (places : List
   pub trace : Traced r last s.traced
   pub stands : StandsAt r.quota r.contents r.counts s.traced (Some s.moment)
 
--- States that the linearization point of the call is the step that changes the set.
+-- Holds if the linearization point of the call is the step that changes the set.
 pub record Changing (r : Run) (s : Standing) : Type 0 where
   pub is : s.traced.changed ≡ Some s.moment
   pub change : ChangeAt r s.traced.thread s.traced.call s.traced.begun s.moment
 
--- States that the call is completed and changed nothing. It takes effect at the first moment when its reply is
--- correct.
+-- The call is completed, has changed nothing, and takes effect at the first moment when its reply is correct.
 pub record Reading (r : Run) (s : Standing) : Type 0 where
   pub no_change : s.traced.changed ≡ None
   pub end : ℕ × Reply
   pub ended : s.traced.ended ≡ Some end
   pub fit : IsSmallestFit r.quota r.contents r.counts s.traced end.0 end.1 s.moment
 
--- States that a call takes effect while it is pending: not before it begins, not after it ends, and not after moment
+-- Holds if a call takes effect while it is pending: not before it begins, not after it ends, and not after moment
 -- `last`.
 pub record During (last begun moment : ℕ) (ended : Option (ℕ × Reply)) : Type 0 where
   pub from : begun ≤ moment
@@ -132,8 +131,7 @@ module _ {r : Run} {last : ℕ} {calls : List TracedCall} {places : List (Option
     }
   ]
 
--- States that a completed call has a linearization point, and that its reply in the order is the reply of the call in
--- the run.
+-- Holds if a completed call has a linearization point, and its reply in the order is the reply of the call in the run.
 pub record EndedPlace (changed : Option ℕ) (ended : Option (ℕ × Reply)) (reply : Reply) (place : Option ℕ) : Type 0 where
   pub moment : ℕ
   pub is : place ≡ Some moment

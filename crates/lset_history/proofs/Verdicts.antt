@@ -99,16 +99,16 @@ linearizes o calls order known once none replies early = record {
 
 -- ---- Lemmas that combine the results of the single checks
 
--- States the result of the first two checks: all calls of the order are in the history, none is in the order twice,
--- and the marks are set for exactly the calls of the order.
+-- The result of the first two checks: all calls of the order are in the history, none is in the order twice, and the
+-- marks are set for exactly the calls of the order.
 pub record StandsOnce (h : HistoryValue) (calls : List CallRecord) (order : List Placed) (marks : List Bool) : Type 0 where
   pub calls_are : calls ≡ h.calls
   pub known : HasKnownCalls calls order
   pub once : Passes (IsTwice order) order
   pub holds : MarksCalls marks order
 
--- States the result of the first three checks: `StandsOnce` holds, and the order has every completed call. The
--- sequential set is still in its opening state.
+-- The result of the first three checks: `StandsOnce` holds, and the order has every completed call. The sequential set
+-- is still in its opening state.
 pub record LeavesNoneOut (h : HistoryValue) (calls : List CallRecord) (order : List Placed) (marks : List Bool)
     (oracle : OracleValue) : Type 0 where
   pub stands_once : StandsOnce h calls order marks

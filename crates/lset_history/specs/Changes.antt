@@ -10,8 +10,8 @@ use Rattle.std.specs.BTreeMap.{BTreeMap, get, is_at}
 use Rattle.std.specs.BTreeSet.{BTreeSet, contains}
 use Rattle.lset_words.specs.SequentialSet.{has_key}
 
--- The opening keys, and for each key the moments of its changes, from 1 and increasing. A key is alternately added and
--- removed.
+-- The opening keys and, for each key, the increasing moments of its changes, from 1 on. The changes add and remove the
+-- key in turn.
 pub record ChangesValue : Type 0 where
   pub opening : List ℕ
   pub entries : List (ℕ × List ℕ)
@@ -53,7 +53,7 @@ is_present changes key moment = state_at false (changes key) moment
 abbrev pub is_present_now : (ℕ → List ℕ) → ℕ → Bool
 is_present_now changes key = state_after false (changes key)
 
--- States that the moment is at least 1, and after every moment when a key changes.
+-- Holds if the moment is at least 1, and after every moment when a key changes.
 abbrev pub IsLaterThanAll : (ℕ → List ℕ) → ℕ → Type 0
 IsLaterThanAll changes moment = (0 < moment) × ((key : ℕ) → All (λ m. m < moment) (changes key))
 
@@ -61,8 +61,8 @@ IsLaterThanAll changes moment = (0 < moment) × ((key : ℕ) → All (λ m. m < 
 abbrev pub with_change : (ℕ → List ℕ) → ℕ → ℕ → ℕ → List ℕ
 with_change changes key moment k = if k == key then changes k ++ moment ∷ [] else changes k
 
--- States that the last argument is the first moment from `first` to `last` when `P` holds, or `None` if there is no
--- such moment.
+-- Holds if the last argument is the first moment from `first` to `last` when `P` holds, or `None` if there is no such
+-- moment.
 abbrev pub IsFirst : (ℕ → Type 0) → ℕ → ℕ → Option ℕ → Type 0
 IsFirst P first last None = (m : ℕ) → first ≤ m → m ≤ last → P m → ⊥
 IsFirst P first last (Some k) = (first ≤ k) × (k ≤ last) × P k × ((m : ℕ) → first ≤ m → m < k → P m → ⊥)
@@ -97,11 +97,11 @@ changes_in opening kept = record { opening = opening; entries = map (λ (e : ℕ
 abbrev pub Increase : ChangesValue → Type 0
 Increase c = (key : ℕ) → IsStrictlyIncreasing (moments_of c key)
 
--- States that numbers from 2^32 up never change, since they are not keys.
+-- Numbers from 2^32 up never change, since they are not keys.
 abbrev pub IsBounded : (ℕ → List ℕ) → Type 0
 IsBounded changes = (key : ℕ) → 2 ^ 32 ≤ key → changes key ≡ []
 
--- States that `keys_at` maps this moment to this key. Moment 0 is exempt, since the map does not contain the opening
+-- Holds if `keys_at` maps this moment to this key. Moment 0 is exempt, since the map does not contain the opening
 -- keys.
 abbrev pub IsListed : BTreeMap ℕ ℕ → ℕ → ℕ → Type 0
 IsListed keys_at key moment = 0 < moment → get nat_cmp keys_at moment ≡ Some key
@@ -115,7 +115,7 @@ pub record AreKept (c : ChangesValue) (keys_at : BTreeMap ℕ ℕ) (keys_now : B
   pub listed : (key : ℕ) → All (IsListed keys_at key) (moments_of c key)
   pub present : (key : ℕ) → is_present_now (moments_of c) key ≡ true → IsTrue (contains nat_cmp keys_now key)
 
--- States that exactly the first `count` of these increasing moments are at or before `moment`.
+-- Holds if exactly the first `count` of these increasing moments are at or before `moment`.
 pub record IsCountUpTo (ms : List ℕ) (moment count : ℕ) : Type 0 where
   pub inside : count ≤ length ms
   pub upto : (i : ℕ) → i < count → slice_index ms i ≤ moment

@@ -10,7 +10,7 @@ use Rattle.lset_words.specs.History.{call_numbered, answered}
 use Rattle.lset_history.specs.Oracle.{OracleValue, PutsIn}
 use Rattle.lset_history.specs.Faults.{placed_call, set_left_by}
 
--- States that every call in the order is a call of the history.
+-- Holds if every call in the order is a call of the history.
 abbrev pub HasKnownCalls : List CallRecord → List Placed → Type 0
 HasKnownCalls calls order = All (λ (p : Placed). p.call < length calls) order
 
@@ -23,11 +23,11 @@ stands order number = list_any (λ p. p.call == number) order
 abbrev pub is_marked : List Bool → ℕ → Bool
 is_marked marks number = get_or marks number false
 
--- States that a call's mark is set if and only if the call is in the order.
+-- Holds if a call's mark is set if and only if the call is in the order.
 abbrev pub MarksCalls : List Bool → List Placed → Type 0
 MarksCalls marks order = (number : ℕ) → is_marked marks number ≡ stands order number
 
--- States that the call is completed but has no mark. (A call without a mark is not in the order.)
+-- Holds if the call is completed but has no mark. (A call without a mark is not in the order.)
 pub record IsLeftOut (calls : List CallRecord) (marks : List Bool) (number : ℕ) : Type 0 where
   pub known : number < length calls
   pub ended : is_some (call_numbered calls number).ended ≡ true
@@ -36,13 +36,13 @@ pub record IsLeftOut (calls : List CallRecord) (marks : List Bool) (number : ℕ
 abbrev pub LeavesNoneOut : List CallRecord → List Bool → Type 0
 LeavesNoneOut calls marks = (number : ℕ) → IsLeftOut calls marks number → ⊥
 
--- States that `number` is the smallest number of a completed call without a mark. (A call without a mark is not in the
+-- Holds if `number` is the smallest number of a completed call without a mark. (A call without a mark is not in the
 -- order.)
 abbrev pub LeavesOutFirst : List CallRecord → List Bool → ℕ → Type 0
 LeavesOutFirst calls marks number =
     IsLeftOut calls marks number × ((smaller : ℕ) → smaller < number → IsLeftOut calls marks smaller → ⊥)
 
--- States that the reply is right: the sequential set returns this reply and, if the call is completed, the history has
+-- Holds if the reply is right: the sequential set returns this reply and, if the call is completed, the history has
 -- the same reply.
 pub record HasReply (o : OracleValue) (x : CallRecord) (reply : Reply) : Type 0 where
   pub recorded : IfSome x.ended (λ (end : ℕ × Reply). end.1 ≡ reply)
@@ -55,7 +55,7 @@ HasOtherReply o x reply =
 abbrev pub after_reply : OracleValue → CallRecord → Reply → OracleValue
 after_reply o x reply = record o { state = after_call o.state x.thread x.call reply }
 
--- States that every reply in the order is right: the sequential set returns this reply after the earlier calls of the
+-- Holds if every reply in the order is right: the sequential set returns this reply after the earlier calls of the
 -- order and, if the call is completed, the history has the same reply.
 pub record HasReplies (o : OracleValue) (calls : List CallRecord) (order : List Placed) : Type 0 where
   pub recorded : All (λ (p : Placed). IfSome (call_numbered calls p.call).ended (λ (end : ℕ × Reply). end.1 ≡ p.reply)) order
@@ -65,7 +65,7 @@ pub record HasReplies (o : OracleValue) (calls : List CallRecord) (order : List 
 abbrev pub after_order : OracleValue → List CallRecord → List Placed → OracleValue
 after_order o calls order = record o { state = set_left_by o.state calls order }
 
--- States that some call in the order adds its key to the sequential set. Only such a call allocates.
+-- Holds if some call in the order adds its key to the sequential set. Only such a call allocates.
 abbrev pub PutsInSome : OracleValue → List CallRecord → List Placed → Type 0
 PutsInSome o calls order = (place : ℕ) × (place < length order)
     × PutsIn (after_order o calls (take place order)) (placed_call calls order place).thread (placed_call calls order place).call

@@ -32,15 +32,15 @@ place_at order i = slice_index_or order i (record { call = 0; reply = True })
 abbrev pub placed_call : List CallRecord → List Placed → ℕ → CallRecord
 placed_call calls order i = call_numbered calls (place_at order i).call
 
--- States that the history has no call with the number at index `i` of the order.
+-- Holds if the history has no call with the number at index `i` of the order.
 abbrev pub IsUnknown : List CallRecord → List Placed → ℕ → Type 0
 IsUnknown calls order i = length calls ≤ (place_at order i).call
 
--- States that the call at index `i` of the order is also at an earlier index.
+-- Holds if the call at index `i` of the order is also at an earlier index.
 abbrev pub IsTwice : List Placed → ℕ → Type 0
 IsTwice order i = (earlier : ℕ) × (earlier < i) × ((place_at order earlier).call ≡ (place_at order i).call)
 
--- States that the reply at index `i` of the order is wrong: it differs from the reply in the history, or from the
+-- Holds if the reply at index `i` of the order is wrong: it differs from the reply in the history, or from the
 -- sequential set's reply after the earlier calls of the order.
 abbrev pub HasWrongReply : ℕ → SetState → List CallRecord → List Placed → ℕ → Type 0
 HasWrongReply quota start calls order i =
@@ -49,8 +49,8 @@ HasWrongReply quota start calls order i =
     IsSomeAnd x.ended (λ (end : ℕ × Reply). end.1 ≢ reply)
     ⊎ (reply_to quota (set_left_by start calls (take i order)) x.thread x.call ≢ reply)
 
--- States that the call at index `i` of the order is too early, because a call at a later index had ended before this
--- call began.
+-- Holds if the call at index `i` of the order is too early, because a call at a later index had ended before this call
+-- began.
 abbrev pub IsTooEarly : List CallRecord → List Placed → ℕ → Type 0
 IsTooEarly calls order i =
     (later : ℕ) × (i < later) × (later < length order) × Precedes (placed_call calls order later) (placed_call calls order i)
@@ -61,11 +61,11 @@ pub record IsMissing (calls : List CallRecord) (order : List Placed) (number : �
   pub ended : IsSome (call_numbered calls number).ended
   pub absent : All (λ (p : Placed). p.call ≢ number) order
 
--- States that a check finds no error at any index of the order.
+-- Holds if a check finds no error at any index of the order.
 abbrev pub Passes : (ℕ → Type 0) → List Placed → Type 0
 Passes Refuses order = (place : ℕ) → place < length order → Refuses place → ⊥
 
--- States that `number` is the first call of the order that fails a check.
+-- Holds if `number` is the first call of the order that fails a check.
 pub record RefusesFirst (Refuses : ℕ → Type 0) (order : List Placed) (number : ℕ) : Type 0 where
   pub place : ℕ
   pub inside : place < length order
@@ -80,8 +80,8 @@ pub record MissesFirst (calls : List CallRecord) (order : List Placed) (number :
   pub missing : IsMissing calls order number
   pub smallest : (smaller : ℕ) → smaller < number → IsMissing calls order smaller → ⊥
 
--- States that this is the error to report: no earlier check finds an error, and this is the first error of its own
--- check. `Missing` has the smallest number of a missing call. For `Memory`, a failed allocation, nothing is required.
+-- Holds if this is the error to report: no earlier check finds an error, and this is the first error of its own check.
+-- `Missing` has the smallest number of a missing call. For `Memory`, a failed allocation, nothing is required.
 abbrev pub IsFault : HistoryValue → List Placed → List ℕ → OrderFault → Type 0
 IsFault h order keys (Unknown number) = RefusesFirst (IsUnknown h.calls order) order number
 IsFault h order keys (Twice number) = Passes (IsUnknown h.calls order) order × RefusesFirst (IsTwice order) order number

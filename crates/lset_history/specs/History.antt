@@ -19,7 +19,7 @@ pub record HistoryValue : Type 0 where
 abbrev pub has_open : List CallRecord → ℕ → Bool
 has_open calls thread = list_any (λ x. x.thread == thread && is_none x.ended) calls
 
--- States that the moment is at least 1, and after the start and the end of every call in the history.
+-- Holds if the moment is at least 1, and after the start and the end of every call in the history.
 pub record IsLater (calls : List CallRecord) (at : ℕ) : Type 0 where
   pub counted : 0 < at
   pub begins : All (λ (x : CallRecord). x.begun < at) calls
@@ -31,7 +31,7 @@ pub record MayBegin (h : HistoryValue) (thread at : ℕ) : Type 0 where
   pub idle : has_open h.calls thread ≡ false
   pub later : IsLater h.calls at
 
--- States that this error is the first reason why the thread cannot begin a call. `Memory`, a failed allocation, is a
+-- Holds if this error is the first reason why the thread cannot begin a call. `Memory`, a failed allocation, is a
 -- reason only if the call could begin.
 abbrev pub CannotBegin : HistoryValue → ℕ → ℕ → HistoryFault → Type 0
 CannotBegin h thread at NoThread = h.opening.threads ≤ thread
@@ -43,7 +43,7 @@ CannotBegin h thread at Memory = MayBegin h thread at
 abbrev pub with_begun : HistoryValue → CallRecord → HistoryValue
 with_begun h x = record h { calls = h.calls ++ x ∷ [] }
 
--- States that the history has a call with this number, and that this call is pending.
+-- Holds if the history has a call with this number, and this call is pending.
 pub record IsOpen (calls : List CallRecord) (number : ℕ) : Type 0 where
   pub known : number < length calls
   pub not_ended : (call_numbered calls number).ended ≡ None
@@ -52,7 +52,7 @@ pub record MayEnd (h : HistoryValue) (number at : ℕ) : Type 0 where
   pub open_call : IsOpen h.calls number
   pub later : IsLater h.calls at
 
--- States that this error is the first reason why the call cannot end. Ending a call does not allocate, so `Memory` is
+-- Holds if this error is the first reason why the call cannot end. Ending a call does not allocate, so `Memory` is
 -- never a reason.
 abbrev pub CannotEnd : HistoryValue → ℕ → ℕ → HistoryFault → Type 0
 CannotEnd h number at NotOpen = IsOpen h.calls number → ⊥

@@ -21,8 +21,8 @@ content_of keys j = Contains keys j
 abbrev pub contents_of_lists : (ℕ → List ℕ) → Contents
 contents_of_lists lists m = content_of (lists m)
 
--- States that the set has exactly the keys of the list `content`, in strictly increasing order. No other increasing
--- list has the same keys.
+-- Holds if the set has exactly the keys of the list `content`, in strictly increasing order. No other increasing list
+-- has the same keys.
 pub record HasKeysOf (s : SetState) (content : List ℕ) : Type 0 where
   pub increasing : IsStrictlyIncreasing s.keys
   pub members : (j : ℕ) → Contains content j ↔ Contains s.keys j
@@ -42,28 +42,28 @@ PlacementLinearizes = (op : Opening) (last : ℕ) (log : Log) (lists : ℕ → L
     → IsPlacement op.quota (calls_at log last) (contents_of_lists lists) counts order
     → Linearizes op.quota (opening_set op) (history_at log last) order × HasKeysOf (set_of_order op log last order) (lists last)
 
--- States that if a run has an account, its calls can be ordered by their linearization points. This order contains
--- each call that changed the set or completed. A run has an account if each event changes the keys as its call allows,
--- and each reply is correct at some moment of its call.
+-- If a run has an account, its calls can be ordered by their linearization points. This order contains each call that
+-- changed the set or completed. A run has an account if each event changes the keys as its call allows, and each reply
+-- is correct at some moment of its call.
 abbrev pub EveryCallHasAPlace : Type 0
 EveryCallHasAPlace = (op : Opening) (last : ℕ) (log : Log) (lists : ℕ → List ℕ) (counts : Counts)
     → Account op last log (contents_of_lists lists) counts
     → (order : List Placed) × IsPlacement op.quota (calls_at log last) (contents_of_lists lists) counts order
 
--- States that at each moment of a run with an account (each event is a valid start of a call or a valid step), the
--- calls so far form a history.
+-- Holds if at each moment of a run with an account (each event is a valid start of a call or a valid step), the calls
+-- so far form a history.
 abbrev pub LogsTellHistories : Type 0
 LogsTellHistories = (op : Opening) (last : ℕ) (log : Log) (lists : ℕ → List ℕ) (counts : Counts)
     → Account op last log (contents_of_lists lists) counts → (k : ℕ) → k ≤ last → IsHistory op.threads (history_at log k)
 
--- States that the keys increase strictly if the call is a `Ceiling`. Nothing is required of other calls.
+-- If the call is a `Ceiling`, the keys increase strictly. Nothing is required of other calls.
 abbrev pub IncreasesFor : Call → List ℕ → Type 0
 IncreasesFor (call.Add k) keys = Unit {0}
 IncreasesFor (call.Remove k) keys = Unit {0}
 IncreasesFor (call.Contains k) keys = Unit {0}
 IncreasesFor (call.Ceiling k) keys = IsStrictlyIncreasing keys
 
--- States that [Fits] agrees with the sequential set: a reply fits these keys and this number of successful adds if and
+-- Holds if [Fits] agrees with the sequential set: a reply fits these keys and this number of successful adds if and
 -- only if the set returns the reply and does not change.
 abbrev pub FitsAreReplies : Type 0
 FitsAreReplies = (quota thread count : ℕ) (keys : List ℕ) (s : SetState) (call : Call) (reply : Reply)
@@ -71,7 +71,7 @@ FitsAreReplies = (quota thread count : ℕ) (keys : List ℕ) (s : SetState) (ca
     → Fits quota (content_of keys) count call reply
     ↔ ((reply_to quota s thread call ≡ reply) × (after_call s thread call reply ≡ s))
 
--- States that a run has at most one placement, the order of its calls by their linearization points.
+-- Holds if a run has at most one placement, the order of its calls by their linearization points.
 abbrev pub PlacementIsOneOrder : Type 0
 PlacementIsOneOrder = (quota : ℕ) (calls : List TracedCall) (lists : ℕ → List ℕ) (counts : Counts)
     (order other : List Placed)

@@ -21,12 +21,12 @@ set_of quota keys counts = record { threads = length counts; quota = quota; stat
 abbrev pub set_opened : Opening → OracleValue
 set_opened op = record { threads = op.threads; quota = op.quota; state = opening_set op }
 
--- States that the set `old` returns this reply to the call of the thread, and that `new` is the set after the call.
+-- Holds if the set `old` returns this reply to the call of the thread, and `new` is the set after the call.
 pub record Answers (old new : OracleValue) (thread : ℕ) (call : Call) (reply : Reply) : Type 0 where
   pub reply_is : reply ≡ reply_to old.quota old.state thread call
   pub state_is : new ≡ record old { state = after_call old.state thread call reply }
 
--- States that the call adds a key to the set. Only such calls allocate.
+-- Holds if the call adds a key to the set. Only such calls allocate.
 abbrev pub PutsIn : OracleValue → ℕ → Call → Type 0
 PutsIn o thread (Add k) = reply_to o.quota o.state thread (Add k) ≡ True
 PutsIn o thread (Remove k) = ⊥

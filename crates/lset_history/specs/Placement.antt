@@ -9,7 +9,7 @@ use Rattle.lset_words.specs.declared.history.Placed.{Placed}
 use Rattle.lset_words.specs.Log.{TracedCall}
 use Rattle.lset_words.specs.Account.{Contents, Counts, Fits}
 
--- States that `moment` is the first moment of the call `x`, from its start to its end, when its reply is correct.
+-- Holds if `moment` is the first moment of the call `x`, from its start to its end, when its reply is correct.
 pub record IsSmallestFit (quota : ℕ) (contents : Contents) (counts : Counts) (x : TracedCall) (end : ℕ) (reply : Reply)
     (moment : ℕ) : Type 0 where
   pub from : x.begun ≤ moment
@@ -17,9 +17,9 @@ pub record IsSmallestFit (quota : ℕ) (contents : Contents) (counts : Counts) (
   pub fits : Fits quota (contents moment) (counts moment x.thread) x.call reply
   pub smallest : (m : ℕ) → x.begun ≤ m → m < moment → Fits quota (contents m) (counts m x.thread) x.call reply → ⊥
 
--- States that `place` is the moment of a call's linearization point. If the call has changed the set, this is the
--- moment of the change. If the call is completed and changed nothing, this is the first moment when its reply is
--- correct. A pending call without a change has no linearization point (`None`).
+-- Holds if `place` is the moment of a call's linearization point. If the call has changed the set, this is the moment
+-- of the change. If the call is completed and changed nothing, this is the first moment when its reply is correct. A
+-- pending call without a change has no linearization point (`None`).
 abbrev pub StandsBy : ℕ → Contents → Counts → TracedCall → Option ℕ → Option (ℕ × Reply) → Option ℕ → Type 0
 StandsBy quota contents counts x (Some changed) ended place = place ≡ Some changed
 StandsBy quota contents counts x None None place = place ≡ None
@@ -78,8 +78,8 @@ traced_at calls number = slice_index_or calls number no_traced
 abbrev pub place_at : List (Option ℕ) → ℕ → Option ℕ
 place_at places number = slice_index_or places number None
 
--- States that the order is the placement of these calls: it has all calls that have a linearization point, sorted by
--- this point.
+-- Holds if the order is the placement of these calls: it has all calls that have a linearization point, sorted by this
+-- point.
 pub record IsPlacement (quota : ℕ) (calls : List TracedCall) (contents : Contents) (counts : Counts)
     (order : List Placed) : Type 0 where
   -- The moment of each call's linearization point, or `None`.

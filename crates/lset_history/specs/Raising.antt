@@ -4,15 +4,15 @@ use Rattle.std.specs.Prelude.{◌≡◌, ℕ, ◌<◌, ◌≤◌, ◌==◌, nat_
 use Rattle.std.specs.Prelude.{None}
 use Rattle.lset_history.specs.Changes.{is_present, is_present_now}
 
--- States that the result is the next change after `moment`: no key changes before the result's moment, and only the
--- result's key can change at that moment. `None` states that no key changes after `moment`.
+-- Holds if the result is the next change after `moment`: no key changes before the result's moment, and only the
+-- result's key can change at that moment. If the result is `None`, no key changes after `moment`.
 abbrev pub IsNextNote : (ℕ → List ℕ) → ℕ → Option (ℕ × ℕ) → Type 0
 IsNextNote changes moment None = (j : ℕ) → All (λ m. m ≤ moment) (changes j)
 IsNextNote changes moment (Some n) = (moment < n.0)
     × ((j : ℕ) → All (λ m. moment < m → m ≤ n.0 → (m ≡ n.0) × (j ≡ n.1)) (changes j))
 
--- States that no key between `key` and the result is present after the last change of the set. `None` states that no
--- key above `key` is present.
+-- No key between `key` and the result is present after the last change of the set. If the result is `None`, no key
+-- above `key` is present.
 abbrev pub IsNextPresent : (ℕ → List ℕ) → ℕ → Option ℕ → Type 0
 IsNextPresent changes key None = (j : ℕ) → key < j → is_present_now changes j ≡ false
 IsNextPresent changes key (Some k) = (key < k) × ((j : ℕ) → key < j → j < k → is_present_now changes j ≡ false)
@@ -41,13 +41,12 @@ abbrev pub IsBelow : ℕ → Option ℕ → Type 0
 IsBelow j None = Unit {0}
 IsBelow j (Some end) = j < end
 
--- States that some key from `key` to just below `end` is present at this moment. If `end` is `None`, the range has no
+-- Holds if some key from `key` to just below `end` is present at this moment. If `end` is `None`, the range has no
 -- upper bound.
 abbrev pub IsSomeThere : (ℕ → List ℕ) → ℕ → Option ℕ → ℕ → Type 0
 IsSomeThere changes key end moment = (j : ℕ) × (key ≤ j) × IsBelow j end × (is_present changes j moment ≡ true)
 
--- States for each key from `key` to just below `end`: if the key is present after the last change of the set, it was
--- absent at this moment.
+-- Each key from `key` to just below `end` that is present after the last change of the set was absent at this moment.
 abbrev pub CameAfter : (ℕ → List ℕ) → ℕ → Option ℕ → ℕ → Type 0
 CameAfter changes key end moment = (j : ℕ) → key ≤ j → IsBelow j end → is_present_now changes j ≡ true →
     is_present changes j moment ≡ false

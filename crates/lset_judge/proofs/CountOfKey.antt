@@ -153,8 +153,8 @@ module _ (b left : Bool) (c : Option ℕ) where
         | inr q ↦ inr q
       ]
 
-  -- After act a (the effect of a call), another counted act can follow, or the final state counts as an act, or no
-  -- counted act is left.
+  -- After act a (a call's effect on the key), either a later act or the key's final state is counted, or no act of the
+  -- count is left.
   later_or_last : (p : Option ℕ) (us vs : List ℕ) (a : Act) (ys : List Act) → AllByRecursion (Apart a) ys → Due b left p c (take_out a.until us) vs ys
       → Later c us (a ∷ ys) a ⊎ ((take_out a.until us ≡ []) × (also c ≡ 0))
   later_or_last p us vs a ys apart d = by c refl
@@ -354,7 +354,7 @@ module _ (threads : ℕ) (calls : List CallRecord) (history : IsHistory threads 
       let t : x.begun ≡ y.begun = ap (λ (z : CallRecord). z.begun) s in let l = n.later in omega (arith, t, l))
       (ap (until last) (numbered x p) ∙ q ∙ sym (ap (until last) (numbered y r)))
 
-  -- States that act a is the effect of a counted call x, with the start, the end and the effect of x.
+  -- Holds if act a is the effect of a counted call x, with the start, the end and the effect of x.
   record IsDue (a : Act) : Type 0 where
     x : CallRecord
     counts : In x counted

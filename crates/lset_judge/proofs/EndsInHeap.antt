@@ -19,7 +19,7 @@ use Rattle.lset_judge.proofs.RuleLeads.{counts, counts_one, counts_not, at_most_
 
 -- ---- Lemmas about lists of moments in increasing order
 
--- States that no moment in the list is before d.
+-- Holds if no moment in the list is before d.
 abbrev NoneBefore : ℕ → List ℕ → Type 0
 NoneBefore d xs = not_before d xs ≡ length xs
 

@@ -106,7 +106,7 @@ pub opens_so : (there : Bool) (k : ℕ) → has_key k (if there then k ∷ [] el
 opens_so true k = rw (equal_test k k refl) refl
 opens_so false k = refl
 
--- States that the call x neither starts nor ends at moment m, or is not a call on key k.
+-- Holds if the call x neither starts nor ends at moment m, or is not a call on key k.
 abbrev pub IsSilent : ℕ → ℕ → CallRecord → Type 0
 IsSilent k m x = ((key_of x.call).0 == k) ≡ true → ((x.begun == m) ≡ false) × (ends_at m x.ended ≡ false)
 

@@ -426,8 +426,9 @@ module _ (threads : ℕ) (opening : List ℕ) (calls : List CallRecord) (s t : S
         order None h = tt
         order (Some x) h = inl h
 
-    -- Suppose that the kept call and the new call left the key in different states. They clash if, for each of the two
-    -- calls, all changes to the state that it left had ended when the other call started.
+    -- Suppose that the call that the judge stores for the key and the new call left the key in different states. They
+    -- clash if, for each of the two calls, all changes to the state that it left had ended when the other call
+    -- started.
     two_stand : (q : Presence) → f.was ≡ q → until_of (other q) f ≤ f.begun → leaves_if call.call call.ended ≡ Some (other q) → until_of q f ≤ call.begun
         → IsClashing f call
     two_stand q was stands leaves low =

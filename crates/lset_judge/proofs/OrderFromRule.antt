@@ -301,8 +301,8 @@ module _ (threads : ℕ) (calls : List CallRecord) (history : IsHistory threads 
       lists false false n low is at_end l =
           list_put false k m ks o n True (λ _ f. let g : changes true ≡ changes false = sym is ∙ f in cc) (l.lists false)
 
-  -- States that the order o already contains the changes that the judge's rule makes take effect before event v of key
-  -- k. After these changes, v is possible.
+  -- The order o can be extended by the changes that the judge's rule (the test of one key's calls) makes take effect
+  -- before event v. Key k is then in the state t, and v is possible.
   pub record Settled (k m : ℕ) (v : Event) (t : State) (o : List Placed) : Type 0 where
     pub moved : Moved k m t o
     pub finds : fits (suc m) v t ≡ true
@@ -361,7 +361,7 @@ module _ (threads : ℕ) (calls : List CallRecord) (history : IsHistory threads 
 
   -- ---- All keys at moment m. Each key k is in the state `was k` now, and has the event `v k` at the next moment
   module _ (m : ℕ) (v : ℕ → Event) (was : ℕ → State) (live : (k : ℕ) → is_some (stepped m (v k) (Some (was k))) ≡ true) where
-    -- States that the judge's rule (which decides when changes take effect) finds the same result from the states s and
+    -- Holds if the judge's rule (which decides when changes take effect) finds the same result from the states s and
     -- `was k`: both lead to the same state for the next event `v k`.
     abbrev Lives : ℕ → State → Type 0
     Lives k s = found m (v k) s ≡ found m (v k) (was k)

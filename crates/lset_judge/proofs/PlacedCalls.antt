@@ -30,7 +30,7 @@ pub left_push : (s : SetState) (xs : List Answered) (a : Answered)
 left_push s [] a = refl
 left_push s (x ∷ xs) a = left_push (after_call s x.thread x.call x.reply) xs a
 
--- States that the order contains call n.
+-- Holds if the order contains call n.
 abbrev pub IsPlaced : ℕ → List Placed → Type 0
 IsPlaced n [] = ⊥
 IsPlaced n (p ∷ ps) = (p.call ≡ n) ⊎ IsPlaced n ps

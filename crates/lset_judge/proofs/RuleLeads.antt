@@ -101,7 +101,7 @@ once b = if b then 1 else 0
 abbrev pub at : Bool → ℕ → List ℕ → List ℕ → State
 at b t ps ks = record { there = b; turned = t; puts = ps; takes = ks }
 
--- States that the timeline (state s) has fewer pending changes left than the judge's rule (state g), the test of one
+-- Holds if the timeline (state s) has fewer pending changes left than the judge's rule (state g), the test of one
 -- key's calls. Only changes that would change the key's state in g count. A timeline is a choice of the moments when
 -- changes take effect.
 abbrev pub IsFurther : State → State → Type 0
@@ -111,8 +111,8 @@ abbrev NoFewer : List ℕ → List ℕ → Type 0
 NoFewer ss gs = (d : ℕ) → not_before d ss ≤ not_before d gs
 
 -- Compares two states of a key after the event at moment m: the state g according to the judge's rule, and the state s
--- according to a correct timeline (a choice of the moments when changes take effect). States that g has at least as
--- many pending changes left as s, and that these changes end at least as late.
+-- according to a correct timeline (a choice of the moments when changes take effect). Holds if g has at least as many
+-- pending changes left as s, and these changes end at least as late.
 pub record Leads (m : ℕ) (g s : State) : Type 0 where
   pub lists : (w : Bool) → NoFewer (changes_to w s) (changes_to w g)
   pub balance : length g.puts + once g.there + length s.takes ≡ length s.puts + once s.there + length g.takes
@@ -159,8 +159,8 @@ timeline_turns b false m gt st e gp gk sp sk l h =
     further true y = let f = fewer sp gp (l.lists true) in omega (arith, y, f)
     further false y = let t = taken_length e sp h in let f = fewer sp gp (l.lists true) in omega (arith, t, f)
 
--- States that in its state g, the judge's rule makes one change take effect. The new state is at least as good as s,
--- the state of a timeline. A timeline is a choice of the moments when changes take effect.
+-- In its state g, the judge's rule (the test of one key's calls) makes one change take effect. The new state is at
+-- least as good as s, the state of a timeline. A timeline is a choice of the moments when changes take effect.
 pub record Turns (m : ℕ) (g s : State) : Type 0 where
   pub state : State
   pub is : turned_if m g (options g) ≡ Some state
@@ -232,8 +232,8 @@ asked m (looks w since) g s l t f =
     ]
 asked m v g s l t f = absurd (true≢false f)
 
--- States that the judge's rule finds a state for the event v. This state is still at least as good as s, the state of a
--- timeline. A timeline is a choice of the moments when changes take effect.
+-- The judge's rule (the test of one key's calls) finds a state for the event v, and this state is at least as good as
+-- s, the state of a timeline. A timeline is a choice of the moments when changes take effect.
 pub record Settles (n m : ℕ) (v : Event) (g s : State) : Type 0 where
   pub state : State
   pub is : settled n m v (Some g) ≡ Some state

@@ -50,7 +50,7 @@ pub left_alike : (ev other : ℕ → Event) (b left : Bool) (last : ℕ) → ((j
     → may_leave ev b left last ≡ may_leave other b left last
 left_alike ev other b left last same = ap (λ (o : Option State). is_some (stepped last (leaves left) o)) (same_after ev other b last same)
 
--- ---- Lemmas about the calls on a key, and a moment T after which no call starts or ends
+-- ---- Lemmas about the calls on a key. No call starts or ends after the moment T
 
 module _ (calls : List CallRecord) (T : ℕ) (behind : latest_moment calls ≤ T) (k : ℕ) (opens : Bool) where
   abbrev event : ℕ → Event

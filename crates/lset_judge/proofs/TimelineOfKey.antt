@@ -132,7 +132,7 @@ abbrev pub TakeTurns : Bool → Bool → List Act → Type 0
 TakeTurns left b [] = b ≡ left
 TakeTurns left b (a ∷ ys) = suits b a.does × TakeTurns left (becomes b a.does) ys
 
--- States that act p (the effect of a call) can be before act r in an order: r ends after p starts. The two acts have
+-- Holds if act p (the effect of a call) can be before act r in an order: r ends after p starts. The two acts have
 -- different ends.
 pub record Apart (p r : Act) : Type 0 where
   pub in_time : p.begun < r.until
@@ -144,8 +144,8 @@ pub record IsAct (ev : ℕ → Event) (last : ℕ) (a : Act) : Type 0 where
   pub ends_later : a.begun < a.until
   pub told : (w : Bool) → a.does ≡ changes w → ev a.begun ≡ begins w a.until
 
--- States that changes with different starts have different ends, and that no event of the key is `leaves`, which stands
--- for the final state.
+-- Holds if changes with different starts have different ends, and no event of the key is `leaves`, which stands for
+-- the final state.
 pub record AreEvents (ev : ℕ → Event) : Type 0 where
   pub once : (i j : ℕ) (v w : Bool) (u : ℕ) → ev i ≡ begins v u → ev j ≡ begins w u → i ≡ j
   pub not_left : (i : ℕ) (w : Bool) → ev i ≡ leaves w → ⊥

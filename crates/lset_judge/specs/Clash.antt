@@ -45,19 +45,19 @@ abbrev pub needs_if : Call → Option (ℕ × Reply) → Option Presence
 needs_if c None = None
 needs_if c (Some e) = needed_by (effect_of c e.1)
 
--- States that x is in the list `calls` and is a call on the key `key`.
+-- Holds if x is in the list `calls` and is a call on the key `key`.
 pub record IsOf (calls : List CallRecord) (key : ℕ) (x : CallRecord) : Type 0 where
   pub known : Has calls x
   pub own : (key_of x.call).0 ≡ key
 
--- States that the key was in the state `was`: either the set opened with the key in this state (None), or the call x
--- left it in this state (Some x).
+-- Holds if the key was in the state `was`: either the set opened with the key in this state (None), or the call x left
+-- it in this state (Some x).
 abbrev pub WasSo : List CallRecord → ℕ → Presence → Presence → Option CallRecord → Type 0
 WasSo calls key there was None = there ≡ was
 WasSo calls key there was (Some x) = IsOf calls key x × (leaves_if x.call x.ended ≡ Some was)
 
--- States that the key must be in the state `need`: either this is the key's final state (None), or the call y needs
--- this state (Some y).
+-- Holds if the key must be in the state `need`: either this is the key's final state (None), or the call y needs this
+-- state (Some y).
 abbrev pub HasToBe : List CallRecord → ℕ → Option Presence → Presence → Option CallRecord → Type 0
 HasToBe calls key left need None = left ≡ Some need
 HasToBe calls key left need (Some y) = IsOf calls key y × (needs_if y.call y.ended ≡ Some need)
@@ -76,7 +76,7 @@ abbrev pub is_before : ℕ → Option CallRecord → Bool
 is_before begun None = true
 is_before begun (Some y) = is_before_end begun y.ended
 
--- States that no call on the key can change it to the state `there` between `since` and the end of the call `second`.
+-- Holds if no call on the key can change it to the state `there` between `since` and the end of the call `second`.
 -- Each call that could do so has ended by `since`, or starts when `second` ends or later.
 abbrev pub NothingTurns : List CallRecord → ℕ → Presence → ℕ → Option CallRecord → Type 0
 NothingTurns calls key there since second = All (λ (x : CallRecord). (key_of x.call).0 ≡ key → turns_to there (kind_if x.call x.ended) ≡ true
@@ -86,29 +86,30 @@ NothingTurns calls key there since second = All (λ (x : CallRecord). (key_of x.
 abbrev pub is_apart : Presence → ℕ → Option CallRecord → CallRecord → Bool
 is_apart there since second x = not (turns_to there (kind_if x.call x.ended)) || (not (is_before x.begun second) || has_ended since x.ended)
 
--- States that the call `second` cannot follow the call `first` in any order: `first` leaves the key in the state `was`,
+-- Holds if the call `second` cannot follow the call `first` in any order: `first` leaves the key in the state `was`,
 -- `second` needs the other state, and no call between them can change the key to the other state.
 pub record Clashes (calls : List CallRecord) (key : ℕ) (there : Presence) (left : Option Presence) (was : Presence) (first second : Option CallRecord) : Type 0 where
   pub was_so : WasSo calls key there was first
   pub needed : HasToBe calls key left (other was) second
   pub nothing : NothingTurns calls key (other was) (since_of first) second
 
--- States that the second call starts after the first has ended, or that the two calls also clash in the opposite order.
--- Always holds if the key's opening state replaces the first call, or its final state replaces the second.
+-- The second call starts after the first has ended, or the two calls also clash in the opposite order. Always holds if
+-- the key's opening state replaces the first call, or its final state replaces the second.
 abbrev pub InOrder : List CallRecord → ℕ → Presence → Option Presence → Option CallRecord → Option CallRecord → Type 0
 InOrder calls key there left (Some x) (Some y) =
     Precedes x y ⊎ ((x.begun ≢ y.begun) × ((v : Presence) × Clashes calls key there left v (Some y) (Some x)))
 InOrder calls key there left None second = Unit {0}
 InOrder calls key there left (Some x) None = Unit {0}
 
--- States that two calls on a key clash: no order can contain both, whatever the other calls did. The key's opening
--- state can replace the first call, and its final state can replace the second.
+-- Holds if two calls on a key clash: no order can contain both, whatever the other calls did. The key's opening state
+-- can replace the first call, and its final state can replace the second.
 abbrev pub IsClash : List CallRecord → ℕ → Presence → Option Presence → Presence → Option CallRecord → Option CallRecord → Type 0
 IsClash calls key there left was first second =
     Clashes calls key there left was first second × InOrder calls key there left first second
 
--- States that the first of two calls ends before the second call starts. Always holds if the opening state replaces the
--- first call, or the final state the second. `EndsBefore` states that a call ends before a moment.
+-- `EndsBefore`: a call ends before the moment. `ComesFirst`: the first call ends before the second call starts. Both
+-- hold if the key's opening state replaces the first call. `ComesFirst` also holds if the final state replaces the
+-- second.
 abbrev pub EndsBefore : Option CallRecord → ℕ → Type 0
 EndsBefore None moment = Unit {0}
 EndsBefore (Some x) moment = IsSomeAnd x.ended (λ (e : ℕ × Reply). e.0 < moment)
@@ -117,14 +118,13 @@ abbrev pub ComesFirst : Option CallRecord → Option CallRecord → Type 0
 ComesFirst first None = Unit {0}
 ComesFirst first (Some y) = EndsBefore first y.begun
 
--- States that no call on a key clashes with a call that starts after it has ended. Also states that no call clashes
--- with the key's opening state, or with its final state.
+-- No call on the key clashes with a call that starts after its end, with the key's opening state, or with its final
+-- state. (Two calls clash if no order can contain both.)
 abbrev pub HasNoClash : List CallRecord → ℕ → Presence → Option Presence → Type 0
 HasNoClash calls key there left = (was : Presence) (first second : Option CallRecord) → ComesFirst first second
     → IsClash calls key there left was first second → ⊥
 
--- States the lemma: if two calls in a history clash, no order explains the history and leaves `keys`, whatever the
--- other calls did.
+-- If two calls in a history clash, no order explains the history and leaves `keys`, whatever the other calls did.
 abbrev pub ClashesExcludeOrders : Type 0
 ClashesExcludeOrders = (h : HistoryValue) (keys : List ℕ) (key : ℕ) (there : Presence) (left : Option Presence) (was : Presence)
     (first second : Option CallRecord) → IsHistory h.opening.threads h.calls → has_key key h.opening.keys ≡ is_there there
@@ -133,8 +133,8 @@ ClashesExcludeOrders = (h : HistoryValue) (keys : List ℕ) (key : ℕ) (there :
 abbrev pub records : List StreamCall → List CallRecord
 records calls = map record_of calls
 
--- States that no order explains these calls on a key and leaves the key in the state `left`. If `left` is None, states
--- that no order explains them, whatever state it leaves. `there` is the key's opening state.
+-- No order explains these calls on a key and leaves the key in the state `left`. If `left` is None, no order explains
+-- these calls, whatever final state it leaves. `there` is the key's opening state.
 abbrev pub HaveNone : ℕ → ℕ → Presence → Option Presence → List CallRecord → Type 0
 HaveNone threads key there left calls = (quota : ℕ) (keys : List ℕ) → IfSome left (λ (l : Presence). keys ≡ key_if (is_there l) key)
     → IsUnexplained (alone threads quota (is_there there) key calls) keys

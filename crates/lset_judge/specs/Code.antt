@@ -36,8 +36,8 @@ is_many Put = false
 is_many Take = false
 is_many (Many many) = true
 
--- States that `old` and `new` have the same pending changes, the same latest end of an `add` and the same latest end of
--- a `remove`.
+-- Holds if `old` and `new` have the same pending changes, the same latest end of an `add` and the same latest end of a
+-- `remove`.
 pub record AreSame (old new : KeyChanges) : Type 0 where
   pub puts : puts_in new ≡ puts_in old
   pub takes : takes_in new ≡ takes_in old

@@ -30,20 +30,20 @@ abbrev pub LeftOtherwise : Option Presence → Presence → Option ℕ → Type 
 LeftOtherwise left was None = left ≡ Some (other was)
 LeftOtherwise left was (Some until) = Unit {0}
 
--- States that a call starts at `since` or later. If `since` is None, states instead that the call needs the state other
+-- If `since` is a moment, the call starts at this moment or later. If `since` is None, the call needs the state other
 -- than `was`.
 abbrev pub BeginsIn : Presence → Option ℕ → CallRecord → Type 0
 BeginsIn was None x = needs_if x.call x.ended ≡ Some (other was)
 BeginsIn was (Some since) x = since ≤ x.begun
 
--- States that a call has ended by `until`. If `until` is None, states instead that the call leaves the key in the state
+-- If `until` is a moment, the call has ended by this moment. If `until` is None, the call leaves the key in the state
 -- `was`.
 abbrev pub EndsIn : Presence → Option ℕ → CallRecord → Type 0
 EndsIn was None x = leaves_if x.call x.ended ≡ Some was
 EndsIn was (Some until) x = has_ended until x.ended ≡ true
 
--- States that the key must change back between the calls x and y, because whichever of them is first leaves the key in
--- the state `was`, and the second needs the other state.
+-- Whichever of the calls x and y comes first leaves the key in the state `was`, and the second call needs the other
+-- state. Therefore the key must change back between the two calls.
 pub record NeedTurn (was : Presence) (x y : CallRecord) : Type 0 where
   pub later : x.begun < y.begun
   pub leaves : leaves_if x.call x.ended ≡ Some was
@@ -72,8 +72,8 @@ turning_in key there since until calls = filter (turns_in key there since until)
 abbrev pub turns_of : ℕ → Option ℕ → Option ℕ → ℕ
 turns_of counted since until = counted + also since + also until - 1
 
--- States that the calls `counted` on a key are too many for any order (a count). The key must change back between any
--- two of them. It must also change back before the first call if the opening state counts as a call, and after the last
+-- Holds if the calls `counted` on a key are too many for any order (a count). The key must change back between any two
+-- of them. It must also change back before the first call if the opening state counts as a call, and after the last
 -- call if the final state does. But fewer calls than needed can change the key back in this time.
 pub record IsCountOf (calls : List CallRecord) (key : ℕ) (there : Presence) (left : Option Presence) (was : Presence) (since until : Option ℕ)
     (counted : List CallRecord) : Type 0 where
@@ -85,15 +85,15 @@ pub record IsCountOf (calls : List CallRecord) (key : ℕ) (there : Presence) (l
   pub turns : AllPairs (NeedTurn was) counted
   pub fewer : length (turning_in key (other was) since until calls) < turns_of (length counted) since until
 
--- States the lemma: if a history contains a count (too many calls on a key for any order), no order explains the
--- history and leaves these keys, whatever the other calls did.
+-- If a history contains a count (too many calls on a key for any order), no order explains the history and leaves
+-- these keys, whatever the other calls did.
 abbrev pub CountsExcludeOrders : Type 0
 CountsExcludeOrders = (h : HistoryValue) (keys : List ℕ) (key : ℕ) (there : Presence) (left : Option Presence) (was : Presence)
     (since until : Option ℕ) (counted : List CallRecord) → IsHistory h.opening.threads h.calls → has_key key h.opening.keys ≡ is_there there
     → IfSome left (λ (l : Presence). has_key key keys ≡ is_there l) → IsCountOf h.calls key there left was since until counted → IsUnexplained h keys
 
--- States that the result c of `find_count` is a count (its calls are too many for any order). Its `backs` are all calls
--- that can change the key back.
+-- The result c of `find_count` is a count: its calls are too many for any order. Its `backs` are all calls that can
+-- change the key back.
 pub record IsCount (calls : List CallRecord) (there : Presence) (left : Option Presence) (c : Count) : Type 0 where
   pub count : IsCountOf calls c.key.0 there left c.was c.since c.until (records c.calls.items)
   pub backs : records c.backs.items ≡ turning_in c.key.0 (other c.was) c.since c.until calls

@@ -74,6 +74,6 @@ event_at last k (x ∷ xs) m =
 abbrev pub rule_explains : ℕ → HistoryValue → List ℕ → ℕ → Bool
 rule_explains last h keys k = may_leave (event_at last k h.calls) (has_key k h.opening.keys) (has_key k keys) last
 
--- States that each key passes the judge's rule (the test of one key's calls).
+-- Holds if each key passes the judge's rule (the test of one key's calls).
 abbrev pub RulePasses : ℕ → HistoryValue → List ℕ → Type 0
 RulePasses last h keys = (k : ℕ) → rule_explains last h keys k ≡ true

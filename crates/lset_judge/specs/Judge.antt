@@ -13,7 +13,7 @@ use Rattle.lset_judge.specs.declared.clash.Clash.{Clash}
 use Rattle.lset_judge.specs.Clash.{record_if, HasNoClash, IsClash}
 use Rattle.lset_judge.specs.Facts.{IsStreamKept}
 
--- States that the judge j has judged these calls, on a set opened with the keys `opening`.
+-- Holds if the judge j has judged these calls, on a set opened with the keys `opening`.
 abbrev pub IsJudgeOf : ℕ → List ℕ → List CallRecord → Judge → Type 0
 IsJudgeOf threads opening calls j = IsStreamKept threads opening calls j.stream
 
@@ -25,21 +25,20 @@ abbrev pub left_by : List ℕ → ℕ → Option ℕ → Option Presence
 left_by keys key (Some moment) = None
 left_by keys key None = Some (presence (has_key key keys))
 
--- States that c is a clash of two calls on the key: no order can contain both. The key's opening state can replace the
+-- Holds if c is a clash of two calls on the key: no order can contain both. The key's opening state can replace the
 -- first call, and its final state `left` the second.
 abbrev pub ClashesIn : List ℕ → List CallRecord → ℕ → Option Presence → Clash → Type 0
 ClashesIn opening calls key left c =
     IsClash calls key (presence (has_key key opening)) left c.was (record_if c.first) (record_if c.second)
 
--- States that no call on a key clashes with a call that starts after it has ended. Also states that no call clashes
--- with the key's opening state, or with its final state.
+-- No call on the key clashes with a call that starts after its end, with the key's opening state, or with its final
+-- state. (Two calls clash if no order can contain both.)
 abbrev pub HasNoClashIn : List ℕ → List CallRecord → ℕ → Option Presence → Type 0
 HasNoClashIn opening calls key left = HasNoClash calls key (presence (has_key key opening)) left
 
--- States that a verdict is correct. If it includes a clash, the clash is on the key that the reason (`refusal`) names.
--- The clash involves the key's final state only if the reason is about the final keys.
--- If the verdict includes no clash, no call on this key clashes with a later call, with the key's opening state, or with
--- its final state.
+-- Holds if a verdict is correct. If it includes a clash, the clash is on the key that the reason (`refusal`) names.
+-- The clash involves the key's final state only if the reason is about the final keys. If the verdict includes no
+-- clash, no call on this key clashes with a later call, with the key's opening state, or with its final state.
 abbrev pub IsVerdict : ℕ → List ℕ → List CallRecord → List ℕ → Verdict → Type 0
 IsVerdict threads opening calls keys verdict.Linearizable = IsStreamVerdict (stream_history threads opening calls) keys Linearizable
 IsVerdict threads opening calls keys (verdict.NotLinearizable refusal clash) =

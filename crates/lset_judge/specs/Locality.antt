@@ -22,16 +22,16 @@ part_of part i h = record {
   calls = calls_in part i h.calls;
 }
 
--- States the lemma of locality, for a history that the judge decides. Some order explains the history if and only if,
--- for each part, some order explains the part and leaves the part's final keys.
+-- Locality, for a history that the judge decides: some order explains the history if and only if, for each part, some
+-- order explains the part and leaves the part's final keys.
 abbrev pub KeysAreApart : Type 0
 KeysAreApart = (h : HistoryValue) (keys : List ℕ) (part : ℕ → ℕ) (parts : ℕ)
     → IsHistory h.opening.threads h.calls → IsStrictlyIncreasing h.opening.keys → IsStrictlyIncreasing keys → IsJudged h
     → ((key : ℕ) → part key < parts)
     → IsExplained h keys ↔ ((i : ℕ) → i < parts → IsExplained (part_of part i h) (keys_in part i keys))
 
--- States the lemma: the quota does not matter in a history that the judge decides. If some order explains the history
--- with another quota, some order explains it with its own quota.
+-- The quota does not matter in a history that the judge decides: if some order explains the history with another
+-- quota, some order explains it with its own quota.
 abbrev pub QuotasDoNotMatter : Type 0
 QuotasDoNotMatter = (h : HistoryValue) (keys : List ℕ) (quota : ℕ)
     → IsHistory h.opening.threads h.calls → IsStrictlyIncreasing h.opening.keys → IsStrictlyIncreasing keys → IsJudged h

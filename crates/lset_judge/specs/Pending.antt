@@ -11,7 +11,7 @@ use Rattle.lset_judge.specs.declared.busy.Busy.{Busy}
 abbrev pub pending_at : ℕ × StreamCall → Pending
 pending_at e = record { end = e.0; call = e.1 }
 
--- States that `place` is the index of the call with the earliest end in `few`.
+-- Holds if `place` is the index of the call with the earliest end in `few`.
 pub record IsFirst (place : ℕ) (few : List Pending) : Type 0 where
   pub inside : 0 < length few → place < length few
   pub smallest : (d : Pending) → All (λ (p : Pending). (slice_index_or few place d).end ≤ p.end) few
@@ -24,8 +24,8 @@ or_zero (Some n) = n
 abbrev pub last_end : Busy → ℕ → ℕ
 last_end b t = if nat_lt t 65536 then slice_index_or b.low.items t 0 else or_zero (get nat_eq b.high t)
 
--- States that, for each call in the hash table, the heap `ends` contains its end, and `busy` stores this end as the
--- last end of the call's thread.
+-- Holds if, for each call in the hash table, the heap `ends` contains its end, and `busy` stores this end as the last
+-- end of the call's thread.
 pub record AreHeld (calls : List (ℕ × StreamCall)) (ends : List ℕ) (busy : Busy) : Type 0 where
   pub known : All (λ (e : ℕ × StreamCall). last_end busy e.1.thread ≡ e.0) calls
   pub held : All (λ (e : ℕ × StreamCall). Contains ends e.0) calls
@@ -34,8 +34,8 @@ abbrev pub end_or : ℕ → Option (ℕ × Reply) → ℕ
 end_or moment None = moment
 end_or moment (Some e) = e.0
 
--- States that `next` is the call in `old` with the earliest end, and that `new` contains the other calls. The end of
--- `next` is before `moment`.
+-- Holds if `next` is the call in `old` with the earliest end, and `new` contains the other calls. The end of `next` is
+-- before `moment`.
 pub record IsNext (moment : ℕ) (old : List Pending) (next : Pending) (new : List Pending) : Type 0 where
   pub early : next.end < moment
   pub is : IsPermutation old (next ∷ new)

@@ -1,7 +1,7 @@
--- The calls as the judge reads them: each completed call becomes a call that the judge can decide. A `ceiling` that
--- returned a key is read as a `contains` of this key that returned true. A `ceiling` that found no key is read as a
--- `contains` of its own key that returned false. An `add` that returned full is read in the same way. A pending call is
--- read unchanged. If no order explains the calls as the judge reads them, no order explains the calls themselves.
+-- Converts each completed call to one that returns true or false, because the judge decides only such calls. A
+-- `ceiling` that returned a key becomes a `contains` of this key that returned true. A `ceiling` that found no key
+-- becomes a `contains` of its argument that returned false, and so does an `add` that returned full. A pending call
+-- stays as it is. If no order explains the converted calls, no order explains the calls themselves.
 use Rattle.std.specs.Prelude.{ℕ, List, map, Option, Some, None}
 use Rattle.lset_words.specs.declared.Call.{Call}
 use Rattle.lset_words.specs.declared.Call.TheVariants.{Add, Contains, Ceiling}
@@ -37,9 +37,9 @@ end_as c (Some e) = Some (e.0, reply_as c e.1)
 abbrev pub read_as : CallRecord → CallRecord
 read_as x = record { thread = x.thread; call = call_if x.call x.ended; begun = x.begun; ended = end_as x.call x.ended }
 
--- States that a verdict on a history is correct. Linearizable: some order explains the history without a quota and
--- leaves the keys. NotLinearizable: no order does, with any quota, and the reason is correct for the calls as the judge
--- reads them. Undecided: some order explains the calls as the judge reads them, but a completed call is a `ceiling` or
+-- Holds if a verdict on a history is correct. Linearizable: some order explains the history without a quota and leaves
+-- the keys. NotLinearizable: no order does, with any quota, and the reason is correct for the calls as the judge reads
+-- them. Undecided: some order explains the calls as the judge reads them, but a completed call is a `ceiling` or
 -- returned neither true nor false.
 abbrev pub IsJudged : HistoryValue → List ℕ → Judged → Type 0
 IsJudged h keys judged.Linearizable = IsExplained (without_quota h) keys

@@ -74,25 +74,24 @@ key_in p = (key_of p.call.call).0
 abbrev pub event_of : Pending → Event
 event_of p = end_event (kind_if p.call.call p.call.ended) p.call.begun
 
--- States that a call has ended by `moment`.
+-- Holds if a call has ended by `moment`.
 abbrev pub IsOver : ℕ → CallRecord → Type 0
 IsOver moment x = (end : ℕ × Reply) × (x.ended ≡ Some end) × (end.0 ≤ moment)
 
--- States that the start and the end (if any) of a call are valid moments of a recording.
+-- Holds if the start and the end (if any) of a call are valid moments of a recording.
 abbrev pub IsBefore : CallRecord → Type 0
 IsBefore x = (x.begun < behind_all) × IfSome x.ended (λ (end : ℕ × Reply). end.0 < behind_all)
 
--- States that `pending` are the calls that are pending after a moment, that is, have not ended by then. No two of them
--- have the same end.
+-- `pending` lists the calls that have not ended by the moment `moment`. No two of them have the same end.
 pub record ArePending (calls : List CallRecord) (moment : ℕ) (pending : List Pending) : Type 0 where
   pub known : All (λ (p : Pending). (n : ℕ) × (n < length calls) × (p ≡ pending_of (call_numbered calls n))) pending
   pub kept : (n : ℕ) → n < length calls → IsOver moment (call_numbered calls n) ⊎ Contains pending (pending_of (call_numbered calls n))
   pub apart : AllPairs (λ (p q : Pending). p.end ≢ q.end) pending
   pub later : All (λ (p : Pending). moment < p.end) pending
 
--- States that the stored states of the keys are correct after a moment: they are the states that the judge's rule (the
--- test of one key's calls) computes. If the rule has failed by then (Some f), states instead that it failed for the key
--- `f.key` by the moment `f.moment`, and for no key earlier.
+-- The stored states of the keys are correct after a moment: they are the states that the judge's rule (the test of one
+-- key's calls) computes. If the rule has failed by then (Some f), it failed for the key `f.key` by the moment
+-- `f.moment`, and for no key earlier.
 abbrev pub IsJudgedTo : List ℕ → List CallRecord → ℕ → States → Option Failed → Type 0
 IsJudgedTo opening calls moment states None =
     (k : ℕ) → state_after (event_at behind_all k calls) (has_key k opening) moment ≡ Some (state_for states k)
@@ -100,7 +99,7 @@ IsJudgedTo opening calls moment states (Some f) = (f.moment ≤ moment)
     × (state_after (event_at behind_all f.key.0 calls) (has_key f.key.0 opening) f.moment ≡ None)
     × ((k m : ℕ) → state_after (event_at behind_all k calls) (has_key k opening) m ≡ None → f.moment ≤ m)
 
--- States that the stream s has judged these calls, on a set opened with the keys `opening`. No call starts after the
+-- Holds if the stream s has judged these calls, on a set opened with the keys `opening`. No call starts after the
 -- stream's current moment.
 pub record IsStreamOf (threads : ℕ) (opening : List ℕ) (calls : List CallRecord) (s : Stream) : Type 0 where
   pub opens : IsStrictlyIncreasing opening
@@ -133,19 +132,18 @@ pub record MayCome (pending : List Pending) (moment : ℕ) (x : CallRecord) : Ty
 
 -- ---- The meaning of a verdict
 
--- States that key k has failed the judge's rule (the test of one key's calls) by a moment.
+-- Holds if key k has failed the judge's rule (the test of one key's calls) by a moment.
 abbrev pub HasFailed : HistoryValue → ℕ → ℕ → Type 0
 HasFailed h k moment = state_after (event_at behind_all k h.calls) (has_key k h.opening.keys) moment ≡ None
 
--- States that this key is the first to fail the judge's rule (the test of one key's calls), at this moment: no key
--- fails earlier. Without a moment, states that no key ever fails. (Then only the final state of the key is wrong: see
--- `IsRefusedBy`.)
+-- This key is the first to fail the judge's rule (the test of one key's calls), at this moment: no key fails earlier.
+-- Without a moment, no key ever fails. (Then only the final state of the key is wrong: see `IsRefusedBy`.)
 abbrev pub FailsFirst : HistoryValue → ℕ → Option ℕ → Type 0
 FailsFirst h key None = (k m : ℕ) → HasFailed h k m → ⊥
 FailsFirst h key (Some moment) = HasFailed h key moment × ((k m : ℕ) → HasFailed h k m → moment ≤ m)
 
--- States that a verdict is correct. Linearizable: some order explains the calls and leaves the keys. NotLinearizable:
--- no order does, with any quota. The calls on the key that the reason (`refusal`) names suffice to show this
+-- Holds if a verdict is correct. Linearizable: some order explains the calls and leaves the keys. NotLinearizable: no
+-- order does, with any quota. The calls on the key that the reason (`refusal`) names suffice to show this
 -- (`IsRefusedBy`). This key is the first to fail the judge's rule (the test of one key's calls), at the reason's
 -- moment.
 abbrev pub IsStreamVerdict : HistoryValue → List ℕ → StreamVerdict → Type 0
@@ -154,8 +152,8 @@ IsStreamVerdict h keys (NotLinearizable refusal) =
     ((quota : ℕ) → IsUnexplained (with_quota quota h) keys) × IsRefusedBy h keys refusal.key.0 refusal.moment
     × FailsFirst h refusal.key.0 refusal.moment
 
--- States that the verdict on a cut-off recording is correct: Linearizable is correct for some final keys,
--- NotLinearizable for all.
+-- Holds if the verdict on a cut-off recording is correct: Linearizable is correct for some final keys, NotLinearizable
+-- for all.
 abbrev pub IsStreamVerdictCutOff : HistoryValue → StreamVerdict → Type 0
 IsStreamVerdictCutOff h Linearizable = (keys : List ℕ) × IsStreamVerdict h keys Linearizable
 IsStreamVerdictCutOff h (NotLinearizable refusal) = (keys : List ℕ) → IsStreamVerdict h keys (NotLinearizable refusal)
@@ -165,8 +163,8 @@ IsStreamVerdictCutOff h (NotLinearizable refusal) = (keys : List ℕ) → IsStre
 abbrev pub no_pending : Pending
 no_pending = record { end = 0; call = call_of no_call }
 
--- States how an event of a key at a moment changes the stored states of the keys, and whether the judge's rule (the
--- test of one key's calls) fails. Once the rule has failed, states nothing about the stored states.
+-- How an event of a key at a moment changes the stored states of the keys, and whether the judge's rule (the test of
+-- one key's calls) fails at this event. After the rule has failed, nothing is required of the stored states.
 abbrev pub IsMetBy : States → ℕ → ℕ → Event → States → Option Failed → Option Failed → Type 0
 IsMetBy before key moment event after (Some f) failed = failed ≡ Some f
 IsMetBy before key moment event after None None =
@@ -187,8 +185,8 @@ abbrev pub verdict_of_key : Option ℕ → StreamVerdict
 verdict_of_key None = Linearizable
 verdict_of_key (Some k) = NotLinearizable (record { key = record { 0 = k }; moment = None })
 
--- States that the verdict reports the failure of the judge's rule (the test of one key's calls), if the rule has
--- failed. If the rule has not failed, the reason for NotLinearizable has no moment.
+-- If the judge's rule (the test of one key's calls) has failed, the verdict reports this failure. If the rule has not
+-- failed and the verdict is NotLinearizable, its reason has no moment.
 abbrev pub IsToldBy : Option Failed → StreamVerdict → Type 0
 IsToldBy None Linearizable = Unit {0}
 IsToldBy None (NotLinearizable refusal) = refusal.moment ≡ None

@@ -43,11 +43,11 @@ may_add c ended = puts_in (kind_if c ended)
 abbrev pub adds_of : ℕ → List CallRecord → ℕ
 adds_of thread calls = count_by (λ (x : CallRecord). may_add x.call x.ended && x.thread == thread) calls
 
--- States that each completed call returned true or false and is no `ceiling`.
+-- Holds if each completed call returned true or false and is no `ceiling`.
 abbrev pub IsPlain : List CallRecord → Type 0
 IsPlain calls = All (λ (x : CallRecord). IfSome x.ended (λ (e : ℕ × Reply). is_plain x.call e.1 ≡ true)) calls
 
--- States that the judge decides the history h. No completed call is a `ceiling`, and each returned true or false. The
+-- Holds if the judge decides the history h. No completed call is a `ceiling`, and each returned true or false. The
 -- quota covers all `add`s of each thread that returned true or are pending.
 pub record IsJudged (h : HistoryValue) : Type 0 where
   pub plain : IsPlain h.calls
@@ -76,9 +76,9 @@ of_key key moment h = record {
   calls = calls_by key moment h.calls;
 }
 
--- States that the reason of a verdict (why no order explains the calls) is correct, with any quota. If there is a
--- moment, no order explains the calls on the key that start by this moment, whatever keys the order leaves. Otherwise,
--- no order explains all calls on the key and leaves the key's final state.
+-- Holds if the reason of a verdict (why no order explains the calls) is correct, with any quota. If there is a moment,
+-- no order explains the calls on the key that start by this moment, whatever keys the order leaves. Otherwise, no
+-- order explains all calls on the key and leaves the key's final state.
 abbrev pub IsRefusedBy : HistoryValue → List ℕ → ℕ → Option ℕ → Type 0
 IsRefusedBy h keys key (Some moment) = (quota : ℕ) (left : List ℕ) → IsUnexplained (of_key key moment (with_quota quota h)) left
 IsRefusedBy h keys key None = (quota : ℕ) (left : List ℕ) → has_key key left ≡ has_key key keys

@@ -13,11 +13,11 @@ use Rattle.lset_steps.specs.Rows.{own_slot, goes_to, ceiling_at}
 use Rattle.lset_steps.specs.ReadRows.{continued, leaves_with}
 use Rattle.lset_steps.specs.RowLaws.{Does, HasReading, nothing}
 
--- Returns the outcome of a step after which the call continues at row `pc` of the step table.
+-- Returns the outcome of a step if the call continues at row `pc` of the step table.
 abbrev pub on_to : ℕ → Local → Fed
 on_to pc l = continued (record l { pc = pc })
 
--- Returns the outcome of a step after which the call releases its locks, from row 13 of the step table on. If the reply
+-- Returns the outcome of a step that leads to row 13 of the step table: the call releases its locks next. If the reply
 -- is `None`, the call then starts again.
 abbrev pub leaves : Option Reply → Local → Fed
 leaves r l = continued (goes_to 13 r l)

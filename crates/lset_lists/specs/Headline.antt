@@ -22,7 +22,7 @@ keys_left op history order = (set_left (opening_set op) (map (answered history) 
 abbrev pub history_of : Table → Opening → (ℕ → Event) → ℕ → List CallRecord
 history_of T op es k = history_at (log_of T op es) k
 
--- States that an order of calls explains the first `last` events of a run.
+-- Holds if an order of calls explains the first `last` events of a run.
 pub record ExplainsRun (T : Table) (op : Opening) (es : ℕ → Event) (last : ℕ) (order : List Placed) : Type 0 where
   -- The calls of the run form a history.
   pub history : IsHistory op.threads (history_of T op es last)
@@ -36,13 +36,13 @@ abbrev pub RunsAreLinearizable : Table → Type 0
 RunsAreLinearizable T = (op : Opening) (last : ℕ) (es : ℕ → Event) → Run T op es last
     → (order : List Placed) × ExplainsRun T op es last order
 
--- States that the order is the [Placement] of the run: the run's calls, sorted by their linearization points.
+-- Holds if the order is the [Placement] of the run: the run's calls, sorted by their linearization points.
 abbrev pub IsPlacedBy : Table → Opening → (ℕ → Event) → ℕ → List Placed → Type 0
 IsPlacedBy T op es k order = IsPlacement op.quota (calls_at (log_of T op es) k)
     (contents_of (views T op es)) (counts_of (views T op es)) order
 
--- [The placement of a run]: states that the order lists the run's calls by their linearization points, and that no
--- other order of the calls does.
+-- [The placement of a run]: the order lists the run's calls by their linearization points, and no other order of the
+-- calls does.
 pub record IsThePlacement (T : Table) (op : Opening) (es : ℕ → Event) (last : ℕ) (order : List Placed) : Type 0 where
   pub placement : IsPlacedBy T op es last order
   pub alone : (other : List Placed) → IsPlacedBy T op es last other → other ≡ order

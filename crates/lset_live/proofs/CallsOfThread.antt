@@ -105,7 +105,7 @@ open_step m u ch a done o = map-append (ends m ch a) (map (ended_record u) done)
     last None (Some x) = ap (λ l. map (ended_record u) l ++ open_records u (Some x)) (sym (append-nil done))
     last None None = ap (λ l. map (ended_record u) l ++ []) (sym (append-nil done))
 
--- States that thread u has no pending call if the log entry e is the start of a call of thread u.
+-- If the log entry e is the start of a call of thread u, the thread has no pending call before this entry.
 abbrev pub MayBegin : Entry → ℕ → Option PendingCall → Type 0
 MayBegin (began t c) u o = t ≡ u → o ≡ None
 MayBegin (stepped t ch a) u o = Unit {0}

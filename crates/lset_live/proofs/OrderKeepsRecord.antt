@@ -221,7 +221,7 @@ module _ (q : ℕ) (s : SetState) (H : List CallRecord) (P : List Placed) (L : L
       ∙ (sym same ∙ ap (λ (p : Placed). p.call) (sym (get_or_default P i b a l ∙ e))))))
       ne) (cases_order i j)
 
-  -- States that p is an entry of the order P, and that its call is in the history H.
+  -- Holds if p is an entry of the order P, and its call is in the history H.
   abbrev There : Placed → Type 0
   There p = (p.call < length H) × Contains P p
 

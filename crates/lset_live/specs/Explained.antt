@@ -51,12 +51,11 @@ pub record HasAnswered (T : Table) (set : SetValue) (old : SeatValue) (c : Call)
   pub answered : IsAnswered T set.shape (thread_of old.past) c r old.events new.events
   pub explained : SeenIsLinearizable T set.shape new.events new.past
 
--- [Steps of the last call]: states that in these events, thread t has made at most `most` steps since it started its
--- last call.
+-- [Steps of the last call]: in these events, thread t has made at most `most` steps since it started its last call.
 abbrev pub HasMadeAtMost : ℕ → ℕ → List Event → Type 0
 HasMadeAtMost most t events = steps_since (event_at events) t (length events) ≤ most
 
--- States that thread u has one of these records, or a record that was merged into one of them.
+-- Holds if thread u has one of these records, or a record that was merged into one of them.
 abbrev pub NamedIn : ℕ → List Record → Type 0
 NamedIn u [] = ⊥
 NamedIn u (r ∷ rs) = Names u r ⊎ NamedIn u rs

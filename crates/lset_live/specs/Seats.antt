@@ -37,12 +37,12 @@ pub record ReceiptValue : Type 0 where
 abbrev pub new_seat : SetValue → ℕ → SeatValue
 new_seat set t = record { set = set; past = fresh t; held = 1; events = [] }
 
--- States that the set was just opened with this opening (threads, quota and opening keys), and that `seats` are its new
--- seats, ordered by thread.
+-- Holds if the set was just opened with this opening (threads, quota and opening keys), and `seats` are its new seats,
+-- ordered by thread.
 abbrev pub IsOpened : SetValue → Opening → List SeatValue → Type 0
 IsOpened set opening seats = (set.shape ≡ opening) × (seats ≡ map (new_seat set) (range_with_len 0 opening.threads))
 
--- States that this error is correct for `open` with the sizes s: it names the first size that is out of range, or is
+-- Holds if this error is correct for `open` with the sizes s: it names the first size that is out of range, or is
 -- Memory if no size is out of range.
 abbrev pub RefusesSeats : Sizes → OpenFault → Type 0
 RefusesSeats s fault.Seats = RefusesSizes s layout.Threads
@@ -50,8 +50,8 @@ RefusesSeats s fault.Quota = RefusesSizes s layout.Quota
 RefusesSeats s fault.Memory = IsWithin s
 RefusesSeats s fault.Opening = ⊥
 
--- States that `open_with` returns this error for the opening o: the first size that is out of range, else Opening if
--- the keys do not increase strictly or are too many, else Memory.
+-- Holds if `open_with` returns this error for the opening o: the first size that is out of range, else Opening if the
+-- keys do not increase strictly or are too many, else Memory.
 abbrev pub RefusesOpening : Opening → OpenFault → Type 0
 RefusesOpening o fault.Seats = RefusesSizes (sizes o) layout.Threads
 RefusesOpening o fault.Quota = RefusesSizes (sizes o) layout.Quota

@@ -18,7 +18,7 @@ abbrev pub reply_of_ceiling : Option Key → Reply
 reply_of_ceiling None = reply.Nothing
 reply_of_ceiling (Some k) = reply.At k
 
--- States that an `add` can have this reply.
+-- Holds if an `add` can have this reply.
 abbrev pub IsAddReply : Reply → Type 0
 IsAddReply reply.True = Unit {0}
 IsAddReply reply.False = Unit {0}
@@ -26,7 +26,7 @@ IsAddReply reply.Full = Unit {0}
 IsAddReply (reply.At k) = ⊥
 IsAddReply reply.Nothing = ⊥
 
--- States that a `remove` or a `contains` can have this reply.
+-- Holds if a `remove` or a `contains` can have this reply.
 abbrev pub IsTruth : Reply → Type 0
 IsTruth reply.True = Unit {0}
 IsTruth reply.False = Unit {0}
@@ -34,7 +34,7 @@ IsTruth reply.Full = ⊥
 IsTruth (reply.At k) = ⊥
 IsTruth reply.Nothing = ⊥
 
--- States that a `ceiling` can have this reply.
+-- Holds if a `ceiling` can have this reply.
 abbrev pub IsCeilingReply : Reply → Type 0
 IsCeilingReply reply.True = ⊥
 IsCeilingReply reply.False = ⊥

@@ -183,7 +183,7 @@ first_tried m law b own s n s' c same may seat starts again ne =
 
 -- Replaces the private state l of a thread by an equal private state l'.
 --
--- A proof about a loop uses this lemma last: `leads` states the private state after a step as the step table computes
+-- A proof about a loop uses this lemma last: `leads` yields the private state after a step as the step table computes
 -- it, the test of a branch selects the case (`if_same`, `if_other`, `deed`), and `moved` writes the private state in
 -- the form `row`.
 pub moved : {m : Table} {b : Begun} {l l' : Local} {s : TableSeat} → Holds m b l s → l ≡ l' → Holds m b l' s

@@ -38,8 +38,8 @@ pub record MayStep (m : Table) (b : Begun) (a : Action) (s : TableSeat) : Type 0
   pub acts : a ≡ m.next held
   pub goes_on : (n : ℕ) → (m.feed held n).answer ≡ None
 
--- States that the step from seat s to s' saw the value n in its word. According to the step table, call b is now at the
--- row that follows for this value.
+-- After a step that saw the value n, call b is at the row of the step table that follows for this value. s and s' are
+-- the seat (the right to call as one thread) before and after the step.
 pub record HasStepped (m : Table) (b : Begun) (s : TableSeat) (n : ℕ) (s' : TableSeat) : Type 0 where
   pub leads : (l : Local) → Holds m b l s → Holds m b (m.feed l n).local s'
 
@@ -61,8 +61,8 @@ abbrev pub feeds : Table → Local → List (ℕ × ℕ) → Local
 feeds m l [] = l
 feeds m l ((word, value) ∷ more) = feeds m (m.feed l value).local more
 
--- States that according to the step table, a thread in the private state `l` makes these stores in its next steps, and
--- that no store ends the call. The stores are given as (word, value) pairs.
+-- According to the step table, a thread in the private state `l` makes these stores in its next steps, and no store
+-- ends the call. The stores are given as (word, value) pairs.
 abbrev pub Stores : Table → Local → List (ℕ × ℕ) → Type 0
 Stores m l [] = Unit {0}
 Stores m l ((word, value) ∷ more) = (Store word value ≡ m.next l) × ((n : ℕ) → (m.feed l n).answer ≡ None)
@@ -95,7 +95,8 @@ pub record MayBegin (m : Table) (b : Begun) (own : OwnSlots) (s : TableSeat) : T
 abbrev pub first : Table → Begun → OwnSlots → Local
 first m b own = m.begin b.call (resting own)
 
--- Call b has ended with reply r. The calling thread has the private state `l`, and the seat of the call is now s.
+-- Call b has ended with reply r. The calling thread has the private state `l`, and its seat (the right to call as one
+-- thread) is now s.
 pub record Answered (m : Table) (b : Begun) (r : Reply) (l : Local) (s : TableSeat) : Type 0 where
   pub seat : (s.table_id ≡ b.table_id) × (s.id ≡ b.id) × (s.me.1 ≡ b.me.1)
   pub makes : Makes m b.call b.me.0 r s.me.0
@@ -107,17 +108,19 @@ pub record MayAnswer (m : Table) (b : Begun) (a : Action) (s : TableSeat) : Type
   pub holds : Holds m b held s
   pub acts : a ≡ m.next held
 
--- States that call b has ended if f, the result of its last step, contains a reply. Otherwise call b is still pending.
+-- If f, the result of the last step of call b, contains a reply, the call has ended with this reply. Otherwise the
+-- call is still pending.
 abbrev pub StandsAfter : Table → Begun → Fed → TableSeat → Type 0
 StandsAfter m b f s = MatchOption f.answer (Holds m b f.local s) (λ r. Answered m b r f.local s)
 
--- States that the step from seat s to s' saw the value n in its word, and that call b has then ended or continues, as
--- the step table demands for this value.
+-- After a step that saw the value n in its word, call b has ended or continues, as the step table says for this value.
+-- s and s' are the seat (the right to call as one thread) before and after the step.
 abbrev pub HasTold : Table → Begun → TableSeat → ℕ → TableSeat → Type 0
 HasTold m b s n s' = (l : Local) → Holds m b l s → (f : Fed) → m.feed l n ≡ f → StandsAfter m b f s'
 
--- States that the compare-and-exchange from seat s to s' saw `old` if it succeeded, and another value if it failed.
--- Call b has then ended or continues, as the step table demands for the value seen.
+-- A compare-and-exchange that succeeded saw the value `old`. One that failed saw another value. Call b has then ended
+-- or continues, as the step table says for the value seen. s and s' are the seat (the right to call as one thread)
+-- before and after the exchange.
 abbrev pub HasExchanged : Table → Begun → ℕ → TableSeat → Bool → TableSeat → Type 0
 HasExchanged m b old s true s' = HasTold m b s old s'
 HasExchanged m b old s false s' = (n : ℕ) × (n ≢ old) × HasTold m b s n s'
@@ -154,7 +157,7 @@ done t PutIn l = goes_to t.adds None l
 done t TakeOut l = goes_to t.removes None l
 done t (Answer r) l = goes_to t.leaves (Some r) l
 
--- States that the step table makes decision d for call c if the walk has stopped at the key `word`.
+-- When the walk of call c stops at the key `word`, the step table makes decision d.
 abbrev pub Decides : Call → OwnSlots → ℕ → Decision → Type 0
 Decides c own word d = (t : Targets) (l : Local) → l.call ≡ c → l.used ≡ own.used → l.quota ≡ own.quota →
     decided_on t word l ≡ done t d l
@@ -163,7 +166,7 @@ Decides c own word d = (t : Targets) (l : Local) → l.call ≡ c → l.used ≡
 abbrev pub one_more : OwnSlots → OwnSlots
 one_more own = record own { used = own.used + 1 }
 
--- States that call b has ended. `answer` contains the slots of the thread after the call (nodes for the keys that the
+-- Holds if call b has ended. `answer` contains the slots of the thread after the call (nodes for the keys that the
 -- thread adds), and the reply.
 abbrev pub HasAnswered : Table → Begun → OwnSlots × Reply → TableSeat → Type 0
 HasAnswered m b answer s = (l : Local) × Answered m b answer.1 l s × (answer.0 ≡ slots_of l)

@@ -10,21 +10,21 @@ use Rattle.lset_loops.specs.declared.decision.Found.{Found}
 use Rattle.lset_loops.specs.Begun.{Begun}
 use Rattle.lset_loops.specs.Calling.{Holds, Rest, row}
 
--- States that the call holds the list's lock and is about to load the head's link.
+-- Holds if the call holds the list's lock and is about to load the head's link.
 abbrev pub AtHead : Begun → OwnSlots → TableSeat → Type 0
 AtHead b own s = (j : Rest) × Holds coarse b (row own b.call 2 None 0 0 j) s
 
--- States that the call is about to load the key of node x, which it reached through the link of node p.
+-- Holds if the call is about to load the key of node x, which it reached through the link of node p.
 abbrev pub AtKey : Begun → OwnSlots → ℕ → ℕ → TableSeat → Type 0
 AtKey b own p x s = (j : Rest) × Holds coarse b (row own b.call 3 None p x j) s
 
--- States that the walk has stopped at the two nodes in f, and that the call continues at the row of the step table for
--- its decision (add, remove or reply).
+-- Holds if the walk has stopped at the two nodes in f, and the call continues at the row of the step table for its
+-- decision (add, remove or reply).
 abbrev pub StopsAt : Begun → OwnSlots → Found → TableSeat → Type 0
 StopsAt b own f s = (j : Rest) × Holds coarse b (decided_on targets f.word (row own b.call 3 None f.pred.number f.curr.number j))
     s
 
--- States that the call is about to release the list's lock and then to end. `answer` contains the thread's slots (nodes
--- for the keys that the thread adds) after the call, and the reply.
+-- Holds if the call is about to release the list's lock and to end with a reply. `answer` has the thread's slots
+-- (nodes for the keys that the thread adds) after the call, and the reply.
 abbrev pub Leaves : Begun → OwnSlots × Reply → TableSeat → Type 0
 Leaves b answer s = (p : ℕ) × (x : ℕ) × (j : Rest) × Holds coarse b (row answer.0 b.call 10 (Some answer.1) p x j) s

@@ -11,23 +11,23 @@ use Rattle.lset_loops.specs.declared.decision.Found.{Found}
 use Rattle.lset_loops.specs.Begun.{Begun}
 use Rattle.lset_loops.specs.Calling.{Holds, Rest, row, StandsAfter, HasAnswered}
 
--- States that the call is about to load the link of node x, which it reached through the link of node p.
+-- Holds if the call is about to load the link of node x, which it reached through the link of node p.
 abbrev pub AtLink : Begun → OwnSlots → ℕ → ℕ → TableSeat → Type 0
 AtLink b own p x s = (j : Rest) × Holds lock_free b (row own b.call 2 None p x j) s
 
--- States that the walk has stopped at the two nodes in f. The call has then ended, or continues at the row of the step
+-- Holds if the walk has stopped at the two nodes in f. The call has then ended, or continues at the row of the step
 -- table for its decision (add or remove).
 abbrev pub StopsAt : Begun → OwnSlots → Found → TableSeat → Type 0
 StopsAt b own f s = (j : Rest)
     × ((fed : Fed) → decision_of (decided_on targets f.word (row own b.call 4 None f.pred.number f.curr.number j)) ≡ fed →
     StandsAfter lock_free b fed s)
 
--- States that the call is about to start over: its next step loads the head's link.
+-- Holds if the call is about to start over: its next step loads the head's link.
 abbrev pub AtHead : Begun → OwnSlots → TableSeat → Type 0
 AtHead b own s = (p : ℕ) × (x : ℕ) × (j : Rest) × Holds lock_free b (row own b.call 1 None p x j) s
 
--- States the result of an attempt to add, remove or reply. If the attempt returned `answer` (the thread's slots and the
--- reply), the call has ended. If it returned None, the call is about to start over.
+-- The call has tried to add, remove or reply. If the attempt returned `answer` (the thread's slots, which are nodes
+-- for its adds, and the reply), the call has ended. If it returned None, the call is about to start over.
 abbrev pub HasTried : Begun → OwnSlots → Option (OwnSlots × Reply) → TableSeat → Type 0
 HasTried b own (Some answer) s = HasAnswered lock_free b answer s
 HasTried b own None s = AtHead b own s

@@ -96,7 +96,7 @@ module _ (q t : ℕ) (vs : ℕ → View) (first now : ℕ) (v : View) (done : Bo
     decides = λ from upto. absurd (omega arith);
   }
 
--- States that the second walk has arrived at pred after a step, and that the step does not change the thread's pred.
+-- Holds if the second walk has arrived at pred after a step, and the step does not change the thread's pred.
 abbrev Stays : Local → Local → Type 0
 Stays l m = HasArrived m × (m.pred ≡ l.pred)
 

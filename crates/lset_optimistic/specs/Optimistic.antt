@@ -12,7 +12,8 @@ use Rattle.lset_steps.specs.declared.rows.Targets.{Targets}
 use Rattle.lset_steps.specs.Steps.{Table}
 use Rattle.lset_steps.specs.Rows.{own_slot, begun, decided_on}
 
--- Rows of the step table after a walk: where a call adds its key, removes its key, or leaves with its reply.
+-- The rows of the step table that follow a walk: row 9 for an `add` that adds its key, row 12 for a `remove` that
+-- removes it, row 14 for a call that already has its reply.
 abbrev pub targets : Targets
 targets = record { adds = 9; removes = 12; leaves = 14 }
 

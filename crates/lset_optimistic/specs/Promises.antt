@@ -23,31 +23,31 @@ held_at op es k t = local_of (state_at optimistic op es k) t
 abbrev pub world_at : Opening → (ℕ → Event) → ℕ → View
 world_at op es k = views optimistic op es k
 
--- States that the second walk of a call is in progress: it has reached `node`, and the thread loads the link (row 6 of
+-- Holds if the second walk of a call is in progress: it has reached `node`, and the thread loads the link (row 6 of
 -- the step table) or the key (row 7) of this node next.
 abbrev pub IsWalking : Local → Type 0
 IsWalking l = (l.pc ≡ 6) ⊎ (l.pc ≡ 7)
 
--- States that the second walk of a call has arrived at pred, and that the thread has not yet released pred's lock. The
--- thread is at a row of the step table from 7 (the load of pred's key) to 14 (the release of pred's lock). A thread
--- whose second walk has failed is also at row 14, but its walk is at another node.
+-- Holds if the second walk of a call has arrived at pred, and the thread has not yet released pred's lock. The thread
+-- is at a row of the step table from 7 (the load of pred's key) to 14 (the release of pred's lock). After a failed
+-- second walk, a thread is also at row 14, but its walk is at another node.
 pub record HasArrived (l : Local) : Type 0 where
   pub from : 7 ≤ l.pc
   pub upto : l.pc ≤ 14
   pub there : l.node ≡ l.pred
 
--- States that in the event after moment `i`, thread `t` releases the lock of node `a` by a store of 0.
+-- Holds if in the event after moment `i`, thread `t` releases the lock of node `a` by a store of 0.
 pub record GivesBack (op : Opening) (es : ℕ → Event) (i t a : ℕ) : Type 0 where
   pub step : es i ≡ Go t
   pub stores : optimistic.next (held_at op es i t) ≡ Store (lock_index a) 0
 
--- States that node a is in the chain and that thread t holds its lock.
+-- Holds if node a is in the chain and thread t holds its lock.
 pub record IsLockedInChain (v : View) (t a : ℕ) : Type 0 where
   pub in_chain : InChain v a
   pub mine : v.lock a ≡ t + 1
 
--- States that node a was in the chain at some moment from `first` to `now`, and that thread t has held the lock of pred
--- since then. Node a itself can have left the chain.
+-- Holds if node a was in the chain at some moment from `first` to `now`, and thread t has held the lock of pred since
+-- then. Node a itself can have left the chain.
 pub record WasInChain (vs : ℕ → View) (first now t pred a : ℕ) : Type 0 where
   pub at : ℕ
   pub from : first ≤ at
@@ -71,14 +71,14 @@ pub record WalksAreValid (op : Opening) (last t : ℕ) (es : ℕ → Event) : Ty
   -- its second walk has arrived at pred.
   pub decides : (k : ℕ) → k ≤ last → 8 ≤ (held_at op es k t).pc → (held_at op es k t).pc ≤ 13 → HasArrived (held_at op es k t)
 
--- [Validated walk]: states that if the second walk arrives at pred, then pred is in the chain until the thread releases
--- pred's lock, even if the walk has passed nodes that were being unlinked.
+-- [Validated walk]: if the second walk arrives at pred, then pred is in the chain until the thread releases pred's
+-- lock, even if the walk has passed nodes that were being unlinked.
 abbrev pub ValidatedWalk : Type 0
 ValidatedWalk = (op : Opening) (last t : ℕ) (es : ℕ → Event) → Run optimistic op es last → t < op.threads →
     WalksAreValid op last t es
 
--- States that at some moment from `first` to just before `now`, thread `t` loaded pred's link at row 8 and saw that
--- the link leads to curr. The reply is correct at this moment.
+-- Holds if at some moment from `first` to just before `now`, thread `t` loaded pred's link at row 8 and saw that the
+-- link leads to curr. The reply is correct at this moment.
 pub record FitsAtALoad (op : Opening) (es : ℕ → Event) (first now t : ℕ) (call : Call) (reply : Reply) : Type 0 where
   pub at : ℕ
   pub from : first ≤ at
@@ -88,9 +88,9 @@ pub record FitsAtALoad (op : Opening) (es : ℕ → Event) (first now t : ℕ) (
   pub leads : (world_at op es at).link (held_at op es at t).pred / 2 ≡ (held_at op es at t).curr
   pub fits : FitsIn op.quota (world_at op es at) t call reply
 
--- [Optimistic replies fit]: states that if a call ends without having changed the set, its reply is correct at some
--- moment of the call. At this moment, after its second walk had arrived at pred, the thread saw that pred's link leads
--- to curr (row 8 of the step table).
+-- [Optimistic replies fit]: if a call ends without having changed the set, its reply is correct at some moment of the
+-- call. At this moment, after its second walk had arrived at pred, the thread saw that pred's link leads to curr (row
+-- 8 of the step table).
 abbrev pub OptimisticRepliesFit : Type 0
 OptimisticRepliesFit = (op : Opening) (last k t : ℕ) (es : ℕ → Event) (reply : Reply) → Run optimistic op es last → k < last →
     t < op.threads

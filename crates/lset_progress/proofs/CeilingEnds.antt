@@ -69,7 +69,7 @@ module _ (op : Opening) (es : ℕ → Event) (fair : IsFair lazy op es) (t : ℕ
         },
       )
 
-  -- States that none of the threads below n has a pending `add`, `remove` or `contains`.
+  -- Holds if none of the threads below n has a pending `add`, `remove` or `contains`.
   abbrev NoneCounts : ℕ → ℕ → Type 0
   NoneCounts k n = (u : ℕ) → u < n → IsPending (state_at lazy op es k) u
       → counted true (local_of (state_at lazy op es k) u).call ≡ 0
@@ -94,7 +94,7 @@ module _ (op : Opening) (es : ℕ → Event) (fair : IsFair lazy op es) (t : ℕ
     ]
   ]
 
-  -- States that the thread has a pending `ceiling` that ends within m steps if no word changes.
+  -- Holds if the thread has a pending `ceiling` that ends within m steps if no word changes.
   record Waits (k m : ℕ) : Type 0 where
     pending : IsPending (state_at lazy op es k) t
     is_read : counted true (local_of (state_at lazy op es k) t).call ≡ 0
@@ -121,7 +121,7 @@ module _ (op : Opening) (es : ℕ → Event) (fair : IsFair lazy op es) (t : ℕ
       en.0)
       ∙ (lazy_lawful.steps op (suc k) k t es (fair.run (suc k)) (omega arith) ee).same_call
 
-  -- The case in which the next event is a step of the `ceiling`.
+  -- The case of a step of the `ceiling`.
   mine : (m k : ℕ) → ((j : ℕ) → Waits j m → Ends j) → Waits k (suc m) → es k ≡ Go t → NoneCounts k op.threads → Ends k
   mine m k again w ee none =
       let row = row_at k (suc m) w in
@@ -154,8 +154,8 @@ module _ (op : Opening) (es : ℕ → Event) (fair : IsFair lazy op es) (t : ℕ
         }))
       ]
 
-  -- The case that the next event belongs to another thread. No shared word changes, and the number of remaining steps
-  -- of the `ceiling` stays the same.
+  -- The case of an event of another thread: it changes no shared word, and the number of remaining steps of the
+  -- `ceiling` stays the same.
   stays : (k m : ℕ) → Waits k m → (state_at lazy op es (suc k)).words ≡ (state_at lazy op es k).words
       → local_of (state_at lazy op es (suc k)) t ≡ local_of (state_at lazy op es k) t → Waits (suc k) m
   stays k m w words same = record {

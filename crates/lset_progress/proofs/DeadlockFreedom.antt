@@ -68,7 +68,7 @@ module _ (T : Table) (law : Lawful T) (S : Shape) (most : Sizes → ℕ) (shows 
   abbrev count : State → Event → ℕ
   count = moves calls T
 
-  -- States that in some number of events after moment k, a counted step ends its call, or at least m counted steps are
+  -- Holds if in some number of events after moment k, a counted step ends its call, or at least m counted steps are
   -- taken. A counted step is not a failed attempt to take a lock.
   abbrev Gather : ℕ → ℕ → Type 0
   Gather m k = (n : ℕ) × (SomeEnds (moves calls T) T op es k n ⊎ (m ≤ steps_among (moves calls T) T op es k n))
@@ -82,7 +82,7 @@ module _ (T : Table) (law : Lawful T) (S : Shape) (most : Sizes → ℕ) (shows 
     ],
   )
 
-  -- States that thread t has a pending call, and that the steps of this call are counted.
+  -- Holds if thread t has a pending call, and the steps of this call are counted.
   record Busy (k t : ℕ) : Type 0 where
     in_threads : t < op.threads
     pending : IsPending (state_at T op es k) t
@@ -174,8 +174,8 @@ module _ (T : Table) (law : Lawful T) (S : Shape) (most : Sizes → ℕ) (shows 
     mine_counts : (k : ℕ) → Ready k → moves calls T (state_at T op es k) (Go u) ≡ 1
     mine_counts k g = weight_of _ u 1 g.busy.meant ∙ gets_weight _ (T.next _) g.gets_on.tries
 
-    -- Concludes from moment k + 1 back to moment k. There are two cases: the next event is a counted step, or it
-    -- changes no shared word.
+    -- The induction step, from moment k + 1 back to moment k. There are two cases: the next event is a counted step,
+    -- or it changes no shared word.
     by_event : (k : ℕ) → Ready k → (Ready (suc k) → Gather (suc m) (suc k)) → (e : Event) → es k ≡ e
         → Enabled (state_at T op es k) e → Gather (suc m) k
     by_event k g rest (Begin t c) ee en =

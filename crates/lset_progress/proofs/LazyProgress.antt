@@ -136,7 +136,7 @@ module _ {sz : Sizes} {ws : List ℕ} {used : ℕ → ℕ} {t : ℕ} {vs : ℕ �
   abbrev Row : Local → Type 0
   Row k = RowOf shape size lazy sz ws t (lazy_steps sz) k
 
-  -- States that row n of the step table loads a word and leads to the private state k.
+  -- Holds if row n of the step table loads a word and leads to the private state k.
   abbrev To : ℕ → Local → Type 0
   To n k = Loads shape size ws (record l { pc = n }) (continued k)
 
@@ -159,8 +159,8 @@ module _ {sz : Sizes} {ws : List ℕ} {used : ℕ → ℕ} {t : ℕ} {vs : ℕ �
 
   module _ (few : rest size ws l.curr < size) (pred : l.pred < node_count sz) (curr : l.curr < node_count sz)
       (round_few : then_again size l.reply ≤ 2 * size + 7) where
-    -- States that row 14 of the step table releases the last lock. The call then ends with the reply r or, if there is
-    -- no reply, starts again.
+    -- Holds if row 14 of the step table releases the last lock. The call then ends with the reply r or, if there is no
+    -- reply, starts again.
     abbrev Last : Option Reply → Type 0
     Last r = Stores shape size ws (record l { pc = 14 }) (lock_index l.pred) ws (released r (record l { pc = 14 }))
 

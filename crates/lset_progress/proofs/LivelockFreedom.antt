@@ -30,9 +30,9 @@ is_lock_test x (inr (i, e)) =
     if_other x 0 (omega arith) true (if nat_lt x 5 then false else if x % 3 == 2 then true else false)
     ∙ if_not_below x 5 (omega arith) false (if x % 3 == 2 then true else false) ∙ if_same (x % 3) 2 (omega arith) true false
 
--- The proof obligations of a list about its counted calls. Every call that holds a lock or changes the list is
--- counted, and all other calls only read. If a step of a counted call is not a failed attempt to take a lock, the
--- words satisfy `calm`, the requirement of this step.
+-- The properties of a list's counted calls that the proof of livelock freedom uses. Each call that holds a lock or
+-- changes the list is counted. All other calls only read. `calm` is a condition on the words at a step of a counted
+-- call, unless the step is a failed attempt to take a lock.
 pub record Counts (T : Table) (S : Shape) (calls : Call → ℕ) : Type 0 where
   pub one_or_none : (c : Call) → (calls c ≡ 0) ⊎ (calls c ≡ 1)
   pub late : (op : Opening) (last k t : ℕ) (es : ℕ → Event) → Run T op es last → k ≤ last → t < op.threads
@@ -49,17 +49,17 @@ pub record Counts (T : Table) (S : Shape) (calls : Call → ℕ) : Type 0 where
 
 module _ (T : Table) (law : Lawful T) (S : Shape) (most : Sizes → ℕ) (shows : Shows T S most) (calls : Call → ℕ)
     (counts : Counts T S calls) where
-  -- States that m steps are enough for a thread: for the rest of its counted call or, if the thread has no such call,
-  -- for the longest possible call.
+  -- Holds if m steps are enough for a thread: for the rest of its counted call or, if the thread has no such call, for
+  -- the longest possible call.
   abbrev Fits : Sizes → List ℕ → ℕ → Local → Type 0
   Fits sz ws m l = (most sz ≤ m) ⊎ ((l.pc ≢ 0) × (calls l.call ≡ 1) × Timed S (node_count sz) ws m l)
 
-  -- States that m steps are enough for a thread once it has decided what to change, that is, m is at least 5, or the
-  -- thread has already decided and has at most m steps left.
+  -- Holds if m steps are enough for a thread once it has decided what to change: m is at least 5, or the thread has
+  -- already decided and has at most m steps left.
   abbrev Owes : ℕ → Local → Type 0
   Owes m l = (5 ≤ m) ⊎ LateBy S m l
 
-  -- Returns the maximum increase, by one write, of the total number of steps that the threads need.
+  -- Returns an upper bound: one write adds at most this number to the steps that all threads together still need.
   abbrev price : Sizes → ℕ
   price sz = sz.threads * most sz
 

@@ -50,8 +50,8 @@ abbrev pub left : ℕ → (ℕ → ℕ) → Local → ℕ
 left size key l = get_or (0 ∷ (2 * size + 1) ∷ (2 * rest_by size key l.curr + 4) ∷ (2 * rest_by size key l.curr + 3)
     ∷ (2 * rest_by size key l.curr + 3) ∷ 2 ∷ 1 ∷ 0 ∷ 2 ∷ 1 ∷ 0 ∷ []) l.pc (reads_left size key l)
 
--- States that the exchanges of the call's walk will succeed if no other thread takes a step. While the walk uses pred,
--- pred is not marked and curr is the node after pred.
+-- The exchanges of the call's walk will succeed if no other thread takes a step. While the walk uses pred, pred is not
+-- marked and curr is the node after pred.
 pub record Valid (link : ℕ → ℕ) (l : Local) : Type 0 where
   pub follows : 2 ≤ l.pc → l.pc ≤ 7 → link l.pred ≡ 2 * l.curr
   -- At rows 4 and 9 of the step table, curr is not marked and succ is the next node. At row 8, curr is not marked.
@@ -112,8 +112,8 @@ reads_at size key ws l =
     (λ x m. m, λ z. z, λ z. omega arith, refl, λ v. v.along (omega arith), high_read link _ (λ c d. omega arith), λ c. c)
     l.pc
 
--- States that the call ends within n steps if it runs alone: either the exchanges of its walk will succeed, or n is
--- also enough for one additional walk.
+-- Holds if the call ends within n steps if it runs alone: either the exchanges of its walk will succeed, or n is also
+-- enough for one additional walk.
 abbrev pub Timed : ℕ → (ℕ → ℕ) → List ℕ → ℕ → Local → Type 0
 Timed size key ws n l = TimedBy shape size key (node_link ws) n l
 
@@ -141,7 +141,7 @@ module _ {sz : Sizes} {ws : List ℕ} {used : ℕ → ℕ} {t : ℕ} {vs : ℕ �
   abbrev size : ℕ
   size = node_count sz
 
-  -- States that a step with the outcome f preserves the facts that the proofs of progress use. k is the private state
+  -- Holds if a step with the outcome f preserves the facts that the proofs of progress use. k is the private state
   -- before the step, and ws' are the words after it.
   abbrev After : Local → List ℕ → Fed → Type 0
   After k ws' f = Then shape size key ws k Any key ws' f
@@ -376,7 +376,7 @@ module _ (op : Opening) (last k : ℕ) (es : ℕ → Event) (r : Run lock_free o
         ]
       ]
 
--- States that a call of LockFreeList ends within n steps if it runs alone.
+-- The call of thread t on a LockFreeList ends within n steps if it runs alone.
 abbrev Stage : Sizes → State → ℕ → ℕ → Type 0
 Stage sz s t n = (key : ℕ → ℕ) × SameKeys key (view_of sz s) × Left (node_count sz) key s.words n (local_of s t)
 

@@ -104,7 +104,7 @@ pub walk_at : {v : View} {done : Bool} {l : Local} → Place v done l → 2 ≤ 
     → v.published l.pred × v.published l.curr
 walk_at p low high = (grind arith, grind arith)
 
--- States that the call is an `add` or a `remove`.
+-- Holds if the call is an `add` or a `remove`.
 abbrev pub IsUpdate : Call → Type 0
 IsUpdate c = ((k : Key) × (c ≡ Add k)) ⊎ ((k : Key) × (c ≡ Remove k))
 
@@ -115,7 +115,7 @@ after_change : (done : Bool) → (done || true) ≡ true
 after_change true = refl
 after_change false = refl
 
--- States that the step ends its call, and that the call is an `add` or a `remove`.
+-- Holds if the step ends its call, and the call is an `add` or a `remove`.
 abbrev Ends : Call → Option Reply → Type 0
 Ends call answer = ((r : Reply) × (answer ≡ Some r)) × IsUpdate call
 

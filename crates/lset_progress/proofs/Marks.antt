@@ -30,19 +30,19 @@ use Rattle.lset_progress.proofs.HeadPlain.{the_step, words_are, the_move, the_me
 use Rattle.lset_progress.proofs.Paths.{Path, in_chain_of, path_of}
 use Rattle.lset_progress.proofs.ReadProgress.{Plain}
 
--- States that some thread is about to unlink node b: it is at row 12 of the step table.
+-- Holds if some thread is about to unlink node b: it is at row 12 of the step table.
 pub record TakesOut (threads : ℕ) (locals : ℕ → Local) (b : ℕ) : Type 0 where
   pub by : ℕ
   pub thread : by < threads
   pub row : (locals by).pc ≡ 12
   pub node : (locals by).curr ≡ b
 
--- States that for each marked node of the chain, some thread is about to unlink this node.
+-- Holds if for each marked node of the chain, some thread is about to unlink this node.
 abbrev pub Marked : ℕ → List ℕ → (ℕ → Local) → Type 0
 Marked threads ws locals = (b : ℕ) → Path (node_link ws) 0 b → node_link ws b % 2 ≡ 1 → TakesOut threads locals b
 
--- States that at row 12 of the step table, before it unlinks curr, thread t holds the locks of pred and curr, and curr
--- is marked. Also states that only a `ceiling` is at row 23 or later.
+-- At row 12 of the step table, just before it unlinks curr, thread t holds the locks of pred and curr, and curr is
+-- marked. A thread at row 23 or later executes a `ceiling`.
 pub record Stands (v : View) (t : ℕ) (l : Local) : Type 0 where
   pub takes_out : l.pc ≡ 12 → Between v t (target l.call) l.pred l.curr × (v.link l.curr ≡ 2 * l.succ + 1)
   pub ceiling : 23 ≤ l.pc → l.call ≡ Ceiling (key_of l.call)
@@ -258,7 +258,7 @@ module _ (T : Table) (At : Outline) (follows : Discipline T T.marks At) (rows : 
     | inr odd ↦ absurd (none (marked_at op es last r k l b p odd))
   ]
 
-  -- States that thread u, which is about to unlink a node, holds the locks of this node and of the node before it.
+  -- Holds if thread u, which is about to unlink a node, holds the locks of this node and of the node before it.
   abbrev Taking : Opening → ℕ → (ℕ → Event) → ℕ → Type 0
   Taking op k es u = Between (view_of (sizes op) (state_at T op es k)) u (target (local_of (state_at T op es k) u).call)
       (local_of (state_at T op es k) u).pred (local_of (state_at T op es k) u).curr

@@ -77,7 +77,7 @@ module _ {sz : Sizes} {ws : List ℕ} {used : ℕ → ℕ} {t : ℕ} {vs : ℕ �
   abbrev Row : Local → Type 0
   Row k = RowOf shape size optimistic sz ws t (optimistic_steps sz) k
 
-  -- States that row n of the step table loads a word and leads to the private state k.
+  -- Holds if row n of the step table loads a word and leads to the private state k.
   abbrev To : ℕ → Local → Type 0
   To n k = Loads shape size ws (record l { pc = n }) (continued k)
 
@@ -98,8 +98,8 @@ module _ {sz : Sizes} {ws : List ℕ} {used : ℕ → ℕ} {t : ℕ} {vs : ℕ �
 
   module _ (few : rest size ws l.curr < size) (few_node : rest size ws l.node < size) (head : rest size ws 0 < size)
       (pred : l.pred < node_count sz) (curr : l.curr < node_count sz) (round_few : then_again size l.reply ≤ 4 * size + 4) where
-    -- States that row 15 of the step table releases the last lock. The call then ends with the reply r or, if there is
-    -- no reply, starts again.
+    -- Holds if row 15 of the step table releases the last lock. The call then ends with the reply r or, if there is no
+    -- reply, starts again.
     abbrev Last : Option Reply → Type 0
     Last r = Stores shape size ws (record l { pc = 15 }) (lock_index l.curr) ws
         (record { local = at_end r (record l { pc = 15 }); answer = r })

@@ -3,7 +3,7 @@ use Rattle.std.specs.Prelude.{◌≡◌, ◌≢◌, ℕ, ◌/◌, ◌<◌, ◌�
 use Rattle.std.proofs.Common.{arith, sym, ap, subst, refl}
 use Rattle.lset_steps.specs.Chain.{View, Segment, InChain, IsOrdered}
 
--- States that following the links from node i leads to node j, in as many steps as the list ns has elements, without a
+-- Holds if following the links from node i leads to node j, in as many steps as the list ns has elements, without a
 -- step from the tail. Only the length of ns matters.
 abbrev pub Leads : (ℕ → ℕ) → ℕ → List ℕ → ℕ → Type 0
 Leads link i [] j = i ≡ j

@@ -38,7 +38,7 @@ abbrev expected : Action → ℕ → ℕ
 expected (Exchange x old new) other = old
 expected a other = other
 
--- States that the action is not an attempt to take a lock, or that this lock is free.
+-- If the action is an attempt to take a lock, this lock is free.
 abbrev pub IsFree : List ℕ → Action → Type 0
 IsFree ws (Load w) = Unit {0}
 IsFree ws (Store w v) = Unit {0}
@@ -74,7 +74,7 @@ module _ (S : Shape) (T : Table) (sz : Sizes) (ws : List ℕ) (t : ℕ) (l : Loc
         ])
   ]
 
-  -- States that the action changes neither keys nor links.
+  -- Holds if the action changes neither keys nor links.
   abbrev pub Keeps : Action → Type 0
   Keeps a = SameList ws (left_by ws a)
 
@@ -84,7 +84,7 @@ module _ (S : Shape) (T : Table) (sz : Sizes) (ws : List ℕ) (t : ℕ) (l : Loc
   late_or_keeps (Store w v) (inr y) = inr (stay ws w v y.0)
   late_or_keeps (Exchange w from to) row = inr (tried ws w from to row.is_lock)
 
-  -- States that the step ends the call, or that the call continues with fewer steps remaining.
+  -- The step ends the call, or the call continues with fewer steps remaining.
   abbrev Comes : List ℕ → Fed → Type 0
   Comes ws' f = ((r : Reply) × (f.answer ≡ Some r)) ⊎ Goes S size (node_key ws) ws l (node_key ws') ws' f.local
 

@@ -23,7 +23,7 @@ use Rattle.lset_progress.proofs.RowsWithLocks.{Shape, Then, Any, When}
 use Rattle.lset_progress.proofs.Paths.{Path, no_steps, path_on}
 use Rattle.lset_progress.proofs.Standing.{Standing}
 
--- States that no node of the chain is marked.
+-- Holds if no node of the chain is marked.
 abbrev pub Plain : List ℕ → Type 0
 Plain ws = (b : ℕ) → Path (node_link ws) 0 b → node_link ws b % 2 ≡ 0
 
@@ -37,16 +37,16 @@ reads_left size key l =
     else if l.pc == 24 then 2 * ahead key size (key l.curr) + 1
     else 0
 
--- For a `ceiling`: states that the links lead from the head to curr. Therefore curr is in the chain.
+-- At the rows of a `ceiling` in the step table, links lead from the head to curr. Therefore curr is in the chain.
 abbrev pub Along : (ℕ → ℕ) → Local → Type 0
 Along link l = When (nat_lt 22 l.pc) (Path link 0 l.curr)
 
--- States that n steps are enough for the rest of a walk in the chain, or for the rest of any walk and one additional
+-- Holds if n steps are enough for the rest of a walk in the chain, or for the rest of any walk and one additional
 -- walk.
 abbrev pub ReadTimed : ℕ → ℕ → (ℕ → ℕ) → List ℕ → ℕ → Local → Type 0
 ReadTimed round size key ws n l = (Along (node_link ws) l × (reads_left size key l < n)) ⊎ (reads_left size key l + round < n)
 
--- States that a step of a `contains` or a `ceiling` leads to another row of these calls in the step table, with fewer
+-- Holds if a step of a `contains` or a `ceiling` leads to another row of these calls in the step table, with fewer
 -- steps remaining.
 module _ (round size : ℕ) (key : ℕ → ℕ) (ws : List ℕ) where
   pub record ReadGoes (l l' : Local) : Type 0 where

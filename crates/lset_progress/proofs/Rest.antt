@@ -18,7 +18,7 @@ rest_by size key a = ahead key size (key a)
 abbrev pub rest : ℕ → List ℕ → ℕ → ℕ
 rest size ws a = rest_by size (node_key ws) a
 
--- States that `key` maps each node that has been in the chain to its key.
+-- Holds if `key` maps each node that has been in the chain to its key.
 abbrev pub SameKeys : (ℕ → ℕ) → View → Type 0
 SameKeys key v = (a : ℕ) → v.published a → key a ≡ v.key a
 
@@ -43,7 +43,7 @@ module _ (marks : Bool) (sz : Sizes) (ws : List ℕ) (used : ℕ → ℕ) (m : M
   pub fewer : (a : ℕ) → V.published a → a ≢ 1 → rest (node_count sz) ws (node_link ws a / 2) < rest (node_count sz) ws a
   fewer a p d = fewer_by (node_key ws) (λ b q. refl) a p d
 
--- States that keys and links are the same in the words ws and ws'. A write to a lock changes neither.
+-- Holds if keys and links are the same in the words ws and ws'. A write to a lock changes neither.
 abbrev pub SameList : List ℕ → List ℕ → Type 0
 SameList ws ws' = (node_key ws' ≡ node_key ws) × (node_link ws' ≡ node_link ws)
 

@@ -28,8 +28,8 @@ When b A = MatchBool b A (Unit {0})
 abbrev pub Only : Bool → Type 0
 Only b = MatchBool b (Unit {0}) ⊥
 
--- States that x is a lock that the thread can hold in its private state l: the lock of pred at the rows of the step
--- table that satisfy P, or the lock of curr at the rows that satisfy C.
+-- Holds if x is a lock that the thread can hold in its private state l: the lock of pred at the rows of the step table
+-- that satisfy P, or the lock of curr at the rows that satisfy C.
 abbrev pub NodeLocks : (ℕ → Bool) → (ℕ → Bool) → Local → ℕ → Type 0
 NodeLocks P C l x = ((x ≡ lock_index l.pred) × Only (P l.pc)) ⊎ ((x ≡ lock_index l.curr) × Only (C l.pc))
 
@@ -85,7 +85,7 @@ pub record Shape : Type 1 where
   pub left : ℕ → (ℕ → ℕ) → Local → ℕ
   pub round : ℕ → ℕ
 
--- States that the call has decided what to change, and that at most n of its steps remain, whatever the words are.
+-- Holds if the call has decided what to change, and at most n of its steps remain, whatever the words are.
 abbrev pub LateBy : Shape → ℕ → Local → Type 0
 LateBy S n l = S.late l × (S.left 0 (λ a. 0) l < n)
 
@@ -93,8 +93,8 @@ abbrev pub Any : ℕ → Type 0
 Any x = Unit {0}
 
 module _ (S : Shape) (size : ℕ) where
-  -- States that the call ends within n steps. These steps are enough for the rest of a walk that will succeed, or for
-  -- the rest of any walk and one additional walk.
+  -- Holds if the call ends within n steps. These steps are enough for the rest of a walk that will succeed, or for the
+  -- rest of any walk and one additional walk.
   abbrev pub TimedBy : (ℕ → ℕ) → (ℕ → ℕ) → ℕ → Local → Type 0
   TimedBy key link n l = (S.valid link l × (S.left size key l < n)) ⊎ (S.left size key l + S.round size < n)
 
@@ -114,15 +114,15 @@ module _ (S : Shape) (size : ℕ) where
   no_time key link l (inl v) = let h : S.left size key l < 0 = v.1 in omega arith
   no_time key link l (inr h) = omega arith
 
-  -- States that a step from the private state l to l' does not end its call, and brings the end closer. If n + 1
-  -- further steps were enough before the step, n further steps are enough after it.
+  -- Holds if a step from the private state l to l' does not end its call, and brings the end closer. If n + 1 further
+  -- steps were enough before the step, n further steps are enough after it.
   pub record Goes (key : ℕ → ℕ) (ws : List ℕ) (l : Local) (key' : ℕ → ℕ) (ws' : List ℕ) (l' : Local) : Type 0 where
     pub busy : l'.pc ≢ 0
     pub late : S.late l → LateBy S (S.left 0 (λ a. 0) l) l'
     pub near : S.calm ws l → (n : ℕ) → TimedBy key (node_link ws) (suc n) l → TimedBy key' (node_link ws') n l'
 
-  -- States that a step with the outcome f ends its call or brings the end of the call closer (`Goes`). In the new
-  -- private state, `may` still allows the thread each lock in O that it allowed before.
+  -- Holds if a step with the outcome f ends its call or brings the end of the call closer (`Goes`). In the new private
+  -- state, `may` still allows the thread each lock in O that it allowed before.
   pub record Then (key : ℕ → ℕ) (ws : List ℕ) (l : Local) (O : ℕ → Type 0) (key' : ℕ → ℕ) (ws' : List ℕ) (f : Fed) : Type 0 where
     pub keeps : (x : ℕ) → O x → S.may l x → S.may f.local x
     pub then : ((r : Reply) × (f.answer ≡ Some r)) ⊎ Goes key ws l key' ws' f.local
@@ -134,7 +134,7 @@ module _ (S : Shape) (size : ℕ) where
   Stores ws l w ws' f = Then (node_key ws) ws l (λ x. x ≢ w) (node_key ws') ws' f
 
   module _ (T : Table) (sz : Sizes) (ws : List ℕ) (t : ℕ) (l : Local) where
-    -- States that the step is an attempt to take lock w. This lock has a lower rank than all locks that the thread can
+    -- Holds if the step is an attempt to take lock w. This lock has a lower rank than all locks that the thread can
     -- hold. If the attempt fails, the thread repeats it.
     pub record Tries (w from to : ℕ) : Type 0 where
       pub is_lock : IsLockWord w
@@ -147,7 +147,7 @@ module _ (S : Shape) (size : ℕ) where
       pub mine : S.may (T.feed l 0).local w
       pub missed : (seen : ℕ) → seen ≢ 0 → (T.feed l seen).local ≡ l
 
-    -- States that the step of a row of the step table is allowed. In particular, the thread writes a word other than a
+    -- Holds if the step of a row of the step table is allowed. In particular, the thread writes a word other than a
     -- lock only after it has decided what to change.
     abbrev pub RowBy : Action → Type 0
     RowBy (Load w) = Loads ws l (T.feed l (slice_index ws w))

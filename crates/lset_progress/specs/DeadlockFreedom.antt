@@ -28,23 +28,22 @@ abbrev pub moves : (Call → ℕ) → Table → State → Event → ℕ
 moves calls T s (Begin t call) = 0
 moves calls T s (Go t) = unless_failed s.words (T.next (local_of s t)) (calls (local_of s t).call)
 
--- [Livelock freedom]: states that among any `most` successive counted steps, at least one ends its call, whichever
--- threads take the steps and whatever other events happen in between. A step of a call is counted if `calls` is 1 for
--- the call and the step is not a failed attempt to take a lock.
+-- [Livelock freedom]: among any `most` successive counted steps, at least one ends its call, whichever threads take
+-- the steps and whatever other events happen in between. A step of a call is counted if `calls` is 1 for the call and
+-- the step is not a failed attempt to take a lock.
 abbrev pub IsLivelockFree : (Call → ℕ) → Table → (Sizes → ℕ) → Type 0
 IsLivelockFree calls T most = EndsAmong (moves calls T) T most
 
 abbrev pub each_call : Call → ℕ
 each_call call = 1
 
--- [Fair run]: states that the events are an infinite run, and that every thread with a pending call takes another step
--- later.
+-- [Fair run]: the events are an infinite run, and every thread with a pending call takes another step later.
 pub record IsFair (T : Table) (op : Opening) (es : ℕ → Event) : Type 0 where
   pub run : (n : ℕ) → Run T op es n
   pub goes_on : (k t : ℕ) → t < op.threads → IsPending (state_at T op es k) t → (j : ℕ) × (k ≤ j) × (es j ≡ Go t)
 
--- [Deadlock freedom]: states that in a fair run, if a call with `calls` equal to 1 is pending, then a call with `calls`
--- equal to 1 ends later (minimal progress).
+-- [Deadlock freedom]: in a fair run, if a call with `calls` equal to 1 is pending, then a call with `calls` equal to 1
+-- ends later (minimal progress).
 abbrev pub IsDeadlockFree : (Call → ℕ) → Table → Type 0
 IsDeadlockFree calls T = (op : Opening) (k t : ℕ) (es : ℕ → Event) → IsFair T op es → t < op.threads
     → IsPending (state_at T op es k) t → calls (local_of (state_at T op es k) t).call ≡ 1

@@ -12,31 +12,31 @@ use Rattle.lset_steps.specs.Steps.{Table, State, Run, Enabled, state_at, after, 
 use Rattle.lset_steps.specs.Chain.{View, InChain}
 use Rattle.lset_steps.specs.Laws.{IsLockWord, views}
 
--- States that thread t has a pending call.
+-- Holds if thread t has a pending call.
 abbrev pub IsPending : State → ℕ → Type 0
 IsPending s t = (local_of s t).pc ≢ 0
 
--- States that thread t holds the lock at word x.
+-- Holds if thread t holds the lock at word x.
 pub record Holds (sz : Sizes) (s : State) (t x : ℕ) : Type 0 where
   pub is_lock : IsLockWord x
   pub inside : x < word_count sz
   pub mine : slice_index s.words x ≡ t + 1
 
--- States that no thread other than t holds a lock.
+-- Holds if no thread other than t holds a lock.
 abbrev pub NoOtherHolds : Sizes → State → ℕ → Type 0
 NoOtherHolds sz s t = (u x : ℕ) → u < sz.threads → u ≢ t → Holds sz s u x → ⊥
 
--- States that the next step of thread t ends its call.
+-- Holds if the next step of thread t ends its call.
 abbrev pub Answers : Table → State → ℕ → Type 0
 Answers T s t = (reply : Reply) × ((told T s (Go t)).answer ≡ Some reply)
 
--- [Ends alone]: states that if only thread t takes steps, its call ends within n steps.
+-- [Ends alone]: if only thread t takes steps, its call ends within n steps.
 abbrev pub EndsAlone : Table → State → ℕ → ℕ → Type 0
 EndsAlone T s t zero = ⊥
 EndsAlone T s t (suc n) = Enabled s (Go t) × (Answers T s t ⊎ EndsAlone T (after T s (Go t)) t n)
 
--- [Calls end alone]: states, for a list with locks, that a call ends within `most` steps if its thread runs alone and
--- no other thread holds a lock (solo termination).
+-- [Calls end alone]: in a list with locks, a call ends within `most` steps if its thread runs alone and no other
+-- thread holds a lock (solo termination).
 abbrev pub CallsEndAlone : Table → (Sizes → ℕ) → Type 0
 CallsEndAlone T most = (op : Opening) (k t : ℕ) (es : ℕ → Event) → Run T op es k → t < op.threads
     → IsPending (state_at T op es k) t → NoOtherHolds (sizes op) (state_at T op es k) t
@@ -49,17 +49,17 @@ IsCeiling call = ⊥
 abbrev pub NoMarkInChain : View → Type 0
 NoMarkInChain v = (b : ℕ) → InChain v b → v.link b % 2 ≡ 0
 
--- [Calls end unhindered]: states, for a list without locks, that a call ends within `most` steps if its thread runs
--- alone, whatever state the other threads are in (obstruction freedom). For a `ceiling`, this is stated only for a
--- chain without marked nodes, since a `ceiling` starts again at a marked node and does not unlink it.
+-- [Calls end unhindered]: in a list without locks, a call ends within `most` steps if its thread runs alone, whatever
+-- state the other threads are in (obstruction freedom). A `ceiling` starts again at a marked node and does not unlink
+-- it. Therefore this is required of a `ceiling` only if the chain has no marked node.
 abbrev pub CallsEndUnhindered : Table → (Sizes → ℕ) → Type 0
 CallsEndUnhindered T most = (op : Opening) (k t : ℕ) (es : ℕ → Event) → Run T op es k → t < op.threads
     → IsPending (state_at T op es k) t
     → (IsCeiling (local_of (state_at T op es k) t).call → NoMarkInChain (views T op es k))
     → EndsAlone T (state_at T op es k) t (most (sizes op))
 
--- [A ceiling that never ends]: states that at some moment of some run a `ceiling` is pending, all other threads are
--- idle, and the `ceiling` does not end, however many steps its thread takes alone.
+-- [A ceiling that never ends]: at some moment of some run a `ceiling` is pending, all other threads are idle, and the
+-- `ceiling` does not end, however many steps its thread takes alone.
 pub record SomeCeilingNeverEnds (T : Table) : Type 0 where
   pub opening : Opening
   pub events : ℕ → Event
@@ -72,13 +72,13 @@ pub record SomeCeilingNeverEnds (T : Table) : Type 0 where
   pub others_idle : (u : ℕ) → u < opening.threads → u ≢ thread → (local_of (state_at T opening events moment) u).pc ≡ 0
   pub never : (n : ℕ) → EndsAlone T (state_at T opening events moment) thread n → ⊥
 
--- States that thread t has a pending call, and that the call's next step is not a failed attempt to take a lock.
+-- Holds if thread t has a pending call, and the call's next step is not a failed attempt to take a lock.
 pub record GetsOn (T : Table) (s : State) (t : ℕ) : Type 0 where
   pub enabled : Enabled s (Go t)
   pub tries : (x old new : ℕ) → IsLockWord x → T.next (local_of s t) ≡ Exchange x old new → slice_index s.words x ≡ old
 
--- [Some thread gets on]: states that whenever a call is pending, some pending call has a next step that is not a failed
--- attempt to take a lock.
+-- [Some thread gets on]: whenever a call is pending, some pending call has a next step that is not a failed attempt to
+-- take a lock.
 abbrev pub SomeThreadGetsOn : Table → Type 0
 SomeThreadGetsOn T = (op : Opening) (k t : ℕ) (es : ℕ → Event) → Run T op es k → t < op.threads
     → IsPending (state_at T op es k) t
@@ -102,7 +102,7 @@ abbrev pub steps_among : (State → Event → ℕ) → Table → Opening → (�
 steps_among count T op es k zero = 0
 steps_among count T op es k (suc n) = count (state_at T op es k) (es k) + steps_among count T op es (suc k) n
 
--- States that one of the n events after moment k is a counted step that ends its call. `count` returns 1 for a counted
+-- Holds if one of the n events after moment k is a counted step that ends its call. `count` returns 1 for a counted
 -- step, else 0.
 pub record SomeEnds (count : State → Event → ℕ) (T : Table) (op : Opening) (es : ℕ → Event) (k n : ℕ) : Type 0 where
   pub at : ℕ
@@ -113,15 +113,15 @@ pub record SomeEnds (count : State → Event → ℕ) (T : Table) (op : Opening)
   pub counts : count (state_at T op es at) (es at) ≡ 1
   pub ends : Answers T (state_at T op es at) thread
 
--- States that among any `most` successive counted steps of a run, at least one ends its call. `count` returns 1 for a
+-- Holds if among any `most` successive counted steps of a run, at least one ends its call. `count` returns 1 for a
 -- counted step, else 0.
 abbrev pub EndsAmong : (State → Event → ℕ) → Table → (Sizes → ℕ) → Type 0
 EndsAmong count T most = (op : Opening) (k n : ℕ) (es : ℕ → Event) → Run T op es (k + n)
     → most (sizes op) ≤ steps_among count T op es k n → SomeEnds count T op es k n
 
--- [Lock freedom]: states that among any `most` successive steps of `add` and `remove`, at least one ends its call,
--- whichever threads take the steps and whatever other events happen in between. The same is required of the steps of
--- `add`, `remove` and `contains`.
+-- [Lock freedom]: among any `most` successive steps of `add` and `remove`, at least one ends its call, whichever
+-- threads take the steps and whatever other events happen in between. The same holds for the steps of `add`, `remove`
+-- and `contains`.
 abbrev pub IsLockFree : Table → (Sizes → ℕ) → Type 0
 IsLockFree T most = (reads : Bool) → EndsAmong (steps_of reads) T most
 

@@ -128,7 +128,7 @@ yielding = record {
   effect = lazy.effect;
 }
 
--- States that the law `CallsEndAlone` is false for the broken list T, whatever number of steps is allowed. The next
+-- Holds if the law `CallsEndAlone` is false for the broken list T, whatever number of steps is allowed. The next
 -- definitions state this for three other laws.
 abbrev pub NoCallsEndAlone : Table → Type 0
 NoCallsEndAlone T = (most : Sizes → ℕ) → CallsEndAlone T most → ⊥

@@ -30,7 +30,7 @@ use Rattle.lset_rule.specs.Calls.{gone_view, begun_view, record_after, Goes, Sta
 use Rattle.lset_rule.proofs.RecordsOfRuns.{still_quiet, quiet_append, starts_more, asides_stay, before_more, after_calls, after_calls_other}
 use Rattle.lset_rule.proofs.RecordsOfRuns.{after_root, after_apart, after_in, after_in_order, after_before, BegunBy, begun_by, after_in_time}
 
--- States that after the run of these events, thread t has a pending call and the registers l.
+-- Holds if after the run of these events, thread t has a pending call and the registers l.
 abbrev pub IsAt : Table → Opening → List Event → ℕ → Local → Type 0
 IsAt m k es t l = UnderWay m k (event_at es) (length es) t × (local_of (end_of m k es) t ≡ l)
 
@@ -40,8 +40,8 @@ abbrev pub later : View → List Event → Event → Local → Option PendingCal
 later v log e l u r = record v { local = l; under = u; past = r; seen = log ++ e ∷ [] }
 
 module _ (m : Table) where
-  -- Events that a view has not seen belong to threads of other views. Therefore the state of each thread of the view is
-  -- the same after all events as after the events that the view has seen.
+  -- Events that a view (a seat's knowledge of the run) has not seen belong to threads of other seats. Therefore the
+  -- state of each thread of the seat is the same after all events as after the events that the view has seen.
   pub still : (k : Opening) (log : List Event) (so : ℕ → ℕ) (j : ℕ) (v : View) (f : MatchesLog m k log so j v) (t : ℕ) → HasThread v t →
       at_end m k log t ≡ at_end m k v.seen t
   still k log so j v f t h = ap (λ l. at_end m k l t) f.is ∙ still_quiet m k v v.seen f.rest t h f.quiet

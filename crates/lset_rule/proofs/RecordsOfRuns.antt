@@ -92,7 +92,7 @@ own_calls (Fresh t) = []
 own_calls (Called' p r c) = own_calls r ++ c ∷ []
 own_calls (Gathered' p r q g) = own_calls r
 
--- States that a record of thread u was merged into the seat's record.
+-- Holds if a record of thread u was merged into the seat's record.
 abbrev pub HasGathered : ℕ → Past → Type 0
 HasGathered u (Fresh t) = ⊥
 HasGathered u (Called' p r c) = HasGathered u r

@@ -31,7 +31,8 @@ fresh k t = record (opener k) { thread = t; local = idle k.quota t; others = [];
 abbrev pub spare : Opening → ℕ → View
 spare k t = record (opener k) { others = asides_from k t (k.threads - 1 - t) }
 
--- States that s is a new seat, just split off for thread t, which has not called yet.
+-- Holds if s is a new seat (the right to call as one thread) that was just split off for thread t. The seat has not
+-- called yet.
 abbrev pub IsNew : TableId → Opening → ℕ → Seat (Unit {0}) View → Type 0
 IsNew z k t s = (s.table_id ≡ z) × (s.me ≡ (fresh k t, []))
 

@@ -42,15 +42,15 @@ gone_view m log n v = let f = m.feed v.local n in record v {
   seen = log ++ Go v.thread ∷ [];
 }
 
--- States how a step that sees the value n changes the view of its seat (its knowledge of the run) from v to w. Some
--- `log` contains all events before the step, and starts with the events that v had seen. The view w has seen these
--- events and the step. `Sees` states that in some run a thread with these registers sees n next, as `feed` requires.
+-- How a step that sees the value n changes the view of its seat (its knowledge of the run) from v to w. Some `log` has
+-- all events before the step, and starts with the events that v had seen. The view w has seen these events and the
+-- step. By `Sees`, a thread with these registers sees n next in some run, as `feed` requires.
 abbrev pub Goes : Table → View → ℕ → View → Type 0
 Goes m v n w = (log : List Event) × (on : StartsWith log v.seen) × Sees m v.local n × (w ≡ gone_view m log n v) × Stands m w
     × (seen_next m (end_of m v.shape log) v.thread ≡ n)
 
--- States how the first step of call c, which sees the value n, changes the view of its seat (its knowledge of the run)
--- from v to w. The call starts just before the step.
+-- The first step of call c sees the value n, and changes the view of its seat (its knowledge of the run) from v to w.
+-- The call starts just before this step.
 abbrev pub Starts : Table → Call → View → ℕ → View → Type 0
 Starts m c v n w = (log : List Event) × (on : StartsWith log v.seen) × Sees m (m.begin c v.local) n
     × (let b = begun_view m log c v in w ≡ gone_view m b.seen n b) × Stands m w
@@ -69,13 +69,13 @@ abbrev pub steps_of : Option PendingCall → ℕ
 steps_of None = 0
 steps_of (Some u) = u.steps
 
--- States that the view of a seat (its knowledge of the run) has only changed in the registers, the pending call, the
+-- Holds if the view of a seat (its knowledge of the run) has only changed in the registers, the pending call, the
 -- record and the events seen.
 abbrev pub Same : View → View → Type 0
 Same v w = (w.spent ≡ v.spent) × (w.shape ≡ v.shape) × (w.thread ≡ v.thread) × (w.others ≡ v.others)
     × (w.ours ≡ v.ours) × (w.theirs ≡ v.theirs)
 
--- States that call c is pending, and has changed the view of its seat (its knowledge of the run) from v to w. The call
+-- Holds if call c is pending, and has changed the view of its seat (its knowledge of the run) from v to w. The call
 -- started after all events that v had seen.
 pub record IsMid (c : Call) (v w : View) : Type 0 where
   pub log : List Event
@@ -86,7 +86,7 @@ pub record IsMid (c : Call) (v w : View) : Type 0 where
   pub past : w.past ≡ v.past
   pub same : Same v w
 
--- States that a whole call c with reply r has changed the view of its seat (its knowledge of the run) from v to w. The
+-- Holds if a whole call c with reply r has changed the view of its seat (its knowledge of the run) from v to w. The
 -- call started after all events that v had seen. Its last step is the last event that w has seen, and only this call
 -- has been added to the seat's record.
 pub record Makes (m : Table) (c : Call) (v : View) (r : Reply) (w : View) : Type 0 where

@@ -27,33 +27,33 @@ calls_of u (Fresh t) = []
 calls_of u (Called' p r c) = calls_of u r ++ cond (u == root r) (c ∷ []) []
 calls_of u (Gathered' p r q g) = calls_of u r ++ calls_of u g
 
--- States that all calls in a seat's record, including those in records that were merged into it, started and ended
--- before event n.
+-- Holds if all calls in a seat's record, including those in records that were merged into it, started and ended before
+-- event n.
 abbrev pub Before : ℕ → Past → Type 0
 Before n (Fresh t) = Unit {0}
 Before n (Called' p r c) = Before n r × (c.ended < n) × (c.begun < n)
 Before n (Gathered' p r q g) = Before n r × Before n g
 
--- States that all calls in the records that were merged into a seat's record started and ended before event n.
+-- Holds if all calls in the records that were merged into a seat's record started and ended before event n.
 abbrev pub GatheredBefore : ℕ → Past → Type 0
 GatheredBefore n (Fresh t) = Unit {0}
 GatheredBefore n (Called' p r c) = GatheredBefore n r
 GatheredBefore n (Gathered' p r q g) = GatheredBefore n r × Before n g
 
--- States that records were merged in at the right time. If a record was merged into the seat's record before a call of
+-- Holds if records were merged in at the right time. If a record was merged into the seat's record before a call of
 -- the seat's own thread, all calls in the merged record ended before this call started.
 abbrev pub InOrder : Past → Type 0
 InOrder (Fresh t) = Unit {0}
 InOrder (Called' p r c) = InOrder r × GatheredBefore c.begun r
 InOrder (Gathered' p r q g) = InOrder r × InOrder g
 
--- States that a seat's record belongs to thread u, or that a record of thread u was merged into it.
+-- The seat's record belongs to thread u, or a record of thread u was merged into it.
 abbrev pub IsIn : ℕ → Past → Type 0
 IsIn u (Fresh t) = u ≡ t
 IsIn u (Called' p r c) = IsIn u r
 IsIn u (Gathered' p r q g) = IsIn u r ⊎ IsIn u g
 
--- States that a seat's record and all records that were merged into it belong to different threads.
+-- Holds if a seat's record and all records that were merged into it belong to different threads.
 abbrev pub Apart : Past → Type 0
 Apart (Fresh t) = Unit {0}
 Apart (Called' p r c) = Apart r

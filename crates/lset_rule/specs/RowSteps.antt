@@ -20,8 +20,8 @@ pub record MayStep (m : Table) (z : TableId) (k : Opening) (l : Local) (s : Tabl
   pub held : l ≡ s.me.0.local
   pub occurs : Occurs m l
 
--- States that an interpreted call has taken its next step, which changed its seat from s to s'. The outcome f is
--- computed by the step table from the registers l and the value that the step saw.
+-- Holds if an interpreted call has taken its next step, which changed its seat from s to s'. The outcome f is computed
+-- by the step table from the registers l and the value that the step saw.
 pub record HasStepped (m : Table) (l : Local) (s : TableSeat) (f : Fed) (s' : TableSeat) : Type 0 where
   pub place : IsSeat s s'
   pub seen : ℕ

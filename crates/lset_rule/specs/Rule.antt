@@ -19,12 +19,12 @@ use Rattle.lset_rule.specs.Runs.{StartsWith, end_of, IsRunOf}
 use Rattle.lset_rule.specs.Views.{HasThread, Stands}
 use Rattle.lset_words.specs.Words.{Opening}
 
--- States that no thread of the seat with view v (its knowledge of the run) executed any of the events.
+-- Holds if no thread of the seat with view v (its knowledge of the run) executed any of the events.
 abbrev pub IsQuiet : View → List Event → Type 0
 IsQuiet v [] = Unit {0}
 IsQuiet v (e ∷ es) = ¬ (HasThread v (thread_of e)) × IsQuiet v es
 
--- States that v, the view of seat j (its knowledge of the run), matches the events of all threads. The view has seen a
+-- Holds if v, the view of seat j (its knowledge of the run), matches the events of all threads. The view has seen a
 -- prefix of these events, and only threads of other seats executed the later events. Seat j shares no thread with
 -- another seat. The lists `ours` and `theirs`, which the view keeps after a join, are also prefixes of all events.
 pub record MatchesLog (m : Table) (k : Opening) (log : List Event) (seat_of : ℕ → ℕ) (j : ℕ) (v : View) : Type 0 where
@@ -37,7 +37,7 @@ pub record MatchesLog (m : Table) (k : Opening) (log : List Event) (seat_of : �
   pub ours : StartsWith log v.ours
   pub theirs : StartsWith log v.theirs
 
--- States that view j (a seat's knowledge of the run) is in use, and that thread t belongs to its seat.
+-- Holds if view j (a seat's knowledge of the run) is in use, and thread t belongs to its seat.
 abbrev pub StandsIn : List View → ℕ → ℕ → Type 0
 StandsIn views j t = (v : View) × (get_elem? views j ≡ some v) × (v.spent ≡ false) × HasThread v t
 

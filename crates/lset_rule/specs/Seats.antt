@@ -17,11 +17,11 @@ use Rattle.lset_rule.specs.Calls.{Makes}
 abbrev pub TableSeat : Type 0
 TableSeat = Seat (Unit {0}) View
 
--- States that the seat s belongs to the shared words z, and that z has as many words as a set with the opening k.
+-- Holds if the seat s belongs to the shared words z, and z has as many words as a set with the opening k.
 abbrev pub IsOf : TableId → Opening → TableSeat → Type 0
 IsOf z k s = (s.table_id ≡ z) × (s.me.0.shape ≡ k) × (z.words ≡ word_count (sizes k))
 
--- States that s and s' are the same seat at two moments. The view of the seat (its knowledge of the run) can differ.
+-- Holds if s and s' are the same seat at two moments. The view of the seat (its knowledge of the run) can differ.
 abbrev pub IsSeat : TableSeat → TableSeat → Type 0
 IsSeat s s' = (s'.table_id ≡ s.table_id) × (s'.id ≡ s.id) × (s'.me.1 ≡ s.me.1)
 
@@ -33,8 +33,8 @@ pub record MayCall (m : Table) (z : TableId) (k : Opening) (own : OwnSlots) (s :
   pub stands : Stands m s.me.0
   pub slots : own ≡ slots_of s.me.0.local
 
--- States that call c changed its seat from s to s', and that only this call with its reply was added to the seat's
--- record. `answer` contains the thread's slots (nodes for keys that it adds) after the call, and the reply.
+-- Holds if call c changed its seat from s to s', and only this call with its reply was added to the seat's record.
+-- `answer` contains the thread's slots (nodes for keys that it adds) after the call, and the reply.
 pub record HasCalled (m : Table) (c : Call) (s : TableSeat) (answer : OwnSlots × Reply) (s' : TableSeat) : Type 0 where
   pub place : IsSeat s s'
   pub slots : answer.0 ≡ slots_of s'.me.0.local

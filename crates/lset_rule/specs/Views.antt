@@ -14,25 +14,25 @@ abbrev pub HasAside : List SpareThread → ℕ → Type 0
 HasAside [] t = ⊥
 HasAside (o ∷ os) t = (t ≡ o.thread) ⊎ HasAside os t
 
--- States that thread t belongs to the seat with view v (its knowledge of the run): the seat calls as t, or t is one of
+-- Holds if thread t belongs to the seat with view v (its knowledge of the run): the seat calls as t, or t is one of
 -- its spare threads.
 abbrev pub HasThread : View → ℕ → Type 0
 HasThread v t = (t ≡ v.thread) ⊎ HasAside v.others t
 
--- States that the spare threads of a seat are idle, distinct and different from t, and that the record r contains
--- exactly the calls that each of them has completed. `ends` returns the state of a thread.
+-- Holds if the spare threads of a seat are idle, distinct and different from t, and the record r contains exactly the
+-- calls that each of them has completed. `ends` returns the state of a thread.
 abbrev pub AreIdle : (ℕ → Here) → ℕ → Past → List SpareThread → Type 0
 AreIdle ends t r [] = Unit {0}
 AreIdle ends t r (o ∷ os) = (o.thread ≢ t) × (ends o.thread ≡ here o.local None (calls_of o.thread r))
     × (¬ (HasAside os o.thread)) × AreIdle ends t r os
 
--- States that each call in the record r ended before the pending call started.
+-- Holds if each call in the record r ended before the pending call started.
 abbrev pub InTime : Option PendingCall → Past → Type 0
 InTime None r = Unit {0}
 InTime (Some u) r = Before u.begun r
 
--- States that the view v (a seat's knowledge of the run) is correct, that is, its information about its threads is true
--- after the events that it has seen.
+-- Holds if the view v (a seat's knowledge of the run) is correct: its information about its threads is true after the
+-- events that it has seen.
 pub record Stands (m : Table) (v : View) : Type 0 where
   -- The events that the view has seen are a run. After this run, the seat's own thread has the registers, the pending
   -- call and the completed calls that the view stores.
@@ -53,10 +53,10 @@ pub record Stands (m : Table) (v : View) : Type 0 where
   pub ended : Before (length v.seen + 1) v.past
   pub before : InTime v.under v.past
 
--- States that the view v (a seat's knowledge of the run) is in use, and that the seat's own thread has a pending call.
+-- Holds if the view v (a seat's knowledge of the run) is in use, and the seat's own thread has a pending call.
 abbrev pub IsOpen : View → Type 0
 IsOpen v = (v.spent ≡ false) × ((u : PendingCall) × (v.under ≡ Some u))
 
--- States that the view v (a seat's knowledge of the run) is in use, and that the seat's own thread has no pending call.
+-- Holds if the view v (a seat's knowledge of the run) is in use, and the seat's own thread has no pending call.
 abbrev pub IsIdle : View → Type 0
 IsIdle v = (v.spent ≡ false) × (v.under ≡ None)

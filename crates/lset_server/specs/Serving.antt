@@ -13,16 +13,15 @@ followed [] more = []
 followed (r ∷ rs) [] = r ∷ rs
 followed (r ∷ rs) (cs ∷ more) = with_calls r cs ∷ followed rs more
 
--- States that some legal order consists of the calls in `records` and of `calls` further calls, agrees with each
--- record, and leaves these keys. A record lists the calls of one thread. `added` lists the further calls of each
--- thread.
+-- Holds if some legal order consists of the calls in `records` and of `calls` further calls, agrees with each record,
+-- and leaves these keys. A record lists the calls of one thread. `added` lists the further calls of each thread.
 pub record IsServed (k : Opening) (records : List Record) (calls : ℕ) (keys : List ℕ) : Type 0 where
   pub added : List (List CallMade)
   pub each : length added ≡ length records
   pub count : calls ≡ sum_by (λ cs. length cs) added
   pub explained : IsOneLegalOrder k (followed records added) keys
 
--- States that all workers have ended. Their seats have been merged into one, and each connection was received exactly
+-- Holds if all workers have ended. Their seats have been merged into one, and each connection was received exactly
 -- once.
 pub record HasGathered (starts : List Record) (end : Option Record) (v : Tally) (asked sessions calls : ℕ) : Type 0 where
   pub added : List (List CallMade)

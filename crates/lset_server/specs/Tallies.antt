@@ -40,12 +40,12 @@ abbrev pub total : (Tally → ℕ) → List Tally → ℕ
 total f [] = 0
 total f (v ∷ vs) = f v + total f vs
 
--- States that a pass (a right to use the channel) with 0 parts has sent and received nothing. A pass has 0 parts after
--- it was joined to another pass.
+-- Holds if a pass (a right to use the channel) with 0 parts has sent and received nothing. A pass has 0 parts after it
+-- was joined to another pass.
 abbrev pub IdleIsEmpty : List Tally → Type 0
 IdleIsEmpty views = (port : ℕ) (v : Tally) → get_elem? views port ≡ some v → v.parts ≡ 0 → (v.sent ≡ []) × (v.received ≡ [])
 
--- States that the channel has lost and duplicated nothing: for any weights h, the weights of the numbers sent have the
+-- Holds if the channel has lost and duplicated nothing: for any weights h, the weights of the numbers sent have the
 -- same sum as the weights of the numbers received and of the numbers in the queue. The passes (rights to use the
 -- channel) together have all parts, and a pass without parts has sent and received nothing.
 abbrev pub IsBalanced : List ℕ → List Tally → Type 0
@@ -59,7 +59,7 @@ abbrev pub numbers_below : ℕ → List ℕ
 numbers_below zero = []
 numbers_below (suc n) = numbers_below n ++ n ∷ []
 
--- States that all passes of a channel (rights to use it) were joined into one pass with tally v. The numbers 0 to n - 1
+-- Holds if all passes of a channel (rights to use it) were joined into one pass with tally v. The numbers 0 to n - 1
 -- were sent, in order. Each of these numbers was received exactly once, and no other number was received.
 pub record ReceivedOnce (n : ℕ) (v : Tally) : Type 0 where
   pub parts : v.parts ≡ PARTS

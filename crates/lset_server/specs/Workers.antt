@@ -7,8 +7,8 @@ use Rattle.lset_server.specs.declared.channel.Tally.{Tally}
 use Rattle.lset_server.specs.Serving.{followed}
 use Rattle.lset_server.specs.Tallies.{tally}
 
--- States that a worker has received `sessions` connections with its pass (a right to use the channel), and has made
--- `calls` calls from its seat, whose value changed from s to s'.
+-- Holds if a worker has received `sessions` connections with its pass (a right to use the channel), and has made
+-- `calls` calls from its seat. The value of the seat changed from s to s'.
 pub record HasWorked (s s' : SeatValue) (v : Tally) (sessions calls : ℕ) : Type 0 where
   pub received : List ℕ
   pub view : v ≡ tally 1 [] received
@@ -18,8 +18,8 @@ pub record HasWorked (s s' : SeatValue) (v : Tally) (sessions calls : ℕ) : Typ
   pub count : calls ≡ length added
   pub held : s'.held ≡ s.held
 
--- States the results of `workers` workers that have ended. Their passes (rights to use the channel) were joined to the
--- sender's pass, whose tally changed from v to v'. Their seats were merged into `end`. Their sessions and calls were
+-- The results of `workers` workers that have ended. Their passes (rights to use the channel) were joined to the
+-- sender's pass, and its tally changed from v to v'. Their seats were merged into `end`. Their sessions and calls were
 -- added up.
 pub record HaveWorked (starts : List Record) (end : Option Record) (v v' : Tally) (workers sessions calls : ℕ) : Type 0 where
   pub added : List (List CallMade)

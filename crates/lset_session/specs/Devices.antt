@@ -9,10 +9,10 @@ inner_of d = d.inner
 abbrev pub is_failed : {T : Type 0} → Device T → Bool
 is_failed d = d.failed
 
--- States that a proper prefix of the text was written.
+-- Holds if a proper prefix of the text was written.
 abbrev pub CutShort : Option (List ℕ) → Option (List ℕ) → List ℕ → Type 0
 CutShort old new text = (front : List ℕ) × (b : ℕ) × (cut : List ℕ) × (text ≡ front ++ b ∷ cut) × Appends old new front
 
--- States that the whole text was written if `whole` is true, and only a proper prefix of it otherwise.
+-- If `whole` is true, the whole text was written. Otherwise only a proper prefix of it was written.
 abbrev pub Writes : Bool → Option (List ℕ) → Option (List ℕ) → List ℕ → Type 0
 Writes whole old new text = MatchBool whole (Appends old new text) (CutShort old new text)

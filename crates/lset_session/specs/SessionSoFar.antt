@@ -14,21 +14,21 @@ use Rattle.lset_session.specs.declared.requests.Request.TheVariants as request
 use Rattle.lset_session.specs.SessionText.{Turn, turns_at, end_of, Exchange, turns_in, answers_in, calls_in}
 use Rattle.lset_session.specs.Sessions.{Wrote}
 
--- States which answers a session has written. `None` is for a session that continues, `Some end` for a session that has
--- ended for the reason `end`.
+-- The answers that a session has written. The reason is `None` for a session that continues, and `Some end` for a
+-- session that has ended for the reason `end`.
 abbrev pub WroteSoFar : Option EndReason → Option (List ℕ) → Option (List ℕ) → List Exchange → Type 0
 WroteSoFar None w w' talk = Appends w w' (answers_in talk)
 WroteSoFar (Some end) w w' talk = Wrote end w w' talk
 
--- States that a session can end for this reason while it processes bytes. All reasons except `End` and `ReadFault` are
+-- Holds if a session can end for this reason while it processes bytes. All reasons except `End` and `ReadFault` are
 -- possible.
 abbrev pub IsLast : EndReason → Type 0
 IsLast why.End = ⊥
 IsLast why.ReadFault = ⊥
 IsLast end = Unit {0}
 
--- States that `talk` has the first turns (answered lines) of the input. If the session has not ended, the remaining
--- turns of the input are the turns of the incomplete line `pending` followed by all later bytes.
+-- Holds if `talk` has the first turns (answered lines) of the input. If the session has not ended, the remaining turns
+-- of the input are the turns of the incomplete line `pending` followed by all later bytes.
 abbrev pub Told : ℕ → List ℕ → Option EndReason → ℕ → List ℕ → List Exchange → Type 0
 Told left bytes None left' pending talk =
     (end_of (turns_in talk) ≡ why.End)
@@ -62,13 +62,13 @@ pub record IsTalk (t : Talk) : Type 0 where
   pub more : 0 < t.left
   pub few : t.calls + t.left ≤ MOST_LINES
 
--- States that state u is at least n bytes nearer to the end of the session than state t. The distance to the end is
+-- Holds if state u is at least n bytes nearer to the end of the session than state t. The distance to the end is
 -- (LONGEST_LINE + 1) * left - len: the session cannot process more bytes than this number.
 abbrev pub Nearer : Talk → Talk → ℕ → Type 0
 Nearer t u n = (LONGEST_LINE + 1) * u.left + t.len + n ≤ (LONGEST_LINE + 1) * t.left + u.len
 
--- States that the session has processed these bytes, and that this changed the session from state t to u, the record of
--- its seat (the calls with replies) from r to r', and the written bytes from w to w'.
+-- Holds if the session has processed these bytes, and this changed the session from state t to u, the record of its
+-- seat (the calls with replies) from r to r', and the written bytes from w to w'.
 abbrev pub Hears : List ℕ → Option EndReason → Talk → Talk → Record → Record → Option (List ℕ) → Option (List ℕ) → Type 0
 Hears bytes o t u r r' w w' = Heard t.left (pending_of t ++ bytes) o u.left (pending_of u) r r' w w' t.calls u.calls
 

@@ -6,14 +6,15 @@ use Rattle.lset_session.specs.declared.sessions.EndReason.{EndReason}
 use Rattle.lset_session.specs.declared.sessions.EndReason.TheVariants as why
 use Rattle.lset_session.specs.SessionText.{Turn, turns_of, end_of, Exchange, turns_in, answers_in, calls_in, answer_of}
 
--- States that all answers except the last were written completely, and that only a proper prefix of the last answer was
+-- Holds if all answers except the last were written completely, and only a proper prefix of the last answer was
 -- written.
 abbrev pub CutAnswers : Option (List ℕ) → Option (List ℕ) → List Exchange → Type 0
 CutAnswers w w' talk =
     (said : List Exchange) × (last : Exchange) × (front : List ℕ) × (b : ℕ) × (cut : List ℕ)
     × (talk ≡ said ++ last ∷ []) × (answer_of last ≡ front ++ b ∷ cut) × Appends w w' (answers_in said ++ front)
 
--- States which answers a session has written if it has ended for this reason.
+-- The answers that a session has written when it ends for this reason: all of them completely or, after a failed
+-- write, all but the last.
 abbrev pub Wrote : EndReason → Option (List ℕ) → Option (List ℕ) → List Exchange → Type 0
 Wrote why.WriteFault w w' talk = CutAnswers w w' talk
 Wrote end w w' talk = Appends w w' (answers_in talk)
@@ -24,9 +25,9 @@ abbrev pub text_end : EndReason → EndReason
 text_end why.ReadFault = why.End
 text_end end = end
 
--- States that a session has ended for the reason `end` after this number of calls. The session changed the remaining
--- input from s to s', the record of its seat (the calls with replies) from r to r', and the bytes written to its client
--- from w to w'.
+-- Holds if a session has ended for the reason `end` after this number of calls. The session changed the remaining
+-- input from s to s', the record of its seat (the calls with replies) from r to r', and the bytes written to its
+-- client from w to w'.
 pub record IsSession (end : EndReason) (calls : ℕ) (s s' : Option (List ℕ)) (r r' : Record) (w w' : Option (List ℕ)) : Type 0 where
   -- The bytes that the session has read. `talk` has the turns (answered lines) with their answers.
   pub bytes : List ℕ

@@ -18,7 +18,7 @@ use Rattle.lset_steps.proofs.MarkMove.{mark_keeps}
 use Rattle.lset_steps.proofs.Rely.{Rely, Guarded}
 use Rattle.lset_steps.proofs.Replies.{Adding, Removing}
 
--- States that thread t holds the lock of node a, and that a is in the chain.
+-- Holds if thread t holds the lock of node a, and a is in the chain.
 pub record Held (v : View) (t a : ℕ) : Type 0 where
   pub mine : v.lock a ≡ t + 1
   pub at : InChain v a
@@ -27,8 +27,7 @@ pub record Held (v : View) (t a : ℕ) : Type 0 where
 pub head_held : {v : View} {t : ℕ} → v.published 0 → v.lock 0 ≡ t + 1 → Held v t 0
 head_held published mine = record { mine = mine; at = ([], refl); published = published }
 
--- States that thread `t` holds the lock of `pred`, that pred's key is smaller than `key`, and that `curr` is the node
--- after `pred`.
+-- Holds if thread `t` holds the lock of `pred`, pred's key is smaller than `key`, and `curr` is the node after `pred`.
 pub record Behind (v : View) (t key pred curr : ℕ) : Type 0 where
   pub held : Held v t pred
   pub inner : pred ≢ 1
@@ -36,13 +35,13 @@ pub record Behind (v : View) (t key pred curr : ℕ) : Type 0 where
   pub below : v.key pred < key
   pub next : v.published curr
 
--- States that thread `t` holds the locks of `pred` and of `curr`, the node after `pred`, and that pred's key is
--- smaller than `key`.
+-- Holds if thread `t` holds the locks of `pred` and of `curr`, the node after `pred`, and pred's key is smaller than
+-- `key`.
 pub record Between (v : View) (t key pred curr : ℕ) : Type 0 where
   pub walk : Behind v t key pred curr
   pub mine : v.lock curr ≡ t + 1
 
--- States that thread t holds the locks of two different nodes, pred and curr.
+-- Holds if thread t holds the locks of two different nodes, pred and curr.
 pub record Both (v : View) (t pred curr : ℕ) : Type 0 where
   pub pred_mine : v.lock pred ≡ t + 1
   pub curr_mine : v.lock curr ≡ t + 1
@@ -119,8 +118,7 @@ module _ {v w : View} {q t : ℕ} (r : Rely v w q t) where
   pub own_link_on : (x : ℕ) → v.used t < q → v.link (slot_node q t (v.used t)) ≡ x → w.link (slot_node q t (w.used t)) ≡ x
   own_link_on x room e = rw r.used (r.own_link room ∙ e)
 
--- States that a step is allowed, and that it writes the link of a node in the chain only if its thread holds the
--- node's lock.
+-- Holds if a step is allowed, and it writes the link of a node in the chain only if its thread holds the node's lock.
 abbrev pub LockedStep : (marks : Bool) (sz : Sizes) (t : ℕ) (ws : List ℕ) (used : ℕ → ℕ) (a : Action) (ws' : List ℕ) (used' : ℕ →
     ℕ)
     (change : Option (Key × Bool)) → Type 0

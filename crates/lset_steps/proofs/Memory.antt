@@ -44,7 +44,7 @@ one_more_same used t = grind (arith, nat_tests)
 pub one_more_other : (used : ℕ → ℕ) (t u : ℕ) → u ≢ t → one_more used t u ≡ used u
 one_more_other used t u d = grind (arith, nat_tests)
 
--- States that the action writes `x` to word `i`: it is a store, or an exchange that succeeds.
+-- Holds if the action writes `x` to word `i`: it is a store, or an exchange that succeeds.
 abbrev pub Writes : List ℕ → Action → ℕ → ℕ → Type 0
 Writes ws a i x = (a ≡ Store i x) ⊎ (a ≡ Exchange i (slice_index ws i) x)
 

@@ -14,7 +14,7 @@ state_agree T op es fs (suc k) h =
     ap (λ e. after T (state_at T op fs k) e) (h k (omega arith))
     ∙ ap (λ s. after T s (es k)) (state_agree T op es fs k (λ j l. h j (omega arith)))
 
--- States that the events `es` are a run from the opening state to state `s`.
+-- Holds if the events `es` are a run from the opening state to state `s`.
 pub record RunsTo (T : Table) (op : Opening) (es : List Event) (s : State) : Type 0 where
   pub run : Run T op (event_at es) (length es)
   pub is : s ≡ state_at T op (event_at es) (length es)

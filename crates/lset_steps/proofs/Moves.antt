@@ -74,32 +74,32 @@ pub data Move (marks : Bool) (v w : View) : Option (Key × Bool) → Type 0 wher
   removes : (pred curr : ℕ) (k : Key) → marks ≡ false → Unlinks v w pred curr → v.link curr % 2 ≡ 0 → 1 < curr
       → v.key curr ≡ k.0 + 1 → Move marks v w (Some (k, false))
 
--- States that each marked node keeps its link in a step.
+-- Holds if each marked node keeps its link in a step.
 abbrev pub KeepsMarked : View → View → Type 0
 KeepsMarked v w = (b : ℕ) → v.published b → v.link b % 2 ≡ 1 → w.link b ≡ v.link b
 
--- States that the views (the list's nodes and locks) at moments 0 to `n` can be those of a run: keys are in order at
--- each moment, and each step satisfies `KeepsNodes` and `KeepsMarked`.
+-- Holds if the views (the list's nodes and locks) at moments 0 to `n` can be those of a run: keys are in order at each
+-- moment, and each step satisfies `KeepsNodes` and `KeepsMarked`.
 pub record Course (vs : ℕ → View) (n : ℕ) : Type 0 where
   pub ordered : (t : ℕ) → t ≤ n → IsOrdered (vs t)
   pub goes : (t : ℕ) → t < n → KeepsNodes (vs t) (vs (t + 1))
   pub marked : (t : ℕ) → t < n → KeepsMarked (vs t) (vs (t + 1))
 
--- States that at some moment from `first` to `now`, node b was in the chain.
+-- Holds if at some moment from `first` to `now`, node b was in the chain.
 pub record InPast (vs : ℕ → View) (first now b : ℕ) : Type 0 where
   pub at : ℕ
   pub from : first ≤ at
   pub upto : at ≤ now
   pub in_chain : InChain (vs at) b
 
--- States that at some moment from `first` to `now`, key k was in the set.
+-- Holds if at some moment from `first` to `now`, key k was in the set.
 pub record Had (vs : ℕ → View) (first now k : ℕ) : Type 0 where
   pub at : ℕ
   pub from : first ≤ at
   pub upto : at ≤ now
   pub has : InContent (vs at) k
 
--- States that at some moment from `first` to `now`, key k was not in the set.
+-- Holds if at some moment from `first` to `now`, key k was not in the set.
 pub record Lacked (vs : ℕ → View) (first now k : ℕ) : Type 0 where
   pub at : ℕ
   pub from : first ≤ at

@@ -139,7 +139,7 @@ module _ (op : Opening) where
       ∙ sym (map-range_with_len_more (opening_word op) 0 (9 + n) (9 + n) (omega arith))
       ∙ ap (λ k. map (opening_word op) (range_with_len 0 k)) next
 
-  -- States that node `a` is one of the nodes in the chain when the list opens: the head, the tail, or the node of an
+  -- Holds if node `a` is one of the nodes in the chain when the list opens: the head, the tail, or the node of an
   -- opening key.
   abbrev OneOf : ℕ → Type 0
   OneOf a = (a ≡ 0) ⊎ (a ≡ 1) ⊎ ((i : ℕ) × (i < length op.keys) × (a ≡ opening_node (sizes op) i))

@@ -26,8 +26,8 @@ use Rattle.lset_steps.specs.Promises.{FrozenNodes, NoLinkIsMarked, InRange, Thre
 use Rattle.lset_steps.specs.Promises.{UnlinkedNodesStay, SeenInThePast, UnmarkedNodesInChain, ChangeIsNamed, NamedChange, RepliesFit}
 use Rattle.lset_steps.specs.Promises.{IsContains, TrueMeansChange, HasAccount, ContentIsListed, ListedContent}
 
--- Lemmas about a run that agrees with the given run up to moment `k`, and whose next event is a step of thread `t`.
--- With this run, the laws of steps apply to the thread's next step, even if the given run continues with another event.
+-- Lemmas about a second run. Up to moment `k` it agrees with the given run, and its next event is a step of thread
+-- `t`. The laws of steps apply to this step, even if the given run continues with another event.
 module _ (T : Table) (law : Lawful T) (op : Opening) (last k t : ℕ) (es : ℕ → Event) (r : Run T op es last) (l : k ≤ last)
     (below : t < op.threads) where
   abbrev more : ℕ → Event

@@ -113,8 +113,8 @@ tally_few {v} {size} {below} {amount} p l le a =
     let e : count b.met size ≡ suc amount = b.amount_is in
     omega arith
 
--- States that published nodes (those that have been in the chain) stay published and keep their keys from one moment to
--- a later one.
+-- Holds if published nodes (those that have been in the chain) stay published and keep their keys from one moment to a
+-- later one.
 abbrev Later : View → View → Type 0
 Later v w = (i : ℕ) → v.published i → w.published i × (w.key i ≡ v.key i)
 
@@ -127,7 +127,7 @@ tally_on {v} {w} {size} {below} g a = record {
   amount_is = a.amount_is;
 }
 
--- States that this is one of the rows of the step table for a `ceiling` that takes no lock.
+-- Holds if this is one of the rows of the step table for a `ceiling` that takes no lock.
 abbrev IsCeilingRow : ℕ → Type 0
 IsCeilingRow pc = (pc ≡ 23) ⊎ (pc ≡ 24) ⊎ (pc ≡ 25)
 

@@ -50,7 +50,7 @@ module _ (T : Table) (rows : HasReadRows T) (vs : ℕ → View) (first now : ℕ
   seen_now (reads25 e d c x) =
       at_curr (inr (inr (inr (inr (inr e))))) (rows.acts l (inr (inr (inr (inr (inr e))))) ∙ (rw e refl)) x.past
 
--- States that at rows 20 to 25 of the step table, a list's proof outline implies the assertions of a `contains` or a
+-- Holds if at rows 20 to 25 of the step table, a list's proof outline implies the assertions of a `contains` or a
 -- `ceiling` (`Reading`).
 abbrev pub ShowsReading : Outline → Type 1
 ShowsReading At = (q t : ℕ) (vs : ℕ → View) (first now : ℕ) (v : View) (done : Bool) (l : Local) → IsReadRow l.pc
@@ -72,7 +72,7 @@ loads_seen T At d rows shows op last k t a es r l th busy reads next =
     (local_of (state_at T op es k) t)
     (read_row T (lawful_of T At d) rows op last k t es r l th busy reads) (i.threads t th).at)
 
--- States that at the moments `at` and `k`, thread `t` has the same last call, which began at the same moment.
+-- At the moments `at` and `k`, the last call of thread `t` is the same, and so is the moment when it began.
 record SameCall (log : Log) (t at k : ℕ) : Type 0 where
   begun : begun_at log t k ≡ begun_at log t at
   call : last_call log t k ≡ last_call log t at

@@ -33,7 +33,7 @@ pub record Rely (v w : View) (q u : ℕ) : Type 0 where
   pub own_key : v.used u < q → w.key (slot_node q u (v.used u)) ≡ v.key (slot_node q u (v.used u))
   pub own_link : v.used u < q → w.link (slot_node q u (v.used u)) ≡ v.link (slot_node q u (v.used u))
 
--- States that a step writes the link of a published node (one that has been in the chain) only if the thread holds the
+-- Holds if a step writes the link of a published node (one that has been in the chain) only if the thread holds the
 -- node's lock. To unlink a node, the thread must also hold the lock of the unlinked node.
 abbrev pub Guarded : (marks : Bool) (sz : Sizes) (t : ℕ) (ws : List ℕ) (used : ℕ → ℕ) (a : Action) (ws' : List ℕ)
     (used' : ℕ → ℕ) (ch : Option (Key × Bool))

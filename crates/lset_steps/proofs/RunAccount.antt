@@ -29,8 +29,8 @@ contents_at T op es = contents_of (views T op es)
 abbrev pub counts_at : Table → Opening → (ℕ → Event) → Counts
 counts_at T op es = counts_of (views T op es)
 
--- States that the log and the thread's private state agree about the thread's last call: whether the call is pending,
--- and which call it is.
+-- Holds if the log and the thread's private state agree about the thread's last call: whether the call is pending, and
+-- which call it is.
 pub record Tied (x : LastCall) (l : Local) : Type 0 where
   pub closed : l.pc ≡ 0 → x.pending ≡ false
   pub opened : l.pc ≢ 0 → (x.pending ≡ true) × (l.call ≡ x.call)

@@ -42,8 +42,8 @@ pub due_on : (done : Bool) (q : ℕ) (vs : ℕ → View) (first now t : ℕ) (ca
 due_on true q vs first now t call r d = d
 due_on false q vs first now t call r d = fitted_on q vs first now (suc now) t call r (omega arith) d
 
--- States the outcome of a call that is about to release its locks: it has a correct reply, or (`None`) it has changed
--- nothing and will start again.
+-- A call is about to release its locks. Either it has a correct reply, or (`None`) it has changed nothing and will
+-- start again.
 abbrev pub Outcome : Bool → ℕ → (ℕ → View) → ℕ → ℕ → ℕ → Call → Option Reply → Type 0
 Outcome done q vs first now t call None = done ≡ false
 Outcome done q vs first now t call (Some reply) = Due done q vs first now t call reply
@@ -93,14 +93,14 @@ no_locks marks = record {
   still = remains_same;
 }
 
--- States that steps of other threads preserve a thread's assertion (from the proof outline, at its row of the step
+-- Holds if steps of other threads preserve a thread's assertion (from the proof outline, at its row of the step
 -- table).
 abbrev pub Stands : {marks : Bool} → Protocol marks → Outline → Type 1
 Stands P At = (q t : ℕ) (vs : ℕ → View) (first now : ℕ) (v w : View) (done : Bool) (l : Local) → vs now ≡ v → P.rely v w q t
     → At q t vs first now v done l → At q t vs first (suc now) w done l
 
--- States that in a step that does not end its call, a thread keeps its call and its number of successful adds, and its
--- registers stay in range.
+-- In a step that does not end its call, a thread keeps its call and its number of successful adds. Its registers stay
+-- in range.
 abbrev pub Onward : Sizes → ℕ → Local → Local → Type 0
 Onward sz t l l' = Registers sz t l' × (l'.call ≡ l.call) × (l'.used ≡ l.used) × (l'.pc ≢ 0)
 
@@ -129,7 +129,7 @@ pub data Turn (T : Table) (P : Protocol T.marks) (At : Outline) (sz : Sizes) (t 
       → Registers sz t l' → l'.call ≡ l.call → l'.used ≡ used' t → l'.pc ≡ 0
       → At sz.quota t vs first (suc now) (view sz ws' used') true l' → Turn T P At sz t vs first now ws used done l
 
--- States that the protocol allows a thread to attempt to take the lock of any node.
+-- The protocol (the steps that a thread may take) allows a thread to try to take the lock of any node.
 abbrev pub Locks : {marks : Bool} → Protocol marks → Type 0
 Locks P = (sz : Sizes) (t : ℕ) (ws : List ℕ) (used : ℕ → ℕ) (a : ℕ) → a < node_count sz
     → (node_lock ws a ≡ 0 → P.step sz t ws used (Exchange (lock_index a) 0 (t + 1)) (slice_set ws (lock_index a) (t + 1)) used None)

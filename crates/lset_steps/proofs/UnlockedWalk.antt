@@ -9,14 +9,13 @@ use Rattle.lset_steps.proofs.Moves.{KeepsNodes}
 use Rattle.lset_steps.proofs.Memory.{Memory, inner, inside, next_published, goes_on}
 use Rattle.lset_steps.proofs.Held.{Behind, locks_free}
 
--- States that pred has a smaller key than the call's, and that pred and curr have been in the chain (are published).
+-- Holds if pred has a smaller key than the call's, and pred and curr have been in the chain (are published).
 pub record Spot (v : View) (key pred curr : ℕ) : Type 0 where
   pub pred_published : v.published pred
   pub below : v.key pred < key
   pub curr_published : v.published curr
 
--- States `Spot`. Also states that `ckey` is the key word of `curr` that the walk read, and that it is not smaller than
--- the call's key word.
+-- Extends `Spot`: `ckey` is the key word of `curr` that the walk read, and it is not smaller than the call's key word.
 pub record Found (v : View) (key pred curr ckey : ℕ) : Type 0 where
   pub spot : Spot v key pred curr
   pub is : v.key curr ≡ ckey

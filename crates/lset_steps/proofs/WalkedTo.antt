@@ -154,7 +154,7 @@ module _ (answers : ChainKey → Option ChainKey → Type 0) (v : View) (items :
       let keys : unmarked_keys items ≡ keys_in v w.nodes = ap (λ ks. unmarked_keys ks) keys_are ∙ sym (unmarked v w.nodes) in
       ((w.nodes, w.is_chain, keys), subst IsStrictlyIncreasing (sym keys) w.increasing)
 
--- States that the walk has reached node curr, and has collected the keys of the unmarked nodes before curr.
+-- Holds if the walk has reached node curr, and has collected the keys of the unmarked nodes before curr.
 abbrev pub WalkedTo : View → List ℕ → ℕ → Type 0
 WalkedTo v items curr = HasPicked (λ met answer. answer ≡ unmarked_key met) v items curr
 

@@ -27,7 +27,7 @@ pub record View : Type 1 where
   pub used : ℕ → ℕ
   pub published : ℕ → Type 0
 
--- States that a node is published, which means that it has been in the chain at some time. The published nodes are the
+-- Holds if a node is published, which means that it has been in the chain at some time. The published nodes are the
 -- head, the tail, the nodes of the opening keys, and the slots that the threads have used. A thread with n successful
 -- adds has used its first n slots.
 abbrev pub Published : Sizes → (ℕ → ℕ) → ℕ → Type 0
@@ -44,27 +44,27 @@ view sz ws used = record {
   published = Published sz used;
 }
 
--- States that following links from node i visits exactly the nodes ns in this order, none of them the tail, and then
+-- Holds if following links from node i visits exactly the nodes ns in this order, none of them the tail, and then
 -- reaches node j. A link word is twice the number of the next node, plus 1 if the node is marked.
 abbrev pub Segment : View → ℕ → List ℕ → ℕ → Type 0
 Segment v i [] j = i ≡ j
 Segment v i (a ∷ ns) j = (a ≡ i) × (i ≢ 1) × Segment v (v.link i / 2) ns j
 
--- States that node b is in the chain, that is, links lead from the head to b without passing the tail.
+-- Holds if node b is in the chain: links lead from the head to b without passing the tail.
 abbrev pub InChain : View → ℕ → Type 0
 InChain v b = (ns : List ℕ) × Segment v 0 ns b
 
--- States that the chain consists of the nodes ns and the tail.
+-- Holds if the chain consists of the nodes ns and the tail.
 abbrev pub IsChain : View → List ℕ → Type 0
 IsChain v ns = Segment v 0 ns 1
 
--- States that k is in the set, that is, k is the key of an unmarked node of the chain, other than the head and the
--- tail. A node stores its key plus 1.
+-- Holds if k is in the set: k is the key of an unmarked node of the chain, other than the head and the tail. A node
+-- stores its key plus 1.
 abbrev pub InContent : View → ℕ → Type 0
 InContent v k = (b : ℕ) × InChain v b × (1 < b) × (v.key b ≡ k + 1) × (v.link b % 2 ≡ 0)
 
--- States that the keys are in order, that is, the link of each published node (one that has been in the chain) except
--- the tail leads to a published node with a greater key, and no key is above the tail's.
+-- Holds if the keys are in order: the link of each published node (one that has been in the chain) except the tail
+-- leads to a published node with a greater key, and no key is above the tail's.
 pub record IsOrdered (v : View) : Type 0 where
   pub head_published : v.published 0
   pub tail_published : v.published 1
@@ -72,14 +72,13 @@ pub record IsOrdered (v : View) : Type 0 where
   pub next_published : (i : ℕ) → v.published i → i ≢ 1 → v.published (v.link i / 2)
   pub increases : (i : ℕ) → v.published i → i ≢ 1 → v.key i < v.key (v.link i / 2)
 
--- States, for a list that marks nodes before it unlinks them (`true`), that each unmarked published node is in the
--- chain. (A published node has been in the chain at some time.) For any other list, states that no published node has
--- a mark.
+-- In a list that marks nodes before it unlinks them (`true`), each unmarked published node is in the chain. (A
+-- published node has been in the chain at some time.) In any other list, no published node has a mark.
 abbrev pub UnmarkedInChain : Bool → View → Type 0
 UnmarkedInChain true v = (b : ℕ) → v.published b → v.link b % 2 ≡ 0 → InChain v b
 UnmarkedInChain false v = (b : ℕ) → v.published b → v.link b % 2 ≡ 0
 
--- [Content] at two moments: states that the change of the set's keys from `v` to `w` is exactly `change`.
+-- [Content] at two moments: the change of the set's keys from `v` to `w` is exactly `change`.
 abbrev pub Changed : Option (Key × Bool) → View → View → Type 0
 Changed change v w = Changes change (InContent v) (InContent w)
 
@@ -101,7 +100,7 @@ pub record UnlinkedStays (marks : Bool) (v w : View) (i : ℕ) : Type 0 where
   pub unlinked : (InChain v i → ⊥) → (w.link i ≡ v.link i) × (InChain w i → ⊥)
   pub marked : marks ≡ true → v.link i % 2 ≡ 1 → w.link i ≡ v.link i
 
--- [Seen]: states that at some moment from `first` to `now`, node b was in the chain and had the link word l.
+-- [Seen]: at some moment from `first` to `now`, node b was in the chain and had the link word l.
 pub record Seen (vs : ℕ → View) (first now b l : ℕ) : Type 0 where
   pub at : ℕ
   pub from : first ≤ at

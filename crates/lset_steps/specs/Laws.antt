@@ -34,8 +34,8 @@ word_named (Exchange w old new) = w
 abbrev pub IsLockWord : ℕ → Type 0
 IsLockWord x = (x ≡ 0) ⊎ ((i : ℕ) × (x ≡ lock_index i))
 
--- States that the private state `l` has the number of thread `t` and the quota of the set, and that its registers are
--- in range: each is a node of the list, or a key word that is at most the tail's.
+-- Holds if the private state `l` has the number of thread `t` and the quota of the set, and its registers are in
+-- range: each is a node of the list, or a key word that is at most the tail's.
 pub record Registers (sz : Sizes) (t : ℕ) (l : Local) : Type 0 where
   pub thread : l.thread ≡ t
   pub quota : l.quota ≡ sz.quota
@@ -60,19 +60,19 @@ pub record StateLaws (marks : Bool) (sz : Sizes) (s : State) : Type 0 where
   pub marked : UnmarkedInChain marks (view_of sz s)
   pub unmarked : marks ≡ false → (i : ℕ) → i < node_count sz → (view_of sz s).link i % 2 ≡ 0
 
--- States that the action of thread t uses locks properly. The action writes a lock word only to take the lock, by an
+-- Holds if the action of thread t uses locks properly. The action writes a lock word only to take the lock, by an
 -- exchange of 0 for t + 1, or to release a lock that t holds, by a store of 0.
 abbrev pub LockUse : List ℕ → ℕ → Action → Type 0
 LockUse ws t (Load w) = Unit {0}
 LockUse ws t (Store w v) = IsLockWord w → (v ≡ 0) × (slice_index ws w ≡ t + 1)
 LockUse ws t (Exchange w old new) = IsLockWord w → (old ≡ 0) × (new ≡ t + 1)
 
--- States that the reply r to the call is correct: `True` if the call has changed the set (`done`), else a reply that
--- is correct for the keys of the set at some moment from `first` to `now`.
+-- Holds if the reply r to the call is correct: `True` if the call has changed the set (`done`), else a reply that is
+-- correct for the keys of the set at some moment from `first` to `now`.
 abbrev pub Due : Bool → ℕ → (ℕ → View) → ℕ → ℕ → ℕ → Call → Reply → Type 0
 Due done q vs first now t call r = RightReply done q (contents_of vs) (counts_of vs) first now t call (Some r)
 
--- States that the call has ended (pc is 0) if and only if the step has a reply, and that the reply is correct.
+-- The call has ended (pc is 0) if and only if the step has a reply, and the reply is correct.
 abbrev pub Answered : Bool → ℕ → (ℕ → View) → ℕ → ℕ → ℕ → Call → ℕ → Option Reply → Type 0
 Answered done q vs first now t call pc None = pc ≢ 0
 Answered done q vs first now t call pc (Some r) = (pc ≡ 0) × Due done q vs first now t call r
@@ -128,14 +128,14 @@ pub record Lawful (T : Table) : Type 0 where
       → InChain (views T op es j) b
       → Seen (views T op es) j k b ((views T op es k).link b)
 
--- States that the first `k` events are a run, and that thread `t` has a pending call after them.
+-- Holds if the first `k` events are a run, and thread `t` has a pending call after them.
 pub record UnderWay (T : Table) (op : Opening) (es : ℕ → Event) (k t : ℕ) : Type 0 where
   pub run : Run T op es k
   pub thread : t < op.threads
   pub open_call : (local_of (state_at T op es k) t).pc ≢ 0
 
--- States that `l` is the private state of some thread with a pending call, at some moment of some run. `Sees` also
--- states that the thread's next step sees the value `seen`.
+-- `Occurs`: `l` is the private state of some thread with a pending call, at some moment of some run. `Sees`: in
+-- addition, the thread's next step sees the value `seen`.
 abbrev pub Occurs : Table → Local → Type 0
 Occurs T l = (op : Opening) × (es : ℕ → Event) × (k : ℕ) × (t : ℕ) × UnderWay T op es k t
     × (local_of (state_at T op es k) t ≡ l)

@@ -22,8 +22,8 @@ use Rattle.lset_steps.specs.Chain.{View, InContent, IsChain, InChain, UnmarkedIn
 use Rattle.lset_steps.specs.Laws.{Registers, IsLockWord, LockUse, word_named, views}
 use Rattle.lset_steps.specs.Worlds.{IsContent}
 
--- [In range]: states that the registers of thread `t` (the nodes and key words in its private state) are in range. If
--- the thread has a pending call, its next step accesses one of the list's words.
+-- [In range]: the registers of thread `t` (the nodes and key words in its private state) are in range. If the thread
+-- has a pending call, its next step accesses one of the list's words.
 pub record ThreadInRange (T : Table) (sz : Sizes) (t : ℕ) (l : Local) : Type 0 where
   pub registers : Registers sz t l
   pub action : l.pc ≢ 0 → word_named (T.next l) < word_count sz
@@ -32,8 +32,7 @@ abbrev pub InRange : Table → Type 0
 InRange T = (op : Opening) (last k t : ℕ) (es : ℕ → Event) → Run T op es last → k ≤ last → t < op.threads
     → ThreadInRange T (sizes op) t (local_of (state_at T op es k) t)
 
--- [Sorted chain]: states that the chain reaches the tail, and that the keys along the chain, including the tail's,
--- increase strictly.
+-- [Sorted chain]: the chain reaches the tail, and the keys along the chain, including the tail's, increase strictly.
 pub record ChainIsSorted (v : View) : Type 0 where
   pub nodes : List ℕ
   pub chain : IsChain v nodes
@@ -64,8 +63,8 @@ LockWords T = (op : Opening) (last k x : ℕ) (es : ℕ → Event) → Run T op 
     x < word_count (sizes op)
     → slice_index (state_at T op es k).words x ≡ holder T op es x k
 
--- States that in each step, an exchange on a lock word is an attempt to take the lock, and a store to a lock word
--- stores 0 and is made by the thread that holds the lock.
+-- Holds if in each step, an exchange on a lock word is an attempt to take the lock, and a store to a lock word stores
+-- 0 and is made by the thread that holds the lock.
 abbrev pub LockUses : Table → Type 0
 LockUses T = (op : Opening) (last k t : ℕ) (es : ℕ → Event) → Run T op es last → k < last → es k ≡ Go t
     → LockUse (state_at T op es k).words t (T.next (local_of (state_at T op es k) t))
@@ -77,11 +76,11 @@ abbrev pub UnlinkedNodesStay : Table → Type 0
 UnlinkedNodesStay T = (op : Opening) (last j k i : ℕ) (es : ℕ → Event) → Run T op es last → j ≤ k → k ≤ last
     → (views T op es j).published i → UnlinkedStays T.marks (views T op es j) (views T op es k) i
 
--- [Frozen]: states that the link word of node i does not change from moment k to the end of the run.
+-- [Frozen]: the link word of node i does not change from moment k to the end of the run.
 abbrev pub IsFrozen : Table → Opening → ℕ → (ℕ → Event) → ℕ → ℕ → Type 0
 IsFrozen T op last es k i = (later : ℕ) → k ≤ later → later ≤ last → (views T op es later).link i ≡ (views T op es k).link i
 
--- States that a node's link is frozen as soon as the node is unlinked or, in a list that marks nodes, as soon as it is
+-- Holds if a node's link is frozen as soon as the node is unlinked or, in a list that marks nodes, as soon as it is
 -- marked.
 pub record Freezes (T : Table) (op : Opening) (last : ℕ) (es : ℕ → Event) (k i : ℕ) : Type 0 where
   pub unlinked : (InChain (views T op es k) i → ⊥) → IsFrozen T op last es k i
@@ -91,27 +90,27 @@ abbrev pub FrozenNodes : Table → Type 0
 FrozenNodes T = (op : Opening) (last k i : ℕ) (es : ℕ → Event) → Run T op es last → k ≤ last → (views T op es k).published i
     → Freezes T op last es k i
 
--- [Seen in the past]: states that if a node was in the chain at moment j and its link word is read at a later moment k,
--- then the node was in the chain with this very link word at some moment from j to k.
+-- [Seen in the past]: if a node was in the chain at moment j and its link word is read at a later moment k, then the
+-- node was in the chain with this very link word at some moment from j to k.
 abbrev pub SeenInThePast : Table → Type 0
 SeenInThePast T = (op : Opening) (last j k b : ℕ) (es : ℕ → Event) → Run T op es last → j ≤ k → k ≤ last
     → InChain (views T op es j) b → Seen (views T op es) j k b ((views T op es k).link b)
 
--- [Unmarked in chain]: states that in a list that marks nodes, every published node (one that has been in the chain)
--- stays in the chain until it is marked. In any other list, no published node has a mark.
+-- [Unmarked in chain]: in a list that marks nodes, every published node (one that has been in the chain) stays in the
+-- chain until it is marked. In any other list, no published node has a mark.
 abbrev pub UnmarkedNodesInChain : Table → Type 0
 UnmarkedNodesInChain T = (op : Opening) (last k : ℕ) (es : ℕ → Event) → Run T op es last → k ≤ last
     → UnmarkedInChain T.marks (views T op es k)
 
--- States that in a list that does not mark nodes, no node has a mark, not even before its first use.
+-- Holds if in a list that does not mark nodes, no node has a mark, not even before its first use.
 abbrev pub NoLinkIsMarked : Table → Type 0
 NoLinkIsMarked T = (op : Opening) (last k i : ℕ) (es : ℕ → Event) → Run T op es last → k ≤ last → T.marks ≡ false →
     i < node_count (sizes op)
     → (views T op es k).link i % 2 ≡ 0
 
--- [Named change]: states how entry k of a log (the event between moments k and k + 1) changes the keys of the set and
--- each thread's number of successful adds. Only a step of a pending call can make a change, and each call makes at
--- most one.
+-- [Named change]: how entry k of a log (the event between moments k and k + 1) changes the keys of the set and each
+-- thread's number of successful adds. Only a step of a pending call can make a change, and each call makes at most
+-- one.
 abbrev pub ChangeIsNamed : ℕ → ℕ → Log → Contents → Counts → ℕ → Entry → Type 0
 ChangeIsNamed threads quota log contents counts k (began t call) =
     Same (contents k) (contents (suc k))
@@ -127,8 +126,8 @@ NamedChange T = (op : Opening) (last k : ℕ) (es : ℕ → Event) → Run T op 
     → ChangeIsNamed op.threads op.quota (log_of T op es) (contents_of (views T op es)) (counts_of (views T op es)) k
     (log_of T op es k)
 
--- [Replies fit]: states that if a call ends in the step between moments k and k + 1, its reply is correct: `True` if
--- the call has changed the set, else a reply that is correct for the keys of the set at some moment of the call.
+-- [Replies fit]: if a call ends in the step between moments k and k + 1, its reply is correct: `True` if the call has
+-- changed the set, else a reply that is correct for the keys of the set at some moment of the call.
 abbrev pub RepliesFit : Table → Type 0
 RepliesFit T = (op : Opening) (last k t : ℕ) (es : ℕ → Event) (change : Option Change) (reply : Reply) → Run T op es last →
     k < last
@@ -146,19 +145,19 @@ IsRead (call.Remove k) = ⊥
 IsRead (call.Contains k) = Unit {0}
 IsRead (call.Ceiling k) = Unit {0}
 
--- States that only a `contains` can reply `True` without having changed the set.
+-- Holds if only a `contains` can reply `True` without having changed the set.
 abbrev pub TrueMeansChange : Table → Type 0
 TrueMeansChange T = (op : Opening) (last k t : ℕ) (es : ℕ → Event) (change : Option Change) → Run T op es last → k < last
     → log_of T op es k ≡ stepped t change (Some True)
     → (has_changed (log_of T op es) t (suc k) ≡ true) ⊎ IsContains (last_call (log_of T op es) t k)
 
--- States that every run has an account. Each event changes the keys of the set as its call allows, and each reply is
--- correct at some moment of its call. The account mentions no nodes and no locks.
+-- Every run has an account: each event changes the keys of the set as its call allows, and each reply is correct at
+-- some moment of its call. An account mentions no nodes and no locks.
 abbrev pub HasAccount : Table → Type 0
 HasAccount T = (op : Opening) (last : ℕ) (es : ℕ → Event) → Run T op es last
     → Account op last (log_of T op es) (contents_of (views T op es)) (counts_of (views T op es))
 
--- States that the keys of the set are one list of numbers below 2^32, in strictly increasing order: the keys of the
+-- Holds if the keys of the set are one list of numbers below 2^32, in strictly increasing order: the keys of the
 -- unmarked nodes along the chain.
 pub record ContentIsListed (v : View) : Type 0 where
   pub keys : List ℕ

@@ -10,8 +10,8 @@ use Rattle.lset_steps.specs.declared.Fed.{Fed}
 use Rattle.lset_steps.specs.Steps.{Table}
 use Rattle.lset_steps.specs.ReadRows.{begun_reading, continued, read_key, read_mark, ceiling_key, ceiling_mark}
 
--- States the behaviour of row `pc` of the step table: `acts` is the thread's next action, `feeds` returns the state
--- and the reply after this action, and `tells` returns the change of the set.
+-- At row `pc` of the step table, `acts` returns the thread's next action, `feeds` returns the state and the reply
+-- after this action, and `tells` returns the change of the set.
 abbrev pub Does : Table → ℕ → (Local → Action) → (Local → ℕ → Fed) → (Local → ℕ → Option (Key × Bool)) → Type 0
 Does T pc acts feeds tells = (l : Local) → l.pc ≡ pc
     → (T.next l ≡ acts l) × ((seen : ℕ) → (T.feed l seen ≡ feeds l seen) × (T.effect l seen ≡ tells l seen))
@@ -20,8 +20,8 @@ Does T pc acts feeds tells = (l : Local) → l.pc ≡ pc
 abbrev pub nothing : Local → ℕ → Option (Key × Bool)
 nothing l seen = None
 
--- States that a table has rows 20 to 25 for a `contains` and a `ceiling` that take no lock, and that these calls begin
--- at these rows.
+-- Holds if a table has rows 20 to 25 for a `contains` and a `ceiling` that take no lock, and these calls begin at
+-- these rows.
 pub record HasReading (T : Table) : Type 0 where
   pub begins : (call : Call) (l : Local) → T.begin call l ≡ begun_reading call l
   -- Row 20: a `contains` loads the link of a node. It starts at the head.

@@ -46,7 +46,7 @@ decided adds removes leaves (Ceiling k) found room key l = goes_to leaves (Some 
 abbrev pub decided_on : Targets → ℕ → Local → Local
 decided_on rows key l = decided rows.adds rows.removes rows.leaves l.call (key == target l.call) (nat_lt l.used l.quota) key l
 
--- States that the numbers in a thread's private state are so small that arithmetic with them cannot overflow 64 bits.
+-- Holds if the numbers in a thread's private state are so small that arithmetic with them cannot overflow 64 bits.
 pub record IsSmall (l : Local) : Type 0 where
   pub thread : l.thread < MOST_THREADS
   pub quota : l.quota ≤ MOST_QUOTA

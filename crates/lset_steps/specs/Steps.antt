@@ -126,7 +126,7 @@ abbrev pub state_at : Table → Opening → (ℕ → Event) → ℕ → State
 state_at T op es zero = opening op
 state_at T op es (suc k) = after T (state_at T op es k) (es k)
 
--- States that the first `last` events are a run: the set opens with parameters within the limits, and each event is
+-- Holds if the first `last` events are a run: the set opens with parameters within the limits, and each event is
 -- possible (enabled) in the state before it.
 pub record Run (T : Table) (op : Opening) (es : ℕ → Event) (last : ℕ) : Type 0 where
   pub opens : Opens op

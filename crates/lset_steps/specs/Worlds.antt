@@ -17,7 +17,7 @@ pub record WorldState : Type 0 where
   pub sizes : Sizes
   pub state : State
 
--- States that the state of a world is the final state of some run. The run's set opens with the world's sizes: its
+-- Holds if the state of a world is the final state of some run. The run's set opens with the world's sizes: its
 -- numbers of threads, of slots (nodes for adds) and of opening keys.
 pub record IsRun (T : Table) (w : WorldState) : Type 0 where
   pub opening : Opening
@@ -32,7 +32,7 @@ abbrev pub thread_of : Event → ℕ
 thread_of (Begin t call) = t
 thread_of (Go t) = t
 
--- States which error is returned for an event that is not enabled: the first of NoThread, Busy and Idle that applies.
+-- The error for an event that is not enabled: the first of NoThread, Busy and Idle that applies.
 abbrev pub Refused : WorldState → Event → StepFault → Type 0
 Refused w e NoThread = w.sizes.threads ≤ thread_of e
 Refused w (Begin t call) Busy = (t < w.sizes.threads) × ((local_of w.state t).pc ≢ 0)
@@ -40,8 +40,8 @@ Refused w (Go t) Busy = ⊥
 Refused w (Begin t call) Idle = ⊥
 Refused w (Go t) Idle = (t < w.sizes.threads) × ((local_of w.state t).pc ≡ 0)
 
--- States that a step returns this result, and that `w'` is the world after the step. If the event is enabled, it is
--- executed. If the step returns an error, the world is unchanged.
+-- Holds if a step returns this result, and `w'` is the world after the step. If the event is enabled, it is executed.
+-- If the step returns an error, the world is unchanged.
 abbrev pub StepResult : Table → WorldState → Event → Result Told StepFault → WorldState → Type 0
 StepResult T w e (Ok answer) w' = Enabled w.state e × (w' ≡ record w { state = after T w.state e }) × (answer ≡ told T w.state e)
 StepResult T w e (Err cause) w' = Refused w e cause × (w' ≡ w)
@@ -51,8 +51,7 @@ abbrev pub keys_in : View → List ℕ → List ℕ
 keys_in v [] = []
 keys_in v (b ∷ bs) = if nat_lt 1 b && v.link b % 2 == 0 then (v.key b - 1) ∷ keys_in v bs else keys_in v bs
 
--- [Content] as a list. States that `keys` are the keys of the unmarked nodes along the chain, and that they increase
--- strictly.
+-- [Content] as a list. Holds if `keys` are the keys of the unmarked nodes along the chain, and they increase strictly.
 abbrev pub IsContent : View → List ℕ → Type 0
 IsContent v keys = ((ns : List ℕ) × IsChain v ns × (keys ≡ keys_in v ns)) × IsStrictlyIncreasing keys
 
@@ -62,7 +61,7 @@ chain_keys v [] = []
 chain_keys v (b ∷ bs) =
     if nat_lt 1 b then record { key = v.key b - 1; marked = v.link b % 2 == 1 } ∷ chain_keys v bs else chain_keys v bs
 
--- States that these are the keys along the chain, from head to tail, each with its node's mark.
+-- Holds if these are the keys along the chain, from head to tail, each with its node's mark.
 abbrev pub AreChainKeys : View → List ChainKey → Type 0
 AreChainKeys v keys = (ns : List ℕ) × IsChain v ns × (keys ≡ chain_keys v ns)
 
@@ -76,13 +75,13 @@ key_alone k = k.key
 abbrev pub unmarked_keys : List ChainKey → List ℕ
 unmarked_keys keys = map key_alone (filter is_unmarked keys)
 
--- States that the relation `answers` allows only the results of the function `pick`. (The proof of `World::walk` knows
+-- Holds if the relation `answers` allows only the results of the function `pick`. (The proof of `World::walk` knows
 -- its closure only by its contract, which is such a relation.)
 abbrev pub AnswersAs : {A : Type 0} → (ChainKey → Option A → Type 0) → (ChainKey → Option A) → Type 0
 AnswersAs {A} answers pick = (met : ChainKey) (answer : Option A) → answers met answer → answer ≡ pick met
 
--- States that `items` are the results of a function `pick` on the keys along the chain, in this order and without
--- `None`. The function is known only through the relation `answers` between keys and results.
+-- Holds if `items` are the results of a function `pick` on the keys along the chain, in this order and without `None`.
+-- The function is known only through the relation `answers` between keys and results.
 pub record IsPickedFromChain {A : Type 0} (answers : ChainKey → Option A → Type 0) (v : View) (items : List A) : Type 0 where
   pub nodes : List ℕ
   pub is_chain : IsChain v nodes

@@ -20,8 +20,8 @@ contains-tail x y xs c = let l : c.0 < length xs = c.1 in (suc c.0, omega arith,
 pub contains-nil : (y : ℕ) → Contains [] y → ⊥
 contains-nil y c = let l : c.0 < 0 = c.1 in omega arith
 
--- States that the list increases strictly and that each element is at least `lo`. A recursive form of
--- `IsStrictlyIncreasing`, for proofs by induction.
+-- Holds if the list increases strictly and each element is at least `lo`. A recursive form of `IsStrictlyIncreasing`,
+-- for proofs by induction.
 abbrev pub IncreasesFrom : ℕ → List ℕ → Type 0
 IncreasesFrom lo [] = Unit {0}
 IncreasesFrom lo (x ∷ xs) = (lo ≤ x) × IncreasesFrom (x + 1) xs

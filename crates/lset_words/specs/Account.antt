@@ -34,21 +34,21 @@ count_after None count = count
 count_after (Some (k, true)) count = count + 1
 count_after (Some (k, false)) count = count
 
--- [Named change]: states which change a call may make. Only an `Add` of a key adds the key, and only if its thread is
+-- [Named change]: the change that a call may make. Only an `Add` of a key adds the key, and only if its thread is
 -- below its quota. Only a `Remove` of a key removes the key. A call makes at most one change.
 abbrev pub MayChange : ℕ → ℕ → Call → Bool → Option Change → Type 0
 MayChange quota count call changed None = Unit {0}
 MayChange quota count call changed (Some (k, true)) = (call ≡ Add k) × (changed ≡ false) × (count < quota)
 MayChange quota count call changed (Some (k, false)) = (call ≡ Remove k) × (changed ≡ false)
 
--- States that the last argument is the smallest key of `content` at or above `k`, or `None` if the content has no such
+-- Holds if the last argument is the smallest key of `content` at or above `k`, or `None` if the content has no such
 -- key.
 abbrev pub IsCeiling : Content → ℕ → Option ℕ → Type 0
 IsCeiling content k None = (j : ℕ) → k ≤ j → content j → ⊥
 IsCeiling content k (Some x) = (k ≤ x) × content x × ((j : ℕ) → k ≤ j → j < x → content j → ⊥)
 
--- [Fits]: states that a sequential set with this content returns this reply, and that the call changes nothing. `count`
--- is the number of successful adds that the call's thread has made.
+-- [Fits]: a sequential set with this content returns this reply, and the call changes nothing. `count` is the number
+-- of successful adds that the call's thread has made.
 abbrev pub Fits : ℕ → Content → ℕ → Call → Reply → Type 0
 Fits quota content count (Add k) False = content k.0
 Fits quota content count (Add k) Full = (content k.0 → ⊥) × (count ≡ quota)
@@ -66,8 +66,8 @@ Contents = ℕ → Content
 abbrev pub Counts : Type 0
 Counts = ℕ → ℕ → ℕ
 
--- States that the reply is correct at some moment from `first` to `last`, that is, a sequential set with the keys of
--- that moment returns this reply.
+-- Holds if the reply is correct at some moment from `first` to `last`: a sequential set with the keys of that moment
+-- returns this reply.
 pub record FitsSometime (quota : ℕ) (contents : Contents) (counts : Counts) (first last thread : ℕ) (call : Call)
     (reply : Reply) : Type 0 where
   pub moment : ℕ
@@ -75,15 +75,15 @@ pub record FitsSometime (quota : ℕ) (contents : Contents) (counts : Counts) (f
   pub upto : moment ≤ last
   pub fits : Fits quota (contents moment) (counts moment thread) call reply
 
--- States when a reply is correct. A call that has made a change must reply `True`. The reply of a call that has made no
--- change must fit at some moment from `first` to `last`. If there is no reply, nothing is required.
+-- The reply, if there is one, is correct. A call that has changed the set replies `True`. The reply of a call that has
+-- not changed the set fits at some moment from `first` to `last`.
 abbrev pub RightReply : Bool → ℕ → Contents → Counts → ℕ → ℕ → ℕ → Call → Option Reply → Type 0
 RightReply changed quota contents counts first last thread call None = Unit {0}
 RightReply true quota contents counts first last thread call (Some reply) = reply ≡ True
 RightReply false quota contents counts first last thread call (Some reply) =
     FitsSometime quota contents counts first last thread call reply
 
--- States that thread `t` begins a call between moments `k` and `k + 1`. At moment `k`, the thread has no pending call.
+-- Holds if thread `t` begins a call between moments `k` and `k + 1`. At moment `k`, the thread has no pending call.
 -- The set's keys and the counts of successful adds do not change.
 pub record Begins (threads : ℕ) (log : Log) (contents : Contents) (counts : Counts) (k t : ℕ) : Type 0 where
   pub of_a_thread : t < threads
@@ -91,8 +91,8 @@ pub record Begins (threads : ℕ) (log : Log) (contents : Contents) (counts : Co
   pub content : Same (contents k) (contents (suc k))
   pub same_counts : (u : ℕ) → u < threads → counts (suc k) u ≡ counts k u
 
--- States that thread `t` takes a step between moments `k` and `k + 1`. `change` and `reply` are `None` if the step
--- makes no change or returns no reply.
+-- Holds if thread `t` takes a step between moments `k` and `k + 1`. `change` and `reply` are `None` if the step makes
+-- no change or returns no reply.
 pub record Steps (threads quota : ℕ) (log : Log) (contents : Contents) (counts : Counts) (k t : ℕ) (change : Option Change)
     (reply : Option Reply) : Type 0 where
   -- Thread `t` exists and has a pending call.
@@ -108,14 +108,14 @@ pub record Steps (threads quota : ℕ) (log : Log) (contents : Contents) (counts
   -- The reply, if any, is correct.
   pub right : RightReply (has_changed log t (suc k)) quota contents counts (begun_at log t k) (suc k) t (last_call log t k) reply
 
--- States that entry `k` of the log is a valid start of a call or a valid step. Entry `k` is the event between moments
--- `k` and `k + 1`.
+-- Holds if entry `k` of the log is a valid start of a call or a valid step. Entry `k` is the event between moments `k`
+-- and `k + 1`.
 abbrev pub Enters : ℕ → ℕ → Log → Contents → Counts → ℕ → Entry → Type 0
 Enters threads quota log contents counts k (began t call) = Begins threads log contents counts k t
 Enters threads quota log contents counts k (stepped t change reply) = Steps threads quota log contents counts k t change reply
 
--- States that `contents` and `counts` are the account of a run's first `last` events, that is, they agree with the
--- opening keys and with each entry of the log.
+-- Holds if `contents` and `counts` are the account of a run's first `last` events: they agree with the opening keys
+-- and with each entry of the log.
 pub record Account (o : Opening) (last : ℕ) (log : Log) (contents : Contents) (counts : Counts) : Type 0 where
   -- The content at moment 0 consists of the opening keys. The opening keys increase strictly.
   pub increasing : IsStrictlyIncreasing o.keys

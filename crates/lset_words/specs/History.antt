@@ -42,7 +42,7 @@ pub record IsHistory (threads : ℕ) (calls : List CallRecord) : Type 0 where
   pub each : All (IsCall threads) calls
   pub pairs : AllPairs Follows calls
 
--- States that the first call ends before the second begins.
+-- Holds if the first call ends before the second begins.
 abbrev pub Precedes : CallRecord → CallRecord → Type 0
 Precedes earlier later = IsSomeAnd earlier.ended (λ (e : ℕ × Reply). e.0 < later.begun)
 
@@ -54,7 +54,7 @@ answered history p = record {
   reply = p.reply;
 }
 
--- States that `order` is a linearization of `history`, from the state `start` of the set.
+-- Holds if `order` is a linearization of `history`, from the state `start` of the set.
 pub record Linearizes (quota : ℕ) (start : SetState) (history : List CallRecord) (order : List Placed) : Type 0 where
   -- The order contains only calls of the history.
   pub known : All (λ (p : Placed). p.call < length history) order

@@ -34,7 +34,7 @@ own_calls (fresh t) = []
 own_calls (called r c) = own_calls r ++ c ∷ []
 own_calls (gathered r g) = own_calls r
 
--- States that `u` is the record's own thread, or the thread of a record that was merged into it.
+-- Holds if `u` is the record's own thread, or the thread of a record that was merged into it.
 abbrev pub Names : ℕ → Record → Type 0
 Names u (fresh t) = u ≡ t
 Names u (called r c) = Names u r
@@ -53,13 +53,13 @@ calls_by u order = filter (λ (a : Answered). a.thread == u) order
 abbrev pub placed_by : ℕ → CallMade → Answered
 placed_by u c = record { thread = u; call = c.call; reply = c.reply }
 
--- States that the order and the record have the same calls of the record's own thread, in the same sequence.
+-- Holds if the order and the record have the same calls of the record's own thread, in the same sequence.
 abbrev pub HasOwnCalls : List Answered → Record → Type 0
 HasOwnCalls order r = calls_by (thread_of r) order ≡ map (placed_by (thread_of r)) (own_calls r)
 
--- States that the order has call `c` at the right place. `r` is the record of the thread before it made `c`. Before
--- `c`, the calls of that thread in the order are exactly the own calls of `r`. After `c`, the order has no call of a
--- thread whose record was merged into `r`, directly or as part of another record.
+-- Holds if the order has call `c` at the right place. `r` is the record of the thread before it made `c`. Before `c`,
+-- the calls of that thread in the order are exactly the own calls of `r`. After `c`, the order has no call of a thread
+-- whose record was merged into `r`, directly or as part of another record.
 pub record Follows (order : List Answered) (r : Record) (c : CallMade) : Type 0 where
   pub before : List Answered
   pub after : List Answered
@@ -67,15 +67,15 @@ pub record Follows (order : List Answered) (r : Record) (c : CallMade) : Type 0 
   pub own : HasOwnCalls before r
   pub gathered_before : (u : ℕ) → NamesGathered u r → calls_by u after ≡ []
 
--- States that the order agrees with each record that was merged into this one. Each own call comes after the calls of
--- the records that were merged before it.
+-- Holds if the order agrees with each record that was merged into this one. Each own call comes after the calls of the
+-- records that were merged before it.
 abbrev pub KeepsItems : List Answered → Record → Type 0
 KeepsItems order (fresh t) = Unit {0}
 KeepsItems order (called r c) = KeepsItems order r × Follows order r c
 KeepsItems order (gathered r g) = KeepsItems order r × HasOwnCalls order g × KeepsItems order g
 
--- States that the order agrees with the record. The calls of the record's thread in the order are the record's own
--- calls, in sequence. The order also agrees with each record that was merged into this one. Each own call comes after
--- all calls of the threads whose records were merged before it.
+-- Holds if the order agrees with the record. The calls of the record's thread in the order are the record's own calls,
+-- in sequence. The order also agrees with each record that was merged into this one. Each own call comes after all
+-- calls of the threads whose records were merged before it.
 abbrev pub Keeps : List Answered → Record → Type 0
 Keeps order r = HasOwnCalls order r × KeepsItems order r

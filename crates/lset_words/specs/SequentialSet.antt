@@ -69,7 +69,7 @@ pub record Answered : Type 0 where
   pub call : Call
   pub reply : Reply
 
--- States that a set in state `s`, called in this order, returns exactly these replies.
+-- Holds if a set in state `s`, called in this order, returns exactly these replies.
 abbrev pub IsLegal : ℕ → SetState → List Answered → Type 0
 IsLegal quota s [] = Unit {0}
 IsLegal quota s (x ∷ xs) = (reply_to quota s x.thread x.call ≡ x.reply) × IsLegal quota (after_call s x.thread x.call x.reply) xs

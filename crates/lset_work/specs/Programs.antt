@@ -28,13 +28,13 @@ worked (r ∷ rs) [] replies = []
 worked (r ∷ rs) (p ∷ ps) [] = []
 worked (r ∷ rs) (p ∷ ps) (a ∷ more) = with_calls r (made p a) ∷ worked rs ps more
 
--- States that the number of programs equals the number of seats, and that these seats, including the seats merged into
+-- There are as many programs as seats. These seats (rights to call as one thread), including the seats merged into
 -- them, are all seats of the set.
 abbrev pub Fit : SetValue → List SeatValue → ℕ → Type 0
 Fit set seats programs = (programs ≡ length seats) × (sum_by (λ (s : SeatValue). s.held) seats ≡ set.shape.threads)
 
--- States what `work` returns together with an error of this cause: its input if no thread was started (Programs and
--- Memory), otherwise nothing.
+-- What `work` returns together with an error of this cause: its input if no thread was started (Programs and Memory),
+-- otherwise nothing.
 abbrev pub GivesBack : {Given : Type 0} → Given → WorkCause → Option Given → Type 0
 GivesBack given Programs back = back ≡ Some given
 GivesBack given Spawn back = back ≡ None
@@ -43,17 +43,17 @@ GivesBack given Memory back = back ≡ Some given
 
 -- ---- The contracts of the functions that `work` calls
 
--- States that each call of the program has a reply, and that the seat's record `after` is the record `before` followed
--- by these calls.
+-- Holds if each call of the program has a reply, and the seat's record `after` is the record `before` followed by
+-- these calls.
 abbrev pub IsMadeOn : Record → List Call → List Reply → Record → Type 0
 IsMadeOn before program replies after = (length replies ≡ length program) × (after ≡ with_calls before (made program replies))
 
--- States that the merged seat `last` exists and has seen all events that seat s had seen.
+-- Holds if the merged seat `last` exists and has seen all events that seat s had seen.
 abbrev pub HasSeenAll : Option SeatValue → SeatValue → Type 0
 HasSeenAll None s = ⊥
 HasSeenAll (Some last) s = StartsWith last.events s.events
 
--- States that the programs have run on the seats, and that all seats have been merged into `last`.
+-- Holds if the programs have run on the seats, and all seats have been merged into `last`.
 pub record HaveRun (set : SetValue) (seats : List SeatValue) (programs : List (List Call)) (last : Option SeatValue)
     (replies : List (List Reply)) : Type 0 where
   pub fit : length programs ≡ length seats
@@ -66,14 +66,14 @@ pub record HaveRun (set : SetValue) (seats : List SeatValue) (programs : List (L
   -- The seat `last` has seen all events that any of the seats had seen before its program ran.
   pub begins : All (HasSeenAll last) seats
 
--- States that some legal order of exactly the calls in these records leaves these keys, and that this order also
--- linearizes the history of a run. The run begins with all events that the seats had seen.
+-- Holds if some legal order of exactly the calls in these records leaves these keys, and this order also linearizes
+-- the history of a run. The run begins with all events that the seats had seen.
 pub record IsWorkInTime (T : Table) (k : Opening) (seats : List SeatValue) (records : List Record) (keys : List ℕ) : Type 0 where
   pub events : List Event
   pub begins : All (λ (s : SeatValue). StartsWith events s.events) seats
   pub order : IsOneOrderInTime T k events records keys
 
--- States that `work` can fail for this cause after it has started threads. `may_shut` is true if the gate can return
+-- Holds if `work` can fail for this cause after it has started threads. `may_shut` is true if the gate can return
 -- false.
 abbrev pub IsOfThreads : Bool → WorkCause → Type 0
 IsOfThreads may_shut Programs = ⊥

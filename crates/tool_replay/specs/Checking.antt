@@ -14,15 +14,15 @@ use Rattle.tool_base.specs.Trouble.{of_line_fault}
 use Rattle.tool_base.specs.declared.trouble.Trouble.TheVariants as trouble
 use Rattle.tool_base.specs.Tools.{AnswerValue, Made, OnInput}
 
--- States that the order in the report does not explain the history, and that `fault` is the order's first error, not a
--- failed allocation.
+-- Holds if the order in the report does not explain the history, and `fault` is the order's first error, not a failed
+-- allocation.
 pub record IsRefused (r : ReportValue) (fault : OrderFault) : Type 0 where
   pub first_fault : IsFault r.history r.order r.keys fault
   pub of_the_order : fault ≢ Memory
   pub not_explained : Explains r.history r.order r.keys → ⊥
 
--- States the verdict on a report: `None` if the order explains the history and leaves exactly the final keys, otherwise
--- the order's first error.
+-- The verdict on a report: `None` if the order explains the history and leaves exactly the final keys, otherwise the
+-- order's first error.
 abbrev pub IsVerdict : ReportValue → Option OrderFault → Type 0
 IsVerdict r None = Explains r.history r.order r.keys
 IsVerdict r (Some fault) = IsRefused r fault
@@ -43,11 +43,11 @@ abbrev pub answer_of : Option OrderFault → AnswerValue
 answer_of None = record { text = codes "ok\n"; status = 0 }
 answer_of (Some fault) = record { text = refusal_text fault; status = 1 }
 
--- States that the answer has the correct verdict on this report.
+-- Holds if the answer has the correct verdict on this report.
 abbrev pub IsAnswerOn : ReportValue → AnswerValue → Type 0
 IsAnswerOn r answer = (verdict : Option OrderFault) × IsVerdict r verdict × (answer ≡ answer_of verdict)
 
--- States that the error is the first error of the text.
+-- Holds if the error is the first error of the text.
 abbrev pub IsFirstFault : Result ReportValue LineFault → Trouble → Type 0
 IsFirstFault (Err fault) t = t ≡ of_line_fault fault
 IsFirstFault (Ok r) t = ⊥

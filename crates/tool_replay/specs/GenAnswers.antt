@@ -12,7 +12,7 @@ use Rattle.tool_base.specs.declared.arguments.RandomRequest.{RandomRequest}
 use Rattle.tool_base.specs.Arguments.{random_request_of}
 use Rattle.tool_base.specs.Tools.{Made}
 
--- States that the schedule `p` matches the request and can run on the list with step table `T`.
+-- Holds if the schedule `p` matches the request and can run on the list with step table `T`.
 pub record IsRequested (T : Table) (request : RandomRequest) (p : Plan) : Type 0 where
   pub version_is : p.version ≡ One
   pub kind_is : p.kind ≡ request.kind

@@ -16,8 +16,8 @@ use Rattle.tool_base.specs.Trouble.{of_line_fault}
 use Rattle.tool_base.specs.declared.trouble.Trouble.TheVariants.{Line, Memory}
 use Rattle.tool_base.specs.Tools.{Made, OnInput}
 
--- States that the bytes are the text of the schedule `p`, and that `r` is the report of the run of `p`. The order in
--- `r` explains the history of `r` and leaves its final keys.
+-- Holds if the bytes are the text of the schedule `p`, and `r` is the report of the run of `p`. The order in `r`
+-- explains the history of `r` and leaves its final keys.
 pub record IsReported (bytes : List ℕ) (p : Plan) (r : ReportValue) : Type 0 where
   pub schedule : IsSchedule p
   pub text : bytes ≡ schedule_text p
@@ -31,7 +31,7 @@ of_replay (replay.Busy number) = Line number cause.Busy
 of_replay (replay.Idle number) = Line number cause.Idle
 of_replay replay.Memory = Memory
 
--- States that the error is the first error of the text or, if the text is a schedule, the error of its replay.
+-- Holds if the error is the first error of the text or, if the text is a schedule, the error of its replay.
 abbrev pub IsFirstFault : Result Plan LineFault → Trouble → Type 0
 IsFirstFault (Err fault) t = t ≡ of_line_fault fault
 IsFirstFault (Ok p) t = (refusal : ReplayFault) × (t ≡ of_replay refusal) × IsRefusal (table_of p.kind) (opening_in p) (events_of p) refusal

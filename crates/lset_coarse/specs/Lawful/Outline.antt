@@ -34,8 +34,8 @@ abbrev pub LeavesHolder : Sizes → ℕ → List ℕ → (ℕ → ℕ) → Actio
 LeavesHolder sz t ws used a ws' used' change = WordStep false sz t ws used a ws' used' change
     × ((u : ℕ) → u ≢ t → slice_index ws 0 ≡ u + 1 → (ws' ≡ ws) × (used' ≡ used))
 
--- States that two views (the list at two moments) agree on everything that the holder of the lock relies on: keys,
--- links, the lock, and the numbers of used slots.
+-- Holds if two views (the list at two moments) agree on everything that the holder of the lock relies on: keys, links,
+-- the lock, and the numbers of used slots.
 pub record Same (v w : View) : Type 0 where
   pub keys : w.key ≡ v.key
   pub links : w.link ≡ v.link
@@ -61,8 +61,8 @@ one_lock = record {
   still = λ v q u e. record { keys = refl; links = refl; list_lock = refl; used = refl };
 }
 
--- States that the thread holds the lock (`me` is its number plus 1), that pred is in the chain and has a smaller key
--- than the call's, and that curr is the node after pred.
+-- The thread holds the lock (`me` is its number plus 1). Node pred is in the chain and has a smaller key than the
+-- call's, and curr is the node after pred.
 pub record Walking (v : View) (me key pred curr : ℕ) : Type 0 where
   pub mine : v.list_lock ≡ me
   pub at : InChain v pred

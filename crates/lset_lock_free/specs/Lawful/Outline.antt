@@ -36,8 +36,8 @@ use Rattle.lset_steps.proofs.Turns.{Turn, due_of, Follows, no_locks}
 use Rattle.lset_steps.proofs.Turns.Turn.{passes, changes, answers, ends}
 use Rattle.lset_lock_free.specs.LockFree.{lock_free, targets, decision_of, at_key, at_link, again, next_action, fed_by, effect_of}
 
--- States that at some moment from `first` to `now`, node `a` was in the chain, `b` was the next node, `P` was true,
--- and thread `t` had made `count` successful adds.
+-- Holds if at some moment from `first` to `now`, node `a` was in the chain, `b` was the next node, `P` was true, and
+-- thread `t` had made `count` successful adds.
 pub record Was (vs : ℕ → View) (first now a b t count : ℕ) (P : View → Type 0) : Type 0 where
   pub at : ℕ
   pub from : first ≤ at
@@ -47,9 +47,9 @@ pub record Was (vs : ℕ → View) (first now a b t count : ℕ) (P : View → T
   pub holds : P (vs at)
   pub same_count : (vs at).used t ≡ count
 
--- States that at some moment from `first` to `now`, pred was in the chain with a smaller key than the call's, and curr
--- was the node after pred. `Open` states that at some such moment, curr was in the chain without a mark, and succ was
--- the node after curr.
+-- At some moment from `first` to `now`, pred was in the chain with a smaller key than the call's, and curr was the
+-- node after pred. `Open` describes curr in the same way: at some such moment, curr was in the chain without a mark,
+-- and succ was the node after curr.
 abbrev pub Link : (ℕ → View) → ℕ → ℕ → ℕ → ℕ → ℕ → ℕ → ℕ → Type 0
 Link vs first now key pred curr t count = Was vs first now pred curr t count (λ v. v.key pred < key)
 
