@@ -42,7 +42,7 @@ pub record HasCalledHeld (h : Held) (c : Call) (r : Option Reply) (h' : Held) : 
   pub keys : keys_in h' ≡ keys_in h
   pub called : CallsIn (table_in h) (set_in h) (seat_in h) c r (seat_in h')
 
--- Holds if the last call from a seat of a set took at most as many steps as the definition `most_reads` allows.
+-- Holds if the last call from a seat of a set (the right to call as one thread) took at most `most_reads` steps.
 abbrev pub HasReadOf : SetValue → Option SeatValue → Option SeatValue → Type 0
 HasReadOf set (Some old) (Some new) = HasMadeAtMost (most_reads (sizes set.shape)) (thread_of old.past) new.events
 HasReadOf set old new = ⊥
@@ -51,7 +51,7 @@ abbrev pub ReadsIn : Option SetValue → Option SeatValue → Option SeatValue �
 ReadsIn (Some set) old new = HasReadOf set old new
 ReadsIn None old new = ⊥
 
--- Holds if the last call from the seat in a C handle took at most as many steps as `most_reads` allows.
+-- Holds if the last call from the seat in a C handle (its right to call the set) took at most `most_reads` steps.
 abbrev pub HasReadHeld : Held → Held → Type 0
 HasReadHeld h h' = ReadsIn (set_in h) (seat_in h) (seat_in h')
 
@@ -73,8 +73,8 @@ HasCeiling true h c n a a' true h' = (r : Option Reply) × (n ≡ code_of r) × 
 HasCeiling false h c n a a' false h' = (n ≡ 255) × (a' ≡ a)
 HasCeiling full h c n a a' full' h' = ⊥
 
--- Holds if a seat of a set issued this receipt. The receipt names the seat's set and contains the events that the seat
--- has seen.
+-- Holds if a seat of a set (the right to call as one thread) issued this receipt. The receipt names the seat's set and
+-- contains the events that the seat has seen.
 abbrev pub HasNotedOf : Option SeatValue → Option ReceiptValue → Type 0
 HasNotedOf (Some s) (Some given) = given ≡ record { set = s.set; events = s.events }
 HasNotedOf s given = ⊥
@@ -93,8 +93,8 @@ abbrev pub HasGiven : Bool → Held → Bool → Held → Bool → Held → Type
 HasGiven true h true given true h' = HasNotedHeld h given h'
 HasGiven full h out given full' h' = ⊥
 
--- Holds if a seat of a set has accepted a receipt. The seat has then seen all events of the receipt. The record of the
--- seat's own calls, and the number of seats that it holds, do not change.
+-- Holds if a seat of a set (the right to call as one thread) has accepted a receipt. The seat has then seen all events
+-- of the receipt. The record of its calls, and the number of seats that it holds, do not change.
 abbrev pub HasHeededOf : Option SeatValue → Option ReceiptValue → Option SeatValue → Type 0
 HasHeededOf (Some old) (Some given) (Some new) = (new.set ≡ old.set) × (new.past ≡ old.past) × (new.held ≡ old.held)
     × StartsWith new.events old.events × StartsWith new.events given.events

@@ -58,7 +58,8 @@ number_in (LazyReceipt o) = Some o.number
 number_in (LockFreeReceipt o) = Some o.number
 number_in h = None
 
--- `seat_in` returns the seat that a C handle owns, or None. `spare_in` returns the seats that can be split off this seat.
+-- `seat_in` returns the seat (the right to call the set) that a C handle owns, or None. `spare_in` returns the seats
+-- that can be split off this seat.
 abbrev pub seat_in : Held → Option SeatValue
 seat_in (Coarse o) = o.seat
 seat_in (Fine o) = o.seat
@@ -95,7 +96,8 @@ abbrev pub GathersAt : Bool → Held → Bool → Held → Type 0
 GathersAt true h true h' = Gathers h h'
 GathersAt into h from h' = Unit {0}
 
--- Holds if a seat, together with the seats in the list that can be split off it, holds all seats of the set.
+-- Holds if a seat (the right to call as one thread), together with the seats in the list that can be split off it,
+-- holds all seats of the set.
 abbrev pub IsWhole : SetValue → Option SeatValue → List SeatValue → Type 0
 IsWhole set (Some seat) spare = seat.held + length spare ≡ set.shape.threads
 IsWhole set None spare = ⊥

@@ -25,7 +25,8 @@ pub record IsLater (calls : List CallRecord) (at : ℕ) : Type 0 where
   pub begins : All (λ (x : CallRecord). x.begun < at) calls
   pub ends : All (λ (x : CallRecord). IfSome x.ended (λ (e : ℕ × Reply). e.0 < at)) calls
 
--- The conditions under which `thread` can begin a call at the moment `at`.
+-- Holds if `thread` can begin a call at the moment `at`: the thread exists and has no pending call, and the moment is
+-- later than all others of the history.
 pub record MayBegin (h : HistoryValue) (thread at : ℕ) : Type 0 where
   pub of_a_thread : thread < h.opening.threads
   pub idle : has_open h.calls thread ≡ false

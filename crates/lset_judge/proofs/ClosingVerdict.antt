@@ -32,7 +32,8 @@ use Rattle.lset_judge.proofs.PlacedCalls.{same_flips}
 use Rattle.lset_judge.proofs.RuleLeads.{at_once, no_state, settled_none}
 use Rattle.lset_judge.proofs.StreamSteps.{same_some, until_end}
 
--- ---- Calls that start after a moment do not change the result of the judge's rule up to this moment
+-- ---- Calls that start after a moment do not change the result of the judge's rule (the test of one key's calls) up
+-- to this moment
 
 abbrev EndsLater : CallRecord → Type 0
 EndsLater x = IfSome x.ended (λ (e : ℕ × Reply). x.begun < e.0)

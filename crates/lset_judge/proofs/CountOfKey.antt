@@ -354,7 +354,7 @@ module _ (threads : ℕ) (calls : List CallRecord) (history : IsHistory threads 
       let t : x.begun ≡ y.begun = ap (λ (z : CallRecord). z.begun) s in let l = n.later in omega (arith, t, l))
       (ap (until last) (numbered x p) ∙ q ∙ sym (ap (until last) (numbered y r)))
 
-  -- Holds if act a is the effect of a counted call x, with the start, the end and the effect of x.
+  -- Holds if act a is the effect of the counted call x: it has the start, the end and the effect of x.
   record IsDue (a : Act) : Type 0 where
     x : CallRecord
     counts : In x counted
@@ -398,8 +398,8 @@ module _ (threads : ℕ) (calls : List CallRecord) (history : IsHistory threads 
     ]
   ]
 
-  -- If act a (the effect of a call) changes the key back between two counted calls, it overlaps the time from `since`
-  -- to `til`: `zs` contains its end.
+  -- Suppose that act a (the effect of a call) changes the key back between two calls of the count. Then it overlaps
+  -- the time from `since` to `til`: `zs` contains its end.
   overlaps : (a : Act) → In a ys → a.does ≡ changes (not b) → Earlier since us ys a → Later til us ys a → has_key a.until zs ≡ true
   overlaps a i d e l =
       let t = (one_of (IsAct (λ m. event_at last k calls m) last) a ys acts i).told (not b) d in

@@ -45,7 +45,7 @@ first_facts opening k f e = subst (AreFacts opening [] k) (sym e) (record {
   over = λ there i d low. absurd (omega (arith, low));
 })
 
--- ---- If two calls clash according to the stored facts, no order can contain both
+-- ---- If the facts that the judge stores show a clash of two calls, no order can contain both
 
 ended_since : (since begun : ℕ) (o : Option (ℕ × Reply)) → until_if behind_all begun o ≤ since → since < behind_all → has_ended since o ≡ true
 ended_since since begun None low bound = absurd (omega (arith, low, bound))

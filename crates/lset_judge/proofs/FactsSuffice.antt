@@ -1,5 +1,5 @@
--- Proof: the stored facts about the calls on a key suffice to find two clashing calls if one of them ends before the
--- other starts.
+-- Proof about two calls on a key that no order can contain (a clash). If one of the calls ends before the other
+-- starts, the facts that the judge stores about the key suffice to find a clash.
 use Rattle.std.proofs.Common.{inl, inr, ◌≡◌, ◌≢◌, ◌⊎◌, ℕ, ◌+◌, ◌<◌, ◌≤◌, true, false, List, [], ◌∷◌, ◌++◌, refl, sym, ap, ◌∙◌, arith, subst, get_or}
 use Rattle.std.proofs.Common.{append-nil, length-append}
 use Rattle.std.specs.Prelude.{Option, Some, None, IfSome, IsSome, is_some, IsSomeAnd, All, Contains, ◌-◌}
@@ -129,7 +129,8 @@ latest_low calls key p n since second (inr y) none before =
     let u = ended_by_then since (until_if behind_all x.begun x.ended) behind_all x x.ended refl refl ended in
     let v = y.3 in omega (arith, u, v)
 
--- ---- When the set opens, the stored facts suffice to find a clash (two calls that no order can explain)
+-- ---- When the set opens, the facts that the judge stores suffice to find a clash (two calls that no order can
+-- contain)
 
 pub complete_first : (opening : List ℕ) (k : ℕ) (f : Facts) → f ≡ facts_opened (presence (has_key k opening)) → AreComplete opening [] 0 k f
 complete_first opening k f e = subst (AreComplete opening [] 0 k) (sym e) (record {
@@ -151,7 +152,8 @@ complete_first opening k f e = subst (AreComplete opening [] 0 k) (sym e) (recor
     best p None so past low = record { was = so; standing = low; early = λ n h. tt }
     best p (Some x) so past low = absurd (let c = so.0.known.1 in omega (arith, c))
 
--- ---- When a call starts, the stored facts still suffice to find a clash
+-- ---- When a call starts, the facts that the judge stores still suffice to find a clash (two calls that no order can
+-- contain)
 
 until_begun : (kind : Kind) (u : ℕ) (f : Facts) (there : Presence) → (until_of there (begun_by (begin_event kind u) f) ≡ until_of there f)
     ⊎ ((turns_to there kind ≡ true) × (until_of there (begun_by (begin_event kind u) f) ≡ u))
@@ -300,7 +302,8 @@ complete_begin threads opening calls s is x may met t moment by kept same old =
           let u = w.1 in ne (omega (arith, far, u, low)))
     ]
 
--- ---- When a call ends, the stored facts still suffice to find a clash
+-- ---- When a call ends, the facts that the judge stores still suffice to find a clash (two calls that no order can
+-- contain)
 
 -- Two different calls start at different moments, and neither ends when the other starts.
 apart_calls : (threads : ℕ) (calls : List CallRecord) → IsHistory threads calls → (x y : CallRecord) → Contains calls x → Contains calls y → (x ≡ y → ⊥)
@@ -372,7 +375,7 @@ module _ (threads : ℕ) (opening : List ℕ) (calls : List CallRecord) (s t : S
   before_call : (o : Option CallRecord) → EndsBefore o call.begun → IsPast s.moment o
   before_call o h = let b = begun_old (record_of call) own.known in ends_past s.moment call.begun o b h
 
-  -- The facts about a key still suffice if the call that ends is on another key.
+  -- The facts that the judge stores about a key still suffice to find a clash if the call that ends is on another key.
   still_complete : (k : ℕ) (f g : Facts) → k ≢ key → AreComplete opening calls s.moment k f → g ≡ f → AreComplete opening calls t.moment k g
   still_complete k f g ne old e = subst (AreComplete opening calls t.moment k) (sym e) (record {
     latest = old.latest;
@@ -408,7 +411,8 @@ module _ (threads : ℕ) (opening : List ℕ) (calls : List CallRecord) (s t : S
         by None so e = omega (arith, e)
         by (Some x) so e = let b = begun_old (record_of x) so.0.known in omega (arith, e, b)
 
-    -- If the call clashes with one that ended before its start, the facts show a clash.
+    -- If the call clashes with a call that ended before its start (no order can contain both), the facts that the
+    -- judge stores show a clash.
     pair_found : (q : Presence) (first : Option CallRecord) → EndsBefore first call.begun → Clashes calls key (there key) None q first (Some (record_of call))
         → IsClashing f call
     pair_found q first before c =
@@ -542,7 +546,8 @@ module _ (threads : ℕ) (opening : List ℕ) (calls : List CallRecord) (s t : S
               (subst (λ (z : CallRecord). Clashes calls key (there key) None q first (Some z)) same c))
         ]
 
-    -- As long as the judge's rule has not failed, the facts show no clash (two calls that no order can explain).
+    -- As long as the judge's rule (the test of one key's calls) has not failed, the facts that the judge stores show
+    -- no clash (two calls that no order can contain).
     none_shown : IsJudgedTo opening calls t.moment t.states None → IsClashing f call → ⊥
     none_shown judged shown =
         let c : Clash = clash_with key f (Some call) in

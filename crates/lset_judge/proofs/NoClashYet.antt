@@ -1,4 +1,5 @@
--- Proof: as long as the judge's rule has not failed, no two calls that have ended clash.
+-- Proof: as long as the judge's rule (the test of one key's calls) has not failed, no two calls that have ended clash.
+-- (No order can contain two calls that clash.)
 use Rattle.std.proofs.Common.{◌≡◌, ℕ, ◌<◌, ◌≤◌, List, Bool, true, refl, ap, arith, subst, length, get_or, map}
 use Rattle.std.specs.Prelude.{Option, Some, None, IfSome, is_some, All, AllPairs, ◌≢◌, ◌==◌, ◌&&◌}
 use Rattle.std.proofs.lemmas.List.Sums.{count_by-le-length}

@@ -73,7 +73,7 @@ may_come threads opening calls s x is history begins before plain =
     let may = may_follow_at threads calls [] x history in
     comes calls s.moment s.pending x is.pending begins may.call.ends_later before plain (λ n low. may.follows n no_call low)
 
--- ---- The judge can decide all calls of a history in the form in which it reads them
+-- ---- After `read_as` has converted them, the judge can decide all calls of a history
 
 end_if : (P : ℕ → Type 0) (c : Call) (o : Option (ℕ × Reply)) → IfSome o (λ (e : ℕ × Reply). P e.0) → IfSome (end_as c o) (λ (e : ℕ × Reply). P e.0)
 end_if P c None h = tt

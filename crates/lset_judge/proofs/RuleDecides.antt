@@ -184,8 +184,8 @@ within xs ys h k c = has_from k ys (sym (h k) ∙ has_true k xs c)
 same_keys : (xs ys : List ℕ) → IncreasesFrom 0 xs → IncreasesFrom 0 ys → ((k : ℕ) → has_key k xs ≡ has_key k ys) → xs ≡ ys
 same_keys xs ys r s h = same_increasing 0 0 xs ys r s (within xs ys h) (within ys xs (λ k. sym (h k)))
 
--- Suppose that each key passes the judge's rule (the test of one key's calls). Then some order explains the history and
--- leaves exactly the keys k for which `left k` is true. The judge must be able to decide the history.
+-- Suppose that the judge can decide the history, and that each key passes the judge's rule (the test of one key's
+-- calls). Then some order explains the history and leaves exactly the keys k such that `left k` is true.
 pub explained_so : (last : ℕ) (h : HistoryValue) (left : ℕ → Bool) → latest_moment h.calls ≤ last → IsHistory h.opening.threads h.calls
     → IsStrictlyIncreasing h.opening.keys → IsJudged h
     → ((k : ℕ) → may_leave (event_at last k h.calls) (has_key k h.opening.keys) (left k) last ≡ true)

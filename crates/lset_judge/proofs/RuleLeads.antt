@@ -82,7 +82,7 @@ still_no_fewer ss x xs less longer d =
           omega (arith, t, o, all, most, longer))
     ]
 
--- ---- Once the judge's rule has failed, it stays failed
+-- ---- Once the judge's rule (the test of one key's calls) has failed, it stays failed
 
 pub settled_none : (n m : ℕ) (v : Event) → settled n m v None ≡ None
 settled_none zero m v = refl
@@ -110,9 +110,9 @@ IsFurther g s = length (changes_to (not g.there) s) < length (options g)
 abbrev NoFewer : List ℕ → List ℕ → Type 0
 NoFewer ss gs = (d : ℕ) → not_before d ss ≤ not_before d gs
 
--- Compares two states of a key after the event at moment m: the state g according to the judge's rule, and the state s
--- according to a correct timeline (a choice of the moments when changes take effect). Holds if g has at least as many
--- pending changes left as s, and these changes end at least as late.
+-- Compares two states of a key after the event at moment m: the state g that the judge's rule (the test of the key's
+-- calls) computes, and the state s of a correct timeline (a choice of the moments when changes take effect). Holds if
+-- g has at least as many pending changes left as s, and these changes end at least as late.
 pub record Leads (m : ℕ) (g s : State) : Type 0 where
   pub lists : (w : Bool) → NoFewer (changes_to w s) (changes_to w g)
   pub balance : length g.puts + once g.there + length s.takes ≡ length s.puts + once s.there + length g.takes
@@ -192,9 +192,9 @@ rule_turns false m t (x ∷ xs) gk s l f =
     lists false = l.lists false
 rule_turns b m t gp gk s l f = absurd (omega (arith, f))
 
--- Suppose that the judge's rule and the timeline (a choice of the moments when changes take effect) disagree on whether
--- the key is present. Then the timeline has fewer pending changes left that would change the key's state according to
--- the rule.
+-- Suppose that the judge's rule (the test of one key's calls) and the timeline (a choice of the moments when changes
+-- take effect) disagree on whether the key is present. Then, of the changes that would change the key's state by the
+-- rule, the timeline has fewer left.
 apart : (b c : Bool) (m gt st : ℕ) (gp gk sp sk : List ℕ) → Leads m (at b gt gp gk) (at c st sp sk) → (b ≡ c → ⊥)
     → IsFurther (at b gt gp gk) (at c st sp sk)
 apart true false m gt st gp gk sp sk l n = let y = l.balance in let f = fewer sp gp (l.lists true) in omega (arith, y, f)
@@ -267,8 +267,8 @@ more w (begins u end) ss gs h = elim (cases_Bool (same w u)) [
 ]
 more w v ss gs h = h
 
--- When a change starts, both the judge's rule and the timeline get one more pending change. A timeline is a choice of
--- the moments when changes take effect.
+-- When a change starts, both the judge's rule (the test of one key's calls) and the timeline (a choice of the moments
+-- when changes take effect) get one more pending change.
 alike : (w : Bool) (v : Event) (ss gs : List ℕ) → length (entering w v gs) + length ss ≡ length (entering w v ss) + length gs
 alike w (begins u end) ss gs = elim (cases_Bool (same w u)) [
   | inl t ↦ rw t (let a = length_in end ss in let b = length_in end gs in omega (arith, a, b))

@@ -59,7 +59,7 @@ event_begun last k [] x a = elim (cases_Bool ((key_of x.call).0 == k)) [
 event_begun last k (y ∷ ys) x a =
     passed_over last k x.begun y (ys ++ x ∷ []) (λ t. (unequal_test y.begun x.begun a.0.0, ends_not x.begun y.ended a.0.1)) ∙ event_begun last k ys x a.1
 
--- ---- Lemmas about applying the judge's rule to the event at a moment
+-- ---- Lemmas about applying the judge's rule (the test of one key's calls) to the event at a moment
 
 module _ (opening : List ℕ) (calls : List CallRecord) where
   abbrev event : ℕ → ℕ → Event
@@ -258,7 +258,8 @@ module _ (threads : ℕ) (calls : List CallRecord) (history : IsHistory threads 
             omega (arith, up, differs);
       }
 
--- If call x can be the next call of a stream, it still can after some pending calls have ended.
+-- If call x can be the next call of a stream (which judges calls one after another), it still can after some pending
+-- calls have ended.
 pub may_still : (old new : List Pending) (m n : ℕ) (x : CallRecord) → MayCome old m x → All (Contains old) new → n < x.begun → MayCome new n x
 may_still old new m n x may some begins = record {
   begins = begins;

@@ -388,7 +388,8 @@ module _ (ev : ℕ → Event) (last : ℕ) (left : Bool) (are : AreEvents ev) wh
       is_not t i l = grind (arith, nat_tests)
   event_fits m v s ys e low waits r = refl
 
-  -- ---- Compares the judge's rule with the timeline (a choice of the moments when changes take effect)
+  -- ---- Compares the judge's rule (the test of one key's calls) with the timeline (a choice of the moments when
+  -- changes take effect)
   place : (m : ℕ) (p : Act) (ys : List Act) (g s : State) → p.begun ≤ m → Leads m g s → Ready m s (p ∷ ys) → (k : Kind) → p.does ≡ k
       → (t : State) × Leads m g t × Ready m t ys
   place m p ys g s begun l r (changes w) d =

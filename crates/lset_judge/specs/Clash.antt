@@ -62,8 +62,9 @@ abbrev pub HasToBe : List CallRecord → ℕ → Option Presence → Presence �
 HasToBe calls key left need None = left ≡ Some need
 HasToBe calls key left need (Some y) = IsOf calls key y × (needs_if y.call y.ended ≡ Some need)
 
--- Returns the start of the first of two clashing calls, or 0 if the key's opening state replaces this call. Between
--- this moment and the end of the second call, no call can change the key to the state that the second call needs.
+-- Returns the start of the first of two clashing calls (calls that no order can contain), or 0 if the key's opening
+-- state replaces this call. Between this moment and the end of the second call, no call can change the key to the
+-- state that the second call needs.
 abbrev pub since_of : Option CallRecord → ℕ
 since_of None = 0
 since_of (Some x) = x.begun
@@ -119,7 +120,7 @@ ComesFirst first None = Unit {0}
 ComesFirst first (Some y) = EndsBefore first y.begun
 
 -- No call on the key clashes with a call that starts after its end, with the key's opening state, or with its final
--- state. (Two calls clash if no order can contain both.)
+-- state. (No order can contain two calls that clash.)
 abbrev pub HasNoClash : List CallRecord → ℕ → Presence → Option Presence → Type 0
 HasNoClash calls key there left = (was : Presence) (first second : Option CallRecord) → ComesFirst first second
     → IsClash calls key there left was first second → ⊥

@@ -88,7 +88,8 @@ is_call Look = true
 abbrev pub first_of : ℕ → Facts → Option StreamCall
 first_of key f = if is_call f.kept then Some (call_kept key f) else None
 
--- Returns a moment by which all changes of the key to the state `there` have ended.
+-- Returns the moment that the facts store for the state `there`: all changes of the key to this state have ended by
+-- then.
 abbrev pub until_of : Presence → Facts → ℕ
 until_of Present f = f.puts_until
 until_of Absent f = f.takes_until
@@ -103,8 +104,8 @@ facts_or (Some s) = facts_of s
 abbrev pub facts_for : States → ℕ → Facts
 facts_for states k = facts_or (get nat_eq states k)
 
--- Returns the facts about a key after the start of a call on this key. Only the start of a change alters them. (For the
--- end of a call, see `IsEnded`.)
+-- Returns the facts that the judge stores about a key after the start of a call on this key. Only the start of a
+-- change alters them. (For the end of a call, see `IsEnded`.)
 abbrev pub begun_by : Event → Facts → Facts
 begun_by (begins w end) f = record f {
   puts_until = if w then max f.puts_until end else f.puts_until;
@@ -115,10 +116,10 @@ begun_by (looks w since) f = f
 begun_by (leaves w) f = f
 begun_by idle f = f
 
--- Holds if the facts `new` store the completed call `call` in place of the call that `old` stores. `call` left the key
--- in the state `new.was`, and all changes to the other state end by its start. The call in `old` is less useful: it
--- left the key in the other state, or started before these changes had ended. The latest ends of changes stay the
--- same.
+-- Holds if the facts `new` (the judge's notes about a key) store the completed call `call` in place of the call that
+-- `old` stores. `call` left the key in the state `new.was`, and all changes to the other state end by its start. The
+-- call in `old` is less useful: it left the key in the other state, or started before these changes had ended. The
+-- latest ends of changes stay the same.
 pub record IsKept (call : StreamCall) (old new : Facts) : Type 0 where
   pub first : first_of (key_of call.call).0 new ≡ Some call
   pub leaves : leaves_if call.call call.ended ≡ Some new.was
@@ -127,9 +128,9 @@ pub record IsKept (call : StreamCall) (old new : Facts) : Type 0 where
   pub standing : until_of (other new.was) old ≤ call.begun
   pub better : old.was ≡ new.was → until_of (other new.was) old ≤ old.begun → ⊥
 
--- Holds if the kept call (the stored one) is at least as useful as `call` for finding a clash. Suppose that all
--- changes away from the state that `call` left end by the start of `call`. Then the kept call left the same state, and
--- these changes also end by the start of the kept call.
+-- Holds if the call that the facts store is at least as useful as `call` for finding a clash (two calls that no order
+-- can contain). Suppose that all changes away from the state that `call` left end by the start of `call`. Then the
+-- stored call left the same state, and these changes also end by its start.
 abbrev pub ServesAsWell : StreamCall → Facts → Type 0
 ServesAsWell call f = IfSome call.ended (λ (e : ℕ × Reply). is_plain call.call e.1 ≡ true) → (p : Presence) → leaves_if call.call call.ended ≡ Some p
     → until_of (other p) f ≤ call.begun → (f.was ≡ p) × (until_of (other p) f ≤ f.begun)
@@ -166,14 +167,14 @@ IsClashBy opening calls moment key c = (later : List CallRecord) → All (λ (z 
     → IsClash (calls ++ later) key (presence (has_key key opening)) None c.was (record_if c.first) (record_if c.second)
 
 -- The facts that the judge stores about each key are correct. After a key has failed the judge's rule (the test of one
--- key's calls), this is required only of the facts about this key. After a clash has been found, it is only required
--- that the clash is one on this key.
+-- key's calls), this is required only of the facts about this key. After a clash (two calls that no order can contain)
+-- has been found, it is only required that it is a clash on this key.
 abbrev pub AreKnownBy : List ℕ → List CallRecord → ℕ → States → Option Failed → Option Clash → Type 0
 AreKnownBy opening calls moment states None clash = (k : ℕ) → AreFacts opening calls k (facts_for states k)
 AreKnownBy opening calls moment states (Some f) None = AreFacts opening calls f.key.0 (facts_for states f.key.0)
 AreKnownBy opening calls moment states (Some f) (Some c) = IsClashBy opening calls moment f.key.0 c
 
--- ---- The stored facts suffice to find a clash
+-- ---- The facts that the judge stores suffice to find a clash (two calls that no order can contain)
 
 -- The moment is 0, or it is the end of a call that changes the key to the state `there`.
 abbrev pub IsLatest : List CallRecord → ℕ → Presence → ℕ → Type 0
@@ -185,16 +186,16 @@ abbrev pub IsPast : ℕ → Option CallRecord → Type 0
 IsPast moment None = Unit {0}
 IsPast moment (Some x) = IfSome x.ended (λ (e : ℕ × Reply). e.0 ≤ moment)
 
--- For finding a clash, the call that the facts store is at least as good as `first`. It left the key in the same state
--- p, all changes to the other state had ended when it started, and it ended before each moment that `first` ended
--- before.
+-- For finding a clash (two calls that no order can contain), the call that the facts store is at least as good as
+-- `first`. It left the key in the same state p, all changes to the other state had ended when it started, and it ended
+-- before each moment that `first` ended before.
 pub record IsAsGood (key : ℕ) (f : Facts) (p : Presence) (first : Option CallRecord) : Type 0 where
   pub was : f.was ≡ p
   pub standing : until_of (other p) f ≤ f.begun
   pub early : (moment : ℕ) → EndsBefore first moment → EndsBefore (record_if (first_of key f)) moment
 
--- The facts that the judge stores about a key suffice to find a clash: if any completed call (or the opening state)
--- can clash with a call that ends later, the stored call can.
+-- The facts that the judge stores about a key suffice to find a clash (two calls that no order can contain): if any
+-- completed call or the opening state can clash with a call that ends later, the stored call can.
 pub record AreComplete (opening : List ℕ) (calls : List CallRecord) (moment key : ℕ) (f : Facts) : Type 0 where
   pub latest : (there : Presence) → IsLatest calls key there (until_of there f)
   pub since : f.begun ≡ since_of (record_if (first_of key f))
@@ -202,8 +203,8 @@ pub record AreComplete (opening : List ℕ) (calls : List CallRecord) (moment ke
   pub best : (p : Presence) (first : Option CallRecord) → WasSo calls key (presence (has_key key opening)) p first → IsPast moment first
       → until_of (other p) f ≤ since_of first → IsAsGood key f p first
 
--- Holds if among the calls on the key that have ended by a moment, no clash was missed: none of these calls clashes
--- with a call that had ended before it started, or with the opening state.
+-- Among the calls on the key that have ended by a moment, no clash (two calls that no order can contain) was missed:
+-- none of these calls clashes with a call that had ended before it started, or with the opening state.
 abbrev pub NoneMissed : List ℕ → List CallRecord → ℕ → ℕ → Type 0
 NoneMissed opening calls moment key = (p : Presence) (first : Option CallRecord) (y : CallRecord) → EndsBefore first y.begun
     → Clashes calls key (presence (has_key key opening)) None p first (Some y) → IsPast moment (Some y) → ⊥
@@ -214,8 +215,8 @@ AreCompleteBy opening calls moment states (Some f) None =
     AreComplete opening calls moment f.key.0 (facts_for states f.key.0) × NoneMissed opening calls moment f.key.0
 AreCompleteBy opening calls moment states (Some f) (Some c) = Unit {0}
 
--- Holds if the stream s has judged these calls, and its stored facts about the keys are correct (see `AreKnownBy`) and
--- suffice to find a clash (see `AreCompleteBy`).
+-- Holds if the stream s has judged these calls. The facts that it stores about the keys are correct (see
+-- `AreKnownBy`), and suffice to find a clash (two calls that no order can contain; see `AreCompleteBy`).
 pub record IsStreamKept (threads : ℕ) (opening : List ℕ) (calls : List CallRecord) (s : Stream) : Type 0 where
   pub stream : IsStreamOf threads opening calls s
   pub known : AreKnownBy opening calls s.moment s.states s.failed s.clash
@@ -232,7 +233,8 @@ IsStanding key f = until_of (other f.was) f ≤ since_of (record_if (first_of ke
 abbrev pub EndsBy : Option (ℕ × Reply) → Option (ℕ × Reply) → Type 0
 EndsBy first second = IsSomeAnd first (λ (d : ℕ × Reply). IsSomeAnd second (λ (e : ℕ × Reply). d.0 ≤ e.0))
 
--- Holds if, according to the stored facts f, the calls x and y also clash in the opposite order: y first, then x.
+-- According to the facts f (the judge's notes about a key), no order can contain the calls x and y in the opposite
+-- order either: y first, then x.
 pub record ClashTurned (f : Facts) (x y : StreamCall) : Type 0 where
   pub apart : x.begun ≢ y.begun
   pub left : Presence
@@ -255,14 +257,15 @@ pub record IsClashing (f : Facts) (call : StreamCall) : Type 0 where
 abbrev pub clash_with : ℕ → Facts → Option StreamCall → Clash
 clash_with key f second = record { was = f.was; first = first_of key f; second = second }
 
--- Holds if c is a clash according to the stored facts f: no order can contain both of its calls. `call` is its second
--- call.
+-- Holds if, according to the facts f (the judge's notes about a key), c is a clash: no order can contain both of its
+-- calls. `call` is its second call.
 pub record IsFound (f : Facts) (call : StreamCall) (c : Clash) : Type 0 where
   pub is : c ≡ clash_with (key_of call.call).0 f (Some call)
   pub clashing : IsClashing f call
 
--- Holds if, according to the stored facts f, c is a clash with the key's final state `left` (no order can contain the
--- stored call and leave this state). If no call is stored, the key's opening state replaces it.
+-- According to the facts f (the judge's notes about a key), c is a clash with the key's final state `left`: no order
+-- can contain the call that f stores and leave this state. If f stores no call, the key's opening state takes its
+-- place.
 pub record IsFoundLeft (key : ℕ) (f : Facts) (left : Presence) (c : Clash) : Type 0 where
   pub is : c ≡ clash_with key f None
   pub is_other : left ≡ other f.was
@@ -277,8 +280,8 @@ BeginIsKnown before key event after (Some f) None = (facts_for after f.key.0 ≡
     ⊎ ((facts_for after f.key.0 ≡ facts_for before f.key.0) × (f.key.0 ≢ key))
 BeginIsKnown before key event after (Some f) (Some c) = Unit {0}
 
--- The end of a call changes the stored facts (the judge's notes) about its key as `IsEnded` describes. If a clash is
--- found at this end, the facts before the end show the clash, and this call is its second call.
+-- The end of a call changes the facts (the judge's notes) about its key as `IsEnded` describes. If a clash (two calls
+-- that no order can contain) is found at this end, the facts before the end show it, and this call is its second call.
 pub record EndIsKept (before : States) (call : StreamCall) (after : States) (clash : Option Clash) : Type 0 where
   pub facts : IsEnded call (facts_for before (key_of call.call).0) (facts_for after (key_of call.call).0)
   pub found : IfSome clash (IsFound (facts_for before (key_of call.call).0) call)
@@ -300,8 +303,7 @@ abbrev pub ClashesStream : List ℕ → Refusal → Option Presence → Stream �
 ClashesStream opening refusal left s c = (threads : ℕ) (calls : List CallRecord) → IsStreamKept threads opening calls s
     → IsClash calls refusal.key.0 (presence (has_key refusal.key.0 opening)) left c.was (record_if c.first) (record_if c.second)
 
--- Holds if the calls on the key that the reason names have no clash (see `HasNoClash`), once all ends have been
--- processed.
+-- Holds if, once all ends have been processed, no two calls on the key that the reason names clash (see `HasNoClash`).
 abbrev pub HasNone : List ℕ → Refusal → Option Presence → Stream → Type 0
 HasNone opening refusal left s = (threads : ℕ) (calls : List CallRecord) → IsStreamKept threads opening calls s
     → All (λ (p : Pending). behind_all ≤ p.end) s.pending → HasNoClash calls refusal.key.0 (presence (has_key refusal.key.0 opening)) left

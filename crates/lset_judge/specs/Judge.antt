@@ -32,13 +32,14 @@ ClashesIn opening calls key left c =
     IsClash calls key (presence (has_key key opening)) left c.was (record_if c.first) (record_if c.second)
 
 -- No call on the key clashes with a call that starts after its end, with the key's opening state, or with its final
--- state. (Two calls clash if no order can contain both.)
+-- state. (No order can contain two calls that clash.)
 abbrev pub HasNoClashIn : List ℕ → List CallRecord → ℕ → Option Presence → Type 0
 HasNoClashIn opening calls key left = HasNoClash calls key (presence (has_key key opening)) left
 
--- Holds if a verdict is correct. If it includes a clash, the clash is on the key that the reason (`refusal`) names.
--- The clash involves the key's final state only if the reason is about the final keys. If the verdict includes no
--- clash, no call on this key clashes with a later call, with the key's opening state, or with its final state.
+-- Holds if a verdict is correct. If it includes a clash (two calls that no order can contain), the clash is on the key
+-- that the reason (`refusal`) names. The clash involves the key's final state only if the reason is about the final
+-- keys. If the verdict includes no clash, no call on this key clashes with a later call, with the key's opening state,
+-- or with its final state.
 abbrev pub IsVerdict : ℕ → List ℕ → List CallRecord → List ℕ → Verdict → Type 0
 IsVerdict threads opening calls keys verdict.Linearizable = IsStreamVerdict (stream_history threads opening calls) keys Linearizable
 IsVerdict threads opening calls keys (verdict.NotLinearizable refusal clash) =

@@ -1,7 +1,7 @@
 -- Converts each completed call to one that returns true or false, because the judge decides only such calls. A
--- `ceiling` that returned a key becomes a `contains` of this key that returned true. A `ceiling` that found no key
--- becomes a `contains` of its argument that returned false, and so does an `add` that returned full. A pending call
--- stays as it is. If no order explains the converted calls, no order explains the calls themselves.
+-- `ceiling` that returned a key becomes a `contains` of this key with the reply true. A `ceiling` that found no key,
+-- or an `add` that returned full, becomes a `contains` of its argument with the reply false. A pending call stays as
+-- it is. If no order explains the converted calls, no order explains the calls themselves.
 use Rattle.std.specs.Prelude.{ℕ, List, map, Option, Some, None}
 use Rattle.lset_words.specs.declared.Call.{Call}
 use Rattle.lset_words.specs.declared.Call.TheVariants.{Add, Contains, Ceiling}

@@ -1,4 +1,5 @@
--- The judge's rule for one key: the events of the key, and which pending change takes effect at each of them.
+-- The judge's rule, the test of the calls on one key: the events of the key, and the pending change that takes effect
+-- at each of them.
 use Rattle.std.specs.Prelude.{ℕ, zero, suc, ◌+◌, ◌==◌, ◌||◌, min, nat_lt, Bool, true, false, not, if◌then◌else◌, List, [], ◌∷◌}
 use Rattle.std.specs.Prelude.{length, Option, Some, None, is_some}
 
@@ -42,9 +43,9 @@ abbrev pub not_before : ℕ → List ℕ → ℕ
 not_before d [] = 0
 not_before d (x ∷ xs) = (if nat_lt x d then 0 else 1) + not_before d xs
 
--- Returns whether the event at moment m is possible for a key in state s. When a change ends, each change to the same
--- state that ends by now must have taken effect. When a read ends, the key must be in the state that the read saw, or
--- must have changed since the read started. The key's final state must be its state now.
+-- Returns whether the event at moment m is possible for a key in state s. The end of a change is possible if each
+-- change to the same state that ends by now has taken effect. The end of a read is possible if the key is in the state
+-- that the read saw, or has changed since the read started. The final state is possible if it is the key's state now.
 abbrev pub fits : ℕ → Event → State → Bool
 fits m (begins w end) s = true
 fits m (ends w) s = not_before (suc m) (changes_to w s) == length (changes_to w s)
@@ -115,8 +116,8 @@ abbrev pub stepped : ℕ → Event → Option State → Option State
 stepped m v None = None
 stepped m v (Some s) = entered v (found m v s)
 
--- Returns the state of a key after a moment, or None if an event up to this moment was impossible: the judge's rule has
--- then failed.
+-- Returns the state of a key after a moment, or None if an event up to this moment was impossible: the judge's rule
+-- (the test of the key's calls) has then failed.
 abbrev pub state_after : (ℕ → Event) → Bool → ℕ → Option State
 state_after ev opening zero = Some (opened opening)
 state_after ev opening (suc m) = stepped m (ev (suc m)) (state_after ev opening m)

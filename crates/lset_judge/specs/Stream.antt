@@ -111,14 +111,15 @@ pub record IsStreamOf (threads : ℕ) (opening : List ℕ) (calls : List CallRec
   pub pending : ArePending calls s.moment s.pending
   pub judged : IsJudgedTo opening calls s.moment s.states s.failed
 
--- Returns the current moment of a stream. `pending_in` returns its pending calls.
+-- Returns the current moment of a stream, which judges calls one after another. `pending_in` returns its pending
+-- calls.
 abbrev pub moment_of : Stream → ℕ
 moment_of s = s.moment
 
 abbrev pub pending_in : Stream → List Pending
 pending_in s = s.pending
 
--- The conditions for a call x to be the next call of a stream.
+-- The conditions for a call x to be the next call of a stream, which judges calls one after another.
 
 pub record MayCome (pending : List Pending) (moment : ℕ) (x : CallRecord) : Type 0 where
   pub begins : moment < x.begun

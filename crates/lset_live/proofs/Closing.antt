@@ -60,7 +60,7 @@ one_segment v i (n ∷ ns) (m ∷ ms) s t = λ j. (s.0 ∙ sym t.0) j ∷ one_se
 pub one_content : (v : ChainView) (keys others : List ℕ) → IsContent v keys → IsContent v others → keys ≡ others
 one_content v keys others c d = c.0.2 ∙ (ap (keys_in v) (one_segment v 0 c.0.0 d.0.0 c.0.1 d.0.1) ∙ sym d.0.2)
 
--- ---- A seat that holds the seats of all threads has seen the whole run
+-- ---- A seat (right to call) that holds the seats of all threads has seen the whole run
 module _ (T : Table) (law : Lawful T) (v : View) (st : Stands T v) (idle : v.under ≡ None) (linear : RunsAreLinearizable T)
     (full : length v.others + 1 ≡ v.shape.threads) where
   abbrev k : Opening
@@ -109,7 +109,8 @@ module _ (T : Table) (law : Lawful T) (v : View) (st : Stands T v) (idle : v.und
     is = refl;
   }
 
--- If a seat closes the set, the words ws of the closed set are the words after all events that this seat has seen.
+-- If a seat (the right to call the set) closes the set, the words ws of the closed set are the words after all events
+-- that this seat has seen.
 module _ (T : Table) (law : Lawful T) (v : View) (st : Stands T v) (sp : v.spent ≡ false) (idle : v.under ≡ None) (k : Opening)
     (shape : v.shape ≡ k)
     (full : length v.others + 1 ≡ k.threads) (id : ℕ) (ws : List ℕ) (xs : List (Unit {0})) (final : Final (Seen (Holds T k) id v) ws xs) where

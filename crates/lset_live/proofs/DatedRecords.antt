@@ -1,5 +1,4 @@
--- Lemmas that compare the record of a seat (its completed calls) in two forms: with the event numbers of the calls,
--- and without them.
+-- Lemmas that compare two forms of a record of completed calls: with the event numbers of the calls, and without them.
 use Rattle.std.proofs.Common.{◌≡◌, ℕ, inl, inr, List, [], ◌∷◌, ◌++◌, map, refl, sym, ap, ◌∙◌, subst}
 use Rattle.std.proofs.lemmas.List.{map-append}
 use Rattle.lset_words.specs.SequentialSet.{Answered}

@@ -11,7 +11,7 @@ use Rattle.lset_live.specs.Dated.{record_of}
 use Rattle.lset_live.specs.Seats.{SeatValue, SetValue, IsOpened, new_seat}
 use Rattle.lset_words.specs.Words.{Opening}
 
--- Returns the value of a seat in contracts.
+-- Returns the value that contracts use for a seat (the right to call as one thread).
 abbrev pub value_of : Seat (Unit {0}) View → SeatValue
 value_of s = record {
   set = record { table = s.table_id; shape = s.me.0.shape };
@@ -31,8 +31,8 @@ new_value z k t s new i = record {
   events = (new.1 i).0.seen;
 }
 
--- If a list has the new seats of all threads below t, and the new seat of thread t is appended, the list then has the
--- new seats of all threads up to t.
+-- If the new seat of thread t (its right to call) is appended to a list of the new seats of all threads below t, the
+-- list has the new seats of all threads up to t.
 pub seats_more : (z : TableId) (k : Opening) (t : ℕ) (s : Seat (Unit {0}) View) (before after : List SeatValue) →
     before ≡ map (new_seat (opened z k)) (range_with_len 0 t) → IsNew z k t s
     → after ≡ before ++ value_of s ∷ [] → after ≡ map (new_seat (opened z k)) (range_with_len 0 (t + 1))

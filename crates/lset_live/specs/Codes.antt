@@ -1,5 +1,4 @@
--- Encodes the record of a seat (its completed calls) as a list of items. Two records are equal if their lists are
--- equal.
+-- Encodes a record of completed calls as a list of items. Two records are equal if their lists are equal.
 use Rattle.std.proofs.Common.{◌≡◌, ℕ, List, [], ◌∷◌, ◌++◌, refl, ap, ◌∙◌, append_assoc}
 use Rattle.std.specs.Coded.{Coded, code_by, codes}
 use Rattle.lset_words.specs.Records.{CallMade, Record, fresh, called, gathered}

@@ -31,19 +31,19 @@ pub record IsAnswered (T : Table) (k : Opening) (t : ℕ) (c : Call) (r : Reply)
     ended = Some (length after, r);
   })
 
--- The events that a seat has seen are a run of the list. Some order of the run's calls linearizes the run's history
--- from the opening keys, and agrees with the seat's record r. Calls of seats that were not merged into this seat can be
--- missing from the run.
+-- The events that a seat (a right to call the set) has seen are a run of the list. Some order of the run's calls
+-- linearizes the run's history from the opening keys, and agrees with r, the record of the seat's calls. Calls of
+-- seats that were not merged into this seat can be missing from the run.
 pub record SeenIsLinearizable (T : Table) (k : Opening) (events : List Event) (r : Record) : Type 0 where
   pub run : IsRunOf T k events
   pub order : List Placed
   pub linearizes : Linearizes k.quota (opening_set k) (history_of T k events) order
   pub keeps : Keeps (map (answered (history_of T k events)) order) r
 
--- Call c was made from the seat `old`, returned r, and changed the seat to `new`. The new seat belongs to the same set
--- and holds as many seats as before. The record of the new seat is the old record followed by exactly this call. The
--- call started after all events that the old seat had seen. The events that the new seat has seen are a run, and the
--- calls of this run have a linearization that agrees with the new record.
+-- Call c was made from the seat `old` (a right to call the set), returned r, and changed the seat to `new`. The new
+-- seat belongs to the same set and holds as many seats as before. Its record of calls is the old record followed by
+-- exactly this call. The call started after all events that the old seat had seen. The events that the new seat has
+-- seen are a run, and the calls of this run have a linearization that agrees with the new record.
 pub record HasAnswered (T : Table) (set : SetValue) (old : SeatValue) (c : Call) (r : Reply) (new : SeatValue) : Type 0 where
   pub of_set : new.set ≡ set
   pub held : new.held ≡ old.held
@@ -89,7 +89,7 @@ pub record StandsBefore (order : List Answered) (a b : Answered) : Type 0 where
   pub last : List Answered
   pub is : order ≡ first ++ a ∷ (between ++ b ∷ last)
 
--- The law of receipts. A receipt contains the events `given`, which end with the end of call c. The seat of thread u
+-- The law of receipts. A receipt contains the events `given`, and the last of them is the end of call c. Thread u
 -- receives the receipt and later starts call d. In each order that linearizes the events up to the end of d, or a
 -- longer list of events, c precedes d.
 abbrev pub ReceiptsKeepOrder : Type 0

@@ -76,8 +76,8 @@ module _ (m : Table) (b : Begun) where
   pub few_asks : Lawful m → (a : Action) (s : TableSeat) → MayAnswer m b a s → word_named a < MOST_WORDS
   few_asks law a s h = few_held law h.held a s h.holds h.acts
 
-  -- If a call is pending from seat s, the thread has the private state stored in the view of s (the knowledge of the
-  -- seat).
+  -- If a call is pending from the seat s (a right to call the set), the thread has the private state that the view of
+  -- s stores.
   pub itself : (l : Local) (s : TableSeat) → Holds m b l s → Holds m b s.me.0.local s
   itself l s h = record { words = h.words; used = h.used; seat = h.seat; mid = h.mid; stands = h.stands; local = refl }
 
@@ -223,7 +223,7 @@ stores {m = m} {b = b} {s = s} {word = word} {more = more} h is all =
 abbrev pub no_rest : Rest
 no_rest = record { succ = 0; node = 0; pkey = 0; ckey = 0 }
 
--- ---- Lemmas about a whole call c that was started from seat s
+-- ---- Lemmas about a whole call c that was started from seat s (a right to call the set)
 module _ (c : Call) (b : Begun) (s : TableSeat) (began : b ≡ begun_at c s) where
   pub may_begin : {m : Table} {z : TableId} {k : Opening} {own : OwnSlots} → MayCall m z k own s → MayBegin m b own s
   may_begin may = rw began record {

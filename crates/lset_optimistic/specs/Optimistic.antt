@@ -12,8 +12,8 @@ use Rattle.lset_steps.specs.declared.rows.Targets.{Targets}
 use Rattle.lset_steps.specs.Steps.{Table}
 use Rattle.lset_steps.specs.Rows.{own_slot, begun, decided_on}
 
--- The rows of the step table that follow a walk: row 9 for an `add` that adds its key, row 12 for a `remove` that
--- removes it, row 14 for a call that already has its reply.
+-- The rows of the step table after a walk: an `add` adds its key from row 9 on, and a `remove` removes its key from
+-- row 12 on. A call that already has its reply continues at row 14.
 abbrev pub targets : Targets
 targets = record { adds = 9; removes = 12; leaves = 14 }
 

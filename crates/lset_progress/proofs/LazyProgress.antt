@@ -48,7 +48,7 @@ use Rattle.lset_progress.proofs.Windows.{counted_or_not}
 pub follows : Discipline lazy true At
 follows = discipline_of lazy (node_locks true) At lazy_follows
 
--- Derives `Stands` from the assertion of a thread's row. `Stands` is what is known before the thread unlinks a marked
+-- Derives `Stands` from the assertion of a thread's row. `Stands` describes the thread just before it unlinks a marked
 -- node (row 12 of the step table), and at the rows of a `ceiling`.
 what_stands : {q t : ℕ} {vs : ℕ → View} {first now : ℕ} {v : View} {done : Bool} {l : Local} → At q t vs first now v done l
     → Stands v t l

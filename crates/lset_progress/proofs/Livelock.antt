@@ -17,7 +17,8 @@ abbrev claims : List Event
 claims = Begin 0 (Add (record { 0 = 3 })) ∷ Go 0 ∷ Go 0 ∷ Go 0 ∷ Begin 1 (Add (record { 0 = 5 })) ∷ Go 1 ∷ Go 1 ∷ Go 1 ∷ Go 0
     ∷ Go 1 ∷ []
 
--- In the events that repeat forever, each thread reads the other thread's number, and writes its own number again.
+-- The list `claiming` is not lock-free: in the events that repeat forever, each thread reads the other thread's
+-- number, and writes its own number again.
 pub claiming_is_not_lock_free : NotLockFree claiming
 claiming_is_not_lock_free reads most law = rounds_never_end claiming claims (Go 0) (Go 0 ∷ Go 1 ∷ Go 1 ∷ []) refl refl refl refl
     (steps_of reads) refl most law

@@ -1,6 +1,7 @@
 -- Proof: a list with locks is free from livelock. Only a call that has decided what to change writes a word other than
 -- a lock, and the call then has at most 5 steps left. Between two such writes, each thread takes at most as many steps
--- as a call that runs alone. A potential, computed from these two bounds, decreases with each counted step.
+-- as a call that runs alone. A potential, computed from these two bounds, decreases with each counted step (each step
+-- that is not a failed attempt to take a lock).
 use Rattle.std.specs.Prelude.{◌≡◌, ◌≢◌, ℕ, ◌+◌, ◌*◌, ◌%◌, ◌<◌, ◌≤◌, ◌⊎◌, List, if◌then◌else◌, ◌==◌, nat_lt, true, false, refl}
 use Rattle.std.specs.Prelude.{slice_index, slice_set}
 use Rattle.std.proofs.Common.{arith, inl, inr, sym, ◌∙◌, ap, subst, suc}
@@ -49,8 +50,8 @@ pub record Counts (T : Table) (S : Shape) (calls : Call → ℕ) : Type 0 where
 
 module _ (T : Table) (law : Lawful T) (S : Shape) (most : Sizes → ℕ) (shows : Shows T S most) (calls : Call → ℕ)
     (counts : Counts T S calls) where
-  -- Holds if m steps are enough for a thread: for the rest of its counted call or, if the thread has no such call, for
-  -- the longest possible call.
+  -- Holds if m steps are enough for a thread: for the rest of its pending call or, if no step of this call is counted,
+  -- for the longest possible call.
   abbrev Fits : Sizes → List ℕ → ℕ → Local → Type 0
   Fits sz ws m l = (most sz ≤ m) ⊎ ((l.pc ≢ 0) × (calls l.call ≡ 1) × Timed S (node_count sz) ws m l)
 
@@ -131,7 +132,8 @@ module _ (T : Table) (law : Lawful T) (S : Shape) (most : Sizes → ℕ) (shows 
     abbrev Later : Type 0
     Later = (p' : ℕ) × (p' + moves calls T s (Go t) ≤ p) × Phase (sizes op) s' p'
 
-    -- The case of a failed attempt to take a lock, which changes nothing.
+    -- A failed attempt to take a lock changes nothing. The potential (a bound on the counted steps until a call ends)
+    -- therefore stays the same.
     module _ (w from to : ℕ) (acts : T.next L ≡ Exchange w from to) (y : Row (Exchange w from to))
         (held : slice_index s.words w ≢ 0) where
       not_from : slice_index (state_at T op es k).words w ≢ from
@@ -162,7 +164,7 @@ module _ (T : Table) (law : Lawful T) (S : Shape) (most : Sizes → ℕ) (shows 
             × Owes (f.stores u) l) (sym (local_stays u)) (f.times u un, f.owes u un))),
       )
 
-    -- The case of a step that is not a failed attempt to take a lock.
+    -- Lemmas about a step that is not a failed attempt to take a lock.
     module _ (free : IsFree s.words (T.next L)) where
       weighs : (a : Action) → IsFree (state_at T op es k).words a → Row a
           → unless_failed (state_at T op es k).words a (calls (local_of (state_at T op es k) t).call)
@@ -189,7 +191,8 @@ module _ (T : Table) (law : Lawful T) (S : Shape) (most : Sizes → ℕ) (shows 
         timed_same S (node_count (sizes op)) s.words s'.words m l same.0 same.1 h.2,
       )
 
-      -- The case of a call without counted steps.
+      -- A step of a call without counted steps does not increase the potential (a bound on the counted steps until a
+      -- call ends).
       module _ (none : calls L.call ≡ 0) where
         not_late : S.late L → ⊥
         not_late h = let one : calls L.call ≡ 1 = counts.late op last k t es r (omega arith) tn h in omega arith
@@ -211,7 +214,7 @@ module _ (T : Table) (law : Lawful T) (S : Shape) (most : Sizes → ℕ) (shows 
           ]),
         )
 
-      -- The case of a counted step. After it, n steps are enough for the rest of the call.
+      -- Lemmas about a counted step of thread t. After the step, n steps are enough for the rest of the call.
       module _ (one : calls L.call ≡ 1) (n : ℕ) (is : f.time t ≡ suc n)
           (time : Timed S (node_count (sizes op)) s.words (suc n) L) where
         -- Returns, for each thread, a number of steps that is enough after a write: n for thread t, and the maximum for
@@ -244,7 +247,7 @@ module _ (T : Table) (law : Lawful T) (S : Shape) (most : Sizes → ℕ) (shows 
           ]
 
           -- If the step changes no key and no link, the potential (a bound on the counted steps until a call ends)
-          -- decreases by 1, since thread t has one step fewer left.
+          -- decreases by at least 1, since thread t has one step fewer left.
           quiet : Kept → Later
           quiet same =
               let fewer : total (put f.time t n) op.threads + 1 ≤ total f.time op.threads =

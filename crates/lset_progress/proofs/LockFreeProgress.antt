@@ -70,7 +70,8 @@ outside link l other along = record {
   along = along;
 }
 
--- At rows of the step table below 23, except rows 2 to 9, nothing is required of the walk.
+-- At rows of the step table below 23, except rows 2 to 9, `Valid` (the exchanges of the walk will succeed) requires
+-- nothing.
 low_read : (link : ℕ → ℕ) (l : Local) → (2 ≤ l.pc → l.pc ≤ 9 → ⊥) → l.pc < 23 → Along link l → Valid link l
 low_read link l other low a = outside link l other (λ h. absurd (omega arith))
 
@@ -141,8 +142,9 @@ module _ {sz : Sizes} {ws : List ℕ} {used : ℕ → ℕ} {t : ℕ} {vs : ℕ �
   abbrev size : ℕ
   size = node_count sz
 
-  -- Holds if a step with the outcome f preserves the facts that the proofs of progress use. k is the private state
-  -- before the step, and ws' are the words after it.
+  -- A step with the outcome f ends its call or brings the end of the call closer (`Then`). If the chain had no marked
+  -- node during a `ceiling`, this remains true. k is the private state before the step, and ws' are the words after
+  -- it.
   abbrev After : Local → List ℕ → Fed → Type 0
   After k ws' f = Then shape size key ws k Any key ws' f
       × (((r : Reply) × (f.answer ≡ Some r)) ⊎ ((23 ≤ k.pc → Plain ws) → 23 ≤ f.local.pc → Plain ws'))
@@ -154,8 +156,8 @@ module _ {sz : Sizes} {ws : List ℕ} {used : ℕ → ℕ} {t : ℕ} {vs : ℕ �
   abbrev From : ℕ → List ℕ → Fed → Type 0
   From n ws' f = After (record l { pc = n }) ws' f
 
-  -- The case of a step to a row below 23 of the step table. The next lemmas are the cases of a step that starts again
-  -- from the head, and of a step that ends the call.
+  -- A step to a row below 23 of the step table satisfies `After`: it brings the end of the call closer. The next
+  -- lemmas are about a step that starts again from the head, and about a step that ends the call.
   to : {k k' : Local} {ws' : List ℕ} → Only (nat_lt 0 k'.pc) → k'.pc < 23 → (Valid (node_link ws) k → Valid (node_link ws') k')
       → left size key k' < left size key k → After k ws' (continued k')
   to busy low valid less = (on (λ x o m. m) busy (λ z. z) valid less, inr (λ c high. absurd (omega arith)))

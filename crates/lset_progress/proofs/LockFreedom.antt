@@ -360,7 +360,8 @@ module _ (reads : Bool) (op : Opening) (last k : ℕ) (es : ℕ → Event) (r : 
     ]
   ]
 
--- In a whole run, the potential bounds the number of counted steps until a call ends.
+-- In a whole run, the potential bounds the number of counted steps until a call ends. A step is counted if it is a
+-- step of an `add`, a `remove` or, if `reads` is true, a `contains`.
 module _ (reads : Bool) (op : Opening) (last : ℕ) (es : ℕ → Event) (r : Run lock_free op es last) where
   abbrev Event' : ℕ → ℕ → Event → Type 0
   Event' k p e = Then lock_free (steps_of reads) op es (Phase reads (sizes op)) k p e

@@ -150,7 +150,7 @@ module _ (T : Table) (At : Outline) (follows : Discipline T T.marks At) (rows : 
         subst (λ z. node_key step.words' L.curr < node_key step.words' z) (sym next) (omega arith) in
         gap W memory.ordered L.pred L.curr at (in_chain_of W L.curr p) b.walk.inner (omega arith) hi
 
-    -- The case of a node that was marked before the step: some thread was about to unlink the node, and still is.
+    -- If a node was marked before the step, some thread was about to unlink this node, and still is.
     as_before : (b : ℕ) → Path W.link 0 b → W.link b % 2 ≡ 1 → V.published b → W.link b ≡ V.link b → After b
     as_before b p odd published same =
         let x = before b (path_of V b (keeping.back b published (in_chain_of W b p))) (omega arith) in
@@ -165,7 +165,7 @@ module _ (T : Table) (At : Outline) (follows : Discipline T T.marks At) (rows : 
           }
         ]
 
-    -- The case of a node that the step marks: the thread that takes this step is about to unlink the node.
+    -- If the step marks a node, the thread that takes the step is about to unlink this node.
     as_now : (b : ℕ) → L.pc ≡ 11 → V.link b % 2 ≡ 0 → W.link b % 2 ≡ 1 → After b
     as_now b e even odd =
         let acts : T.next L ≡ Store (link_index L.curr) (2 * L.succ + 1) = (rows.marks L e).0 in

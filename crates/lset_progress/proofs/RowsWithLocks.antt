@@ -73,7 +73,7 @@ after_pred size ws curr pred x less (inr c) = absurd c.1
 -- Describes a list for the proofs of progress that all lists share:
 -- - `may`: the locks that a thread can hold;
 -- - `late`: the call has decided what to change, and locks no more nodes;
--- - `calm`: what the thread's next step requires of the shared words;
+-- - `calm`: a condition on the shared words for the thread's next step;
 -- - `valid`: the links let the walk succeed;
 -- - `left`: how many steps of a successful walk remain after the next one;
 -- - `round`: the number of steps of an additional walk.
@@ -169,7 +169,7 @@ some_row n h = let low : 0 < n = lower_number 0 n (only_true (nat_lt 0 n) h) in 
 module _ {S : Shape} {size : ℕ} {key : ℕ → ℕ} {ws : List ℕ} {l : Local} {O : ℕ → Type 0} {key' : ℕ → ℕ} {ws' : List ℕ}
     {l' : Local}
     (keeps : (x : ℕ) → O x → S.may l x → S.may l' x) where
-  -- The case of a step that leads to another row of the step table.
+  -- A step that leads to another row of the step table satisfies `Then`: it brings the end of the call closer.
   pub goes : Only (nat_lt 0 l'.pc) → (S.late l → LateBy S (S.left 0 (λ a. 0) l) l')
       → (S.valid (node_link ws) l → S.valid (node_link ws') l') → S.left size key' l' < S.left size key l
       → Then S size key ws l O key' ws' (record { local = l'; answer = None })
@@ -185,12 +185,14 @@ module _ {S : Shape} {size : ℕ} {key : ℕ → ℕ} {ws : List ℕ} {l : Local
     });
   }
 
-  -- The case of a step that leads to another row of the step table, before the call has decided what to change.
+  -- A step that leads to another row of the step table satisfies `Then` (it brings the end of the call closer) if the
+  -- call has not yet decided what to change.
   pub on : Only (nat_lt 0 l'.pc) → (S.late l → ⊥) → (S.valid (node_link ws) l → S.valid (node_link ws') l')
       → S.left size key' l' < S.left size key l → Then S size key ws l O key' ws' (record { local = l'; answer = None })
   on busy early valid less = goes busy (λ h. absurd (early h)) valid less
 
-  -- The case of a step that starts a new walk from the head. A walk that will succeed takes no such step.
+  -- A step that starts a new walk from the head satisfies `Then`: it brings the end of the call closer. A walk that
+  -- will succeed takes no such step.
   pub again : Only (nat_lt 0 l'.pc) → (S.late l → ⊥) → (S.valid (node_link ws) l → ⊥) → S.valid (node_link ws') l'
       → S.left size key' l' < S.left size key l + S.round size
       → Then S size key ws l O key' ws' (record { local = l'; answer = None })
@@ -209,7 +211,7 @@ module _ {S : Shape} {size : ℕ} {key : ℕ → ℕ} {ws : List ℕ} {l : Local
   pub stops : {r : Reply} → Then S size key ws l O key' ws' (record { local = l'; answer = Some r })
   stops {r} = record { keeps = keeps; then = inl (r, refl) }
 
--- The case of a store that releases a lock.
+-- Builds the case of `RowBy` for a store that releases a lock.
 pub unlocks : {A B C : Type 0} → B → C → A ⊎ (B × C)
 unlocks is_lock stores = inr (is_lock, stores)
 

@@ -31,7 +31,8 @@ use Rattle.lset_rule.proofs.ViewsFit.{is_in, set_there, stands_else, stands_stil
 use Rattle.lset_rule.proofs.MovesKeepRule.{M}
 use Rattle.lset_words.specs.Words.{Opening}
 
--- If no thread of view v executed these events, and v has each thread of view w, then no thread of w executed them.
+-- If no thread of view v (a seat's knowledge of the run) executed these events, and v has each thread of view w, then
+-- no thread of w executed them. A seat is the right to call as one thread.
 quiet_less : (v w : View) → ((t : ℕ) → HasThread w t → HasThread v t) → (es : List Event) → IsQuiet v es → IsQuiet w es
 quiet_less v w less [] q = tt
 quiet_less v w less (e ∷ es) q = (λ h. q.0 (less (thread_of e) h), quiet_less v w less es q.1)
@@ -68,7 +69,8 @@ longer_of log xs ys x y = by_test (nat_le (length xs) (length ys)) refl
     by_test false is = let le : length ys ≤ length xs = search (rules, tests) in
         record { begins = x; first = omega arith; second = le }
 
--- ---- Lemmas about the spare threads of two seats (idle threads that a seat can still split off)
+-- ---- Lemmas about the spare threads of two seats (rights to call the set): idle threads that a seat can still split
+-- off
 has_end : (os ps : List SpareThread) (t : ℕ) → HasAside (os ++ ps) t → HasAside os t ⊎ HasAside ps t
 has_end [] ps t h = inr h
 has_end (o ∷ os) ps t h = ⊎_elim (λ e. inl (inl e)) (λ x. ⊎_elim (λ y. inl (inr y)) (λ y. inr y) (has_end os ps t x)) h
@@ -88,8 +90,8 @@ asides_join ends t r (o ∷ os) ps apart a b = (
   asides_join ends t r os ps (λ u h. apart u (inr h)) a.3 b,
 )
 
--- The spare threads of a seat stay idle if the seat's record r is replaced by a record r' with the same calls of these
--- threads.
+-- The spare threads of a seat (a right to call the set) stay idle if the seat's record r is replaced by a record r'
+-- with the same calls of these threads.
 asides_in : (ends : ℕ → Here) (t t' : ℕ) (r r' : Past) (os : List SpareThread) →
     ((u : ℕ) → HasAside os u → (u ≢ t') × (calls_of u r' ≡ calls_of u r)) → AreIdle ends t r os → AreIdle ends t' r' os
 asides_in ends t t' r r' [] same a = tt
@@ -125,7 +127,7 @@ module _ (m : Table) where
   fits_seat k log so so' j v same f =
       fits_less k log so so' j j v v f refl refl f.ours f.theirs (λ t h. h) f.stands (λ t h. same t (f.seat t h) h)
 
-  -- ---- Lemmas about splitting a seat
+  -- ---- Lemmas about splitting a seat (a right to call the set) into two
   module _ (v0 : View) (o : SpareThread) (os : List SpareThread) where
     abbrev V : View
     V = record v0 { spent = false; under = None; past = Fresh v0.thread; others = o ∷ os }
@@ -315,8 +317,8 @@ module _ (m : Table) where
   other_there s id other v w apart there = ⊎_elim (λ (t : (other ≡ id) × (v ≡ w)). absurd (apart t.0))
       (λ (t : (other ≢ id) × (get_elem? s.views other ≡ some w)). t.1) (at_set s.views id other v w there)
 
-  -- After a join, every view is correct: view `id` has changed to v, view `other` is spent, and all other views are
-  -- unchanged.
+  -- After seat `other` has joined seat `id`, every view (a seat's knowledge of the run) is correct: view `id` has
+  -- changed to v, view `other` is spent, and all other views are unchanged.
   takes_in : (k : Opening) (log : List Event) (so : ℕ → ℕ) (s : St) (id other : ℕ) (v : View) → MatchesLog m k log so id v →
       ((j : ℕ) (x : View) → j ≢ other → j ≢ id → get_elem? s.views j ≡ some x → Fits m k log so j x)
       → (j : ℕ) (x : View) → get_elem? (set (set s.views id v) other nobody) j ≡ some x → Fits m k log so j x

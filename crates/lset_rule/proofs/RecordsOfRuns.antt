@@ -86,13 +86,13 @@ begun_by log t n = known (last_at log t n).pending
     known true = begun_low log t n
     known false = tt
 
--- Returns the calls of a seat's own thread, without the calls in records that were merged into the seat's record.
+-- Returns the calls of a record's own thread, without the calls in other records that were merged into it.
 abbrev pub own_calls : Past → List OwnCall
 own_calls (Fresh t) = []
 own_calls (Called' p r c) = own_calls r ++ c ∷ []
 own_calls (Gathered' p r q g) = own_calls r
 
--- Holds if a record of thread u was merged into the seat's record.
+-- Holds if a record of thread u was merged into this record of calls.
 abbrev pub HasGathered : ℕ → Past → Type 0
 HasGathered u (Fresh t) = ⊥
 HasGathered u (Called' p r c) = HasGathered u r
@@ -111,8 +111,8 @@ none_of_another u (Called' p r c) out =
 none_of_another u (Gathered' p r q g) out = λ i. none_of_another u r (λ h. out (inl h)) i
     ++ none_of_another u g (λ h. out (inr h)) i
 
--- After a step of a seat's own thread t, the calls of t in the seat's record are its earlier calls and the call that
--- the step ended, if any.
+-- After a step of thread t, the calls of t in its record are its earlier calls and the call that the step ended, if
+-- any.
 pub after_calls : (t : ℕ) (r : Past) (a : Option Reply) (u : Option PendingCall) (n : ℕ) → root r ≡ t → calls_of t r
     ++ ending a u n ≡ calls_of t (record_after r a u n)
 after_calls t r (Some x) (Some u) n is = ap (λ b. calls_of t r ++ cond b (own u x n ∷ []) []) (sym (eq-eqb t (root r) (sym is)))

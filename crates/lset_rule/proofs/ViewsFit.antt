@@ -1,6 +1,5 @@
--- Lemmas about the list of all seats' views when a view changes or is added: which facts about each view remain true,
--- and to which view each thread belongs. A seat is the right to call as one thread; its view is its knowledge of the
--- run.
+-- Lemmas about the list of all seats' views when a view changes or is added: the facts about each view that remain
+-- true, and the view of each thread. A seat is the right to call as one thread; its view is its knowledge of the run.
 use Rattle.std.proofs.Common.{◌≡◌, ◌≢◌, ⊎_elim, ℕ, zero, suc, ◌<◌, true, false, List, [], ◌∷◌, ◌++◌, length, set, refl, sym, ap, ◌∙◌, subst}
 use Rattle.std.proofs.lemmas.Bool.{false≢true}
 use mathlib.Core.Option.{some, some-injective, some-ne-none}
@@ -17,7 +16,8 @@ use Rattle.lset_rule.specs.Runs.{StartsWith, end_of, IsRunOf}
 use Rattle.lset_rule.specs.Rule.{Holds, MatchesLog, StandsIn}
 use Rattle.lset_rule.specs.Views.{HasThread}
 
--- Lemmas about a list in which each entry j satisfies P j: this remains true if a changed or added entry satisfies P.
+-- Lemmas about a property P of all entries of a list: the entries still have the property after an entry with the
+-- property is changed or added.
 module _ {A : Type 0} (P : ℕ → A → Type 0) where
   abbrev pub Each : List A → Type 0
   Each l = (j : ℕ) (x : A) → get_elem? l j ≡ some x → P j x

@@ -24,8 +24,8 @@ begun_view m log c v = record v {
   seen = log ++ Begin v.thread c ∷ [];
 }
 
--- Returns a seat's record of completed calls after event n. If the event ends the pending call (the reply is Some x),
--- the call is appended to the record r.
+-- Returns a record of completed calls after event n. If the event ends the pending call (the reply is Some x), the
+-- call is appended to the record r.
 abbrev pub record_after : Past → Option Reply → Option PendingCall → ℕ → Past
 record_after r (Some x) (Some u) n = called r (own u x n)
 record_after r (Some x) None n = r
@@ -56,9 +56,9 @@ Starts m c v n w = (log : List Event) × (on : StartsWith log v.seen) × Sees m 
     × (let b = begun_view m log c v in w ≡ gone_view m b.seen n b) × Stands m w
     × (let b = begun_view m log c v in seen_next m (end_of m v.shape b.seen) v.thread ≡ n)
 
--- `onward` and `starting` state the same as `Goes` and `Starts`, in the form that the crate `atomic_table` requires
--- for an access to the shared words. The last part states that the access does not change which cells of the table the
--- seat owns.
+-- `onward` and `starting` are `Goes` and `Starts` in the form that the crate `atomic_table` requires for an access to
+-- the shared words. In addition, the access does not change which cells of the table the seat (the right to call)
+-- owns.
 abbrev pub onward : Table → Step (Unit {0}) → Me (Unit {0}) View → ℕ → Me (Unit {0}) View → Type 0
 onward m st me n me' = Goes m me.0 n me'.0 × (me'.1 ≡ me.1)
 

@@ -11,30 +11,31 @@ nowhere = record { now = tt; ref_ptr = (0, 0) }
 abbrev pub called : Past → OwnCall → Past
 called r c = Called' nowhere r c
 
--- Returns the record of a seat after a merge: r was its record, and g the record of the seat that is merged into it.
+-- Returns the record of a seat (a right to call the set) after a merge: r was its record, and g the record of the seat
+-- that is merged into it.
 abbrev pub gathered : Past → Past → Past
 gathered r g = Gathered' nowhere r nowhere g
 
--- Returns the thread that a record of calls belongs to: the own thread of its seat.
+-- Returns the thread that a record of calls belongs to.
 abbrev pub root : Past → ℕ
 root (Fresh t) = t
 root (Called' p r c) = root r
 root (Gathered' p r q g) = root r
 
--- Returns the calls of thread u in a seat's record and in the records that were merged into it, in their order.
+-- Returns the calls of thread u in a record and in the records that were merged into it, in their order.
 abbrev pub calls_of : ℕ → Past → List OwnCall
 calls_of u (Fresh t) = []
 calls_of u (Called' p r c) = calls_of u r ++ cond (u == root r) (c ∷ []) []
 calls_of u (Gathered' p r q g) = calls_of u r ++ calls_of u g
 
--- Holds if all calls in a seat's record, including those in records that were merged into it, started and ended before
--- event n.
+-- Holds if all calls in a record, including those in records that were merged into it, started and ended before event
+-- n.
 abbrev pub Before : ℕ → Past → Type 0
 Before n (Fresh t) = Unit {0}
 Before n (Called' p r c) = Before n r × (c.ended < n) × (c.begun < n)
 Before n (Gathered' p r q g) = Before n r × Before n g
 
--- Holds if all calls in the records that were merged into a seat's record started and ended before event n.
+-- Holds if all calls in the records that were merged into a record started and ended before event n.
 abbrev pub GatheredBefore : ℕ → Past → Type 0
 GatheredBefore n (Fresh t) = Unit {0}
 GatheredBefore n (Called' p r c) = GatheredBefore n r
@@ -47,13 +48,13 @@ InOrder (Fresh t) = Unit {0}
 InOrder (Called' p r c) = InOrder r × GatheredBefore c.begun r
 InOrder (Gathered' p r q g) = InOrder r × InOrder g
 
--- The seat's record belongs to thread u, or a record of thread u was merged into it.
+-- The record belongs to thread u, or a record of thread u was merged into it.
 abbrev pub IsIn : ℕ → Past → Type 0
 IsIn u (Fresh t) = u ≡ t
 IsIn u (Called' p r c) = IsIn u r
 IsIn u (Gathered' p r q g) = IsIn u r ⊎ IsIn u g
 
--- Holds if a seat's record and all records that were merged into it belong to different threads.
+-- Holds if a record of calls and all records that were merged into it belong to different threads.
 abbrev pub Apart : Past → Type 0
 Apart (Fresh t) = Unit {0}
 Apart (Called' p r c) = Apart r

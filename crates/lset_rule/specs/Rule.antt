@@ -133,8 +133,8 @@ informed v w = record v {
   theirs = w.seen;
 }
 
--- The effect of the first load after a seat joins another seat or uses a receipt. The load shows that both lists kept
--- by the seat are prefixes of the events that it has seen. The seat then drops both lists.
+-- The effect of the first load after a seat (a right to call the set) joins another seat or uses a receipt. The load
+-- shows that both lists kept by the seat are prefixes of the events that it has seen. The seat then drops both lists.
 abbrev pub learned : Table → Step (Unit {0}) → Me (Unit {0}) View → ℕ → Me (Unit {0}) View → Type 0
 learned m st me n me' =
     (me'.0 ≡ record me.0 { ours = []; theirs = [] }) × Stands m me'.0

@@ -17,7 +17,8 @@ use Rattle.lset_rule.specs.Calls.{Makes}
 abbrev pub TableSeat : Type 0
 TableSeat = Seat (Unit {0}) View
 
--- Holds if the seat s belongs to the shared words z, and z has as many words as a set with the opening k.
+-- Holds if the seat s (a right to call the set) belongs to the shared words z, and z has as many words as a set with
+-- the opening k.
 abbrev pub IsOf : TableId → Opening → TableSeat → Type 0
 IsOf z k s = (s.table_id ≡ z) × (s.me.0.shape ≡ k) × (z.words ≡ word_count (sizes k))
 
@@ -25,16 +26,16 @@ IsOf z k s = (s.table_id ≡ z) × (s.me.0.shape ≡ k) × (z.words ≡ word_cou
 abbrev pub IsSeat : TableSeat → TableSeat → Type 0
 IsSeat s s' = (s'.table_id ≡ s.table_id) × (s'.id ≡ s.id) × (s'.me.1 ≡ s.me.1)
 
--- The requirements of a call on its seat s: s belongs to the shared words z, and its thread has no pending call and has
--- the slots `own` (nodes for keys that it adds).
+-- The requirements of a call on its seat s (the right to call as one thread): s belongs to the shared words z, and its
+-- thread has no pending call and has the slots `own` (nodes for keys that it adds).
 pub record MayCall (m : Table) (z : TableId) (k : Opening) (own : OwnSlots) (s : TableSeat) : Type 0 where
   pub place : IsOf z k s
   pub idle : IsIdle s.me.0
   pub stands : Stands m s.me.0
   pub slots : own ≡ slots_of s.me.0.local
 
--- Holds if call c changed its seat from s to s', and only this call with its reply was added to the seat's record.
--- `answer` contains the thread's slots (nodes for keys that it adds) after the call, and the reply.
+-- Holds if call c changed its seat (a right to call the set) from s to s', and only this call with its reply was added
+-- to the seat's record. `answer` has the thread's slots (nodes for keys that it adds) after the call, and the reply.
 pub record HasCalled (m : Table) (c : Call) (s : TableSeat) (answer : OwnSlots × Reply) (s' : TableSeat) : Type 0 where
   pub place : IsSeat s s'
   pub slots : answer.0 ≡ slots_of s'.me.0.local

@@ -19,8 +19,8 @@ HasAside (o ∷ os) t = (t ≡ o.thread) ⊎ HasAside os t
 abbrev pub HasThread : View → ℕ → Type 0
 HasThread v t = (t ≡ v.thread) ⊎ HasAside v.others t
 
--- Holds if the spare threads of a seat are idle, distinct and different from t, and the record r contains exactly the
--- calls that each of them has completed. `ends` returns the state of a thread.
+-- The spare threads of a seat (a right to call the set) are idle, distinct and different from t. The record r contains
+-- exactly the calls that each of them has completed. `ends` returns the state of a thread.
 abbrev pub AreIdle : (ℕ → Here) → ℕ → Past → List SpareThread → Type 0
 AreIdle ends t r [] = Unit {0}
 AreIdle ends t r (o ∷ os) = (o.thread ≢ t) × (ends o.thread ≡ here o.local None (calls_of o.thread r))
@@ -34,22 +34,22 @@ InTime (Some u) r = Before u.begun r
 -- Holds if the view v (a seat's knowledge of the run) is correct: its information about its threads is true after the
 -- events that it has seen.
 pub record Stands (m : Table) (v : View) : Type 0 where
-  -- The events that the view has seen are a run. After this run, the seat's own thread has the registers, the pending
-  -- call and the completed calls that the view stores.
+  -- The events that the view (a seat's knowledge of the run) has seen are a run. After this run, the own thread of the
+  -- seat has the registers, the pending call and the completed calls that the view stores.
   pub ran : IsRunOf m v.shape v.seen
   pub own : at_end m v.shape v.seen v.thread ≡ here v.local v.under (calls_of v.thread v.past)
-  -- Each spare thread is idle, and has the registers that the view stores.
+  -- Each spare thread is idle, and has the registers that the view (a seat's knowledge of the run) stores.
   pub others : AreIdle (at_end m v.shape v.seen) v.thread v.past v.others
   pub in_range : (t : ℕ) → HasThread v t → t < v.shape.threads
-  -- The record belongs to the seat's own thread. This record and those merged into it belong to different threads, and
-  -- the seat has all these threads.
+  -- The record of calls belongs to the seat's own thread. This record and those merged into it belong to different
+  -- threads, and the seat (a right to call the set) has all these threads.
   pub of_thread : root v.past ≡ v.thread
   pub apart : Apart v.past
   pub named : (u : ℕ) → IsIn u v.past → HasThread v u
-  -- If a record was merged in before a call of the seat's own thread, all calls in the merged record ended before this
-  -- call started. The same is true inside each merged record.
+  -- If a record was merged in before a call of the record's own thread, all calls in the merged record ended before
+  -- this call started. The same is true inside each merged record.
   pub ordered : InOrder v.past
-  -- All calls in the record have ended. They ended before the seat's pending call started.
+  -- All calls in the record have ended. They ended before the pending call started.
   pub ended : Before (length v.seen + 1) v.past
   pub before : InTime v.under v.past
 

@@ -39,8 +39,8 @@ length-numbers : (n : ℕ) → length (numbers_below n) ≡ n
 length-numbers zero = refl
 length-numbers (suc n) = omega (arith, length-append (numbers_below n) (n ∷ []), length-numbers n)
 
--- If n parts and then another part were split off the sender's pass (a right to use the channel), the pass has the
--- tally that follows from splitting off m = n + 1 parts.
+-- If a part is split off the sender's pass (a right to use the channel) after n other parts, the pass has the tally
+-- for m = n + 1 split parts.
 pub part_more : (v u u' : Tally) (n m : ℕ) → u ≡ tally (v.parts - n) v.sent v.received →
     u' ≡ tally (u.parts - 1) u.sent u.received → m ≡ n + 1
     → u' ≡ tally (v.parts - m) v.sent v.received

@@ -7,7 +7,8 @@ use Rattle.lset_server.specs.declared.channel.Tally.{Tally}
 use Rattle.lset_server.specs.Tallies.{ReceivedOnce}
 use Rattle.lset_words.specs.Words.{Opening}
 
--- Returns the records of the seats, each followed by the calls that were made on the seat afterwards.
+-- Returns the records of the seats (rights to call as one thread), each followed by the calls that were made on the
+-- seat afterwards.
 abbrev pub followed : List Record → List (List CallMade) → List Record
 followed [] more = []
 followed (r ∷ rs) [] = r ∷ rs
@@ -21,8 +22,8 @@ pub record IsServed (k : Opening) (records : List Record) (calls : ℕ) (keys : 
   pub count : calls ≡ sum_by (λ cs. length cs) added
   pub explained : IsOneLegalOrder k (followed records added) keys
 
--- Holds if all workers have ended. Their seats have been merged into one, and each connection was received exactly
--- once.
+-- Holds if all workers have ended. Their seats (rights to call the set) have been merged into one, and each connection
+-- was received exactly once.
 pub record HasGathered (starts : List Record) (end : Option Record) (v : Tally) (asked sessions calls : ℕ) : Type 0 where
   pub added : List (List CallMade)
   pub each : length added ≡ length starts

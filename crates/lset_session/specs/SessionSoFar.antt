@@ -67,8 +67,8 @@ pub record IsTalk (t : Talk) : Type 0 where
 abbrev pub Nearer : Talk → Talk → ℕ → Type 0
 Nearer t u n = (LONGEST_LINE + 1) * u.left + t.len + n ≤ (LONGEST_LINE + 1) * t.left + u.len
 
--- Holds if the session has processed these bytes, and this changed the session from state t to u, the record of its
--- seat (the calls with replies) from r to r', and the written bytes from w to w'.
+-- Holds if the session has processed these bytes. This changed the session from state t to u, its record of calls with
+-- replies from r to r', and the written bytes from w to w'.
 abbrev pub Hears : List ℕ → Option EndReason → Talk → Talk → Record → Record → Option (List ℕ) → Option (List ℕ) → Type 0
 Hears bytes o t u r r' w w' = Heard t.left (pending_of t ++ bytes) o u.left (pending_of u) r r' w w' t.calls u.calls
 

@@ -104,7 +104,7 @@ reply_word reply.Full = codes "FULL"
 reply_word (reply.At k) = codes "AT " ++ decimal k.0
 reply_word reply.Nothing = codes "NONE"
 
--- Returns the bytes that a session writes as its answer in one turn, with the newline.
+-- Returns the bytes that a session writes to answer one line, with the newline.
 abbrev pub answer_of : Exchange → List ℕ
 answer_of (made c) = ended (reply_word c.reply)
 answer_of bad = ended (codes "BAD")

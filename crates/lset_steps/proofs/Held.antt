@@ -1,5 +1,5 @@
 -- Assertions about nodes that a thread has locked, and the steps that can change these nodes. They apply to every list
--- in which a thread writes links only while it holds node locks.
+-- with this rule: a thread writes links only while it holds node locks.
 use Rattle.std.specs.Prelude.{◌≡◌, ◌≢◌, ℕ, ◌+◌, ◌*◌, ◌/◌, ◌%◌, ◌<◌, Bool, true, false, Option, Some, None, List, [], slice_set, refl}
 use Rattle.std.proofs.Common.{arith, inl, inr, sym, ◌∙◌, ap}
 use Rattle.lset_words.specs.Words.{key_index, link_index, lock_index, tail_word, node_count, word_count, slot_node, target, key_of, Sizes}

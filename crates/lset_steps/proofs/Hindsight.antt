@@ -42,9 +42,9 @@ unmarked_before vs n b m t r l h p even = elim (even_or_not ((vs m).link b)) [
     even_or_not : (x : ℕ) → (x % 2 ≡ 0) ⊎ (x % 2 ≡ 1)
     even_or_not x = grind arith
 
--- Hindsight: if a node was in the chain at moment `m`, its link at a later moment `t` is a link that the node had
--- while it was in the chain, at some moment from `m` to `t`. Proof by induction on the moments: a link changes only
--- while its node is in the chain.
+-- Hindsight: suppose that a node was in the chain at moment `m`. Then at some moment from `m` to a later moment `t`,
+-- it was in the chain with the link that it has at `t`. Proof by induction on the moments: a link changes only while
+-- its node is in the chain.
 hindsight-by : (vs : ℕ → View) (n b d m t : ℕ) → Course vs n → t ≡ m + d → t ≤ n → InChain (vs m) b
     → Seen vs m t b ((vs t).link b)
 hindsight-by vs n b zero m t r e l i =

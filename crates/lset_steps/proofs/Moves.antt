@@ -4,8 +4,8 @@ use Rattle.std.specs.Prelude.{◌≡◌, ◌≢◌, ℕ, ◌+◌, ◌*◌, ◌/�
 use Rattle.lset_words.specs.declared.Key.{Key}
 use Rattle.lset_steps.specs.Chain.{View, InChain, InContent, IsOrdered, Seen}
 
--- The properties of every step: published nodes (those that have been in the chain) stay published and keep their
--- keys, an unlinked node does not return to the chain, and the link of a node changes only if the node is in the chain
+-- The properties of every step. Published nodes (those that have been in the chain) stay published and keep their
+-- keys. An unlinked node does not return to the chain. The link of a node changes only if the node is in the chain
 -- before and after the step.
 pub record KeepsNodes (v w : View) : Type 0 where
   pub keys : (i : ℕ) → v.published i → w.key i ≡ v.key i

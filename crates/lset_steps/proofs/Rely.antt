@@ -20,9 +20,9 @@ use Rattle.lset_steps.proofs.AfterWrite.{set_other, key_after_link, link_after_l
 use Rattle.lset_steps.proofs.AfterWrite.{key_after_key, lock_after_key, list_lock_after_key, key_after_lock, link_after_lock}
 
 -- The properties that a step of another thread preserves for thread `u` with quota `q`. The step leads from view `v`
--- (the list before) to view `w` (the list after). It preserves keys, the locks that `u` holds, the links of the nodes
--- that `u` has locked and whether they are in the chain, the number of successful adds of `u`, and the node for its
--- next add.
+-- (the list before) to view `w` (the list after). It preserves keys, the locks that `u` holds, the number of
+-- successful adds of `u`, and the node for its next add. For each node that `u` has locked, it preserves the link and
+-- whether the node is in the chain.
 pub record Rely (v w : View) (q u : ℕ) : Type 0 where
   pub goes : KeepsNodes v w
   pub used : w.used u ≡ v.used u
@@ -94,8 +94,8 @@ module _ (marks : Bool) (sz : Sizes) (ws : List ℕ) (used : ℕ → ℕ) (m : M
   alien c a x y e = d (let f : node_lock ws a ≡ node_lock ws c = ap (node_lock ws) e in omega arith)
 
   -- A step of `t` that respects the node locks preserves everything that `u` relies on. Proof by cases: `at_word` for
-  -- lock words, `at_link` for links of published nodes. A node that `t` writes or unlinks is locked by `t` and
-  -- therefore not by `u` (`alien`).
+  -- lock words, `at_link` for links of published nodes (nodes that have been in the chain). A node that `t` writes or
+  -- unlinks is locked by `t` and therefore not by `u` (`alien`).
   pub rely_of : (a : Action) (ws' : List ℕ) (used' : ℕ → ℕ) (ch : Option (Key × Bool))
       (c : WordStep marks sz t ws used a ws' used' ch)
       → Guarded marks sz t ws used a ws' used' ch c

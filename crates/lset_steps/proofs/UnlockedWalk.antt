@@ -48,7 +48,8 @@ module _ {v w : View} (g : KeepsNodes v w) where
   }
 
 module _ {marks : Bool} {sz : Sizes} {ws : List ℕ} {used : ℕ → ℕ} (m : Memory marks sz ws used) where
-  -- If node `a` is published and has a smaller key than the call's, `Spot` holds for `a` and the node after it.
+  -- If node `a` is published (has been in the chain) and has a smaller key than the call's, `Spot` holds for `a` and
+  -- the node after it.
   pub spot_behind : {key : ℕ} (a : ℕ) → (view sz ws used).published a → node_key ws a < key
       → Spot (view sz ws used) key a (node_link ws a / 2)
   spot_behind a p below = record { pred_published = p; below = below; curr_published = next_published marks sz ws used m a p }

@@ -1,6 +1,6 @@
--- Laws of lists whose `contains` makes only loads. With n threads of quota q and m opening keys, a `contains` takes at
--- most 2(nq + m) + 2 steps, whatever the other threads do. Each node that the call passes was in the chain at some
--- moment of the call.
+-- Laws of lists with a `contains` that makes only loads. With n threads of quota q and m opening keys, a `contains`
+-- takes at most 2(nq + m) + 2 steps, whatever the other threads do. Each node that the call passes was in the chain at
+-- some moment of the call.
 use Rattle.std.specs.Prelude.{◌≡◌, ◌≢◌, ℕ, zero, suc, ◌+◌, ◌*◌, ◌<◌, ◌≤◌, if◌then◌else◌, ◌==◌}
 use Rattle.lset_steps.specs.declared.Action.TheVariants.{Load}
 use Rattle.lset_steps.specs.declared.Event.{Event}
@@ -48,8 +48,8 @@ pub record HasPassed (T : Table) (op : Opening) (es : ℕ → Event) (k t a l : 
   pub loads : T.next (local_of (state_at T op es at) t) ≡ Load (link_index a)
   pub read : seen_next T (state_at T op es at) t ≡ l
 
--- Holds if a `contains` or a `ceiling` passes only nodes that were in the chain, with the link word that the call saw,
--- at some moment from the start of the call to the load.
+-- Each node that a `contains` or a `ceiling` passes was in the chain, with the link word that the call saw, at some
+-- moment from the start of the call to the load.
 abbrev pub WalkWasInChain : Table → Type 0
 WalkWasInChain T = (op : Opening) (last k t a l : ℕ) (es : ℕ → Event) → Run T op es last → k ≤ last
     → IsRead (last_call (log_of T op es) t k) → (p : HasPassed T op es k t a l)

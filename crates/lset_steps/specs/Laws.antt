@@ -122,8 +122,8 @@ pub record Lawful (T : Table) : Type 0 where
   pub unlinked_stays : (op : Opening) (last j k i : ℕ) (es : ℕ → Event) → Run T op es last → j ≤ k → k ≤ last
       → (views T op es j).published i
       → UnlinkedStays T.marks (views T op es j) (views T op es k) i
-  -- If a node is in the chain at moment `j`, its link at a later moment `k` is a link that the node had while it was in
-  -- the chain, at some moment from `j` to `k`.
+  -- If a node is in the chain at moment `j`, then at some moment from `j` to a later moment `k`, it is in the chain
+  -- with the link that it has at `k`.
   pub seen_before : (op : Opening) (last j k b : ℕ) (es : ℕ → Event) → Run T op es last → j ≤ k → k ≤ last
       → InChain (views T op es j) b
       → Seen (views T op es) j k b ((views T op es k).link b)

@@ -63,8 +63,8 @@ LockWords T = (op : Opening) (last k x : ℕ) (es : ℕ → Event) → Run T op 
     x < word_count (sizes op)
     → slice_index (state_at T op es k).words x ≡ holder T op es x k
 
--- Holds if in each step, an exchange on a lock word is an attempt to take the lock, and a store to a lock word stores
--- 0 and is made by the thread that holds the lock.
+-- In each step, an exchange on a lock word is an attempt to take the lock. A store to a lock word stores 0, and only
+-- the thread that holds the lock makes it.
 abbrev pub LockUses : Table → Type 0
 LockUses T = (op : Opening) (last k t : ℕ) (es : ℕ → Event) → Run T op es last → k < last → es k ≡ Go t
     → LockUse (state_at T op es k).words t (T.next (local_of (state_at T op es k) t))
@@ -90,8 +90,8 @@ abbrev pub FrozenNodes : Table → Type 0
 FrozenNodes T = (op : Opening) (last k i : ℕ) (es : ℕ → Event) → Run T op es last → k ≤ last → (views T op es k).published i
     → Freezes T op last es k i
 
--- [Seen in the past]: if a node was in the chain at moment j and its link word is read at a later moment k, then the
--- node was in the chain with this very link word at some moment from j to k.
+-- [Seen in the past]: if a node was in the chain at moment j, then at some moment from j to a later moment k, it was
+-- in the chain with the link word that it has at k.
 abbrev pub SeenInThePast : Table → Type 0
 SeenInThePast T = (op : Opening) (last j k b : ℕ) (es : ℕ → Event) → Run T op es last → j ≤ k → k ≤ last
     → InChain (views T op es j) b → Seen (views T op es) j k b ((views T op es k).link b)

@@ -1,4 +1,4 @@
--- [Machine] and [Run]: list sets as tables of steps, the states of a list, and runs, in which several threads take
+-- [Machine] and [Run]: list sets as tables of steps, the states of a list, and runs. In a run, several threads take
 -- single steps.
 use Rattle.std.specs.Prelude.{◌≡◌, ◌≢◌, ℕ, ◌<◌, ◌*◌, ◌+◌, ◌-◌, ◌/◌, ◌%◌, nat_lt, Bool, if◌then◌else◌, List, map, length, Option}
 use Rattle.std.specs.Prelude.{None, ◌==◌, slice_index, slice_index_or, slice_set, zero, suc}

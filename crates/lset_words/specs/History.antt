@@ -16,7 +16,7 @@ no_call = record { thread = 0; call = call.Contains (record { 0 = 0 }); begun = 
 abbrev pub call_numbered : List CallRecord → ℕ → CallRecord
 call_numbered history number = slice_index_or history number no_call
 
--- The conditions that each call of a history must meet on its own.
+-- The conditions on a single call of a history.
 pub record IsCall (threads : ℕ) (x : CallRecord) : Type 0 where
   pub of_a_thread : x.thread < threads
   pub counted : 0 < x.begun

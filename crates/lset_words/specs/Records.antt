@@ -59,7 +59,7 @@ HasOwnCalls order r = calls_by (thread_of r) order ≡ map (placed_by (thread_of
 
 -- Holds if the order has call `c` at the right place. `r` is the record of the thread before it made `c`. Before `c`,
 -- the calls of that thread in the order are exactly the own calls of `r`. After `c`, the order has no call of a thread
--- whose record was merged into `r`, directly or as part of another record.
+-- with a record that was merged into `r`, directly or as part of another record.
 pub record Follows (order : List Answered) (r : Record) (c : CallMade) : Type 0 where
   pub before : List Answered
   pub after : List Answered
@@ -76,6 +76,6 @@ KeepsItems order (gathered r g) = KeepsItems order r × HasOwnCalls order g × K
 
 -- Holds if the order agrees with the record. The calls of the record's thread in the order are the record's own calls,
 -- in sequence. The order also agrees with each record that was merged into this one. Each own call comes after all
--- calls of the threads whose records were merged before it.
+-- calls of the threads of the records that were merged before it.
 abbrev pub Keeps : List Answered → Record → Type 0
 Keeps order r = HasOwnCalls order r × KeepsItems order r

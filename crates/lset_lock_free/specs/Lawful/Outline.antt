@@ -63,7 +63,7 @@ pub data At (q t : ℕ) (vs : ℕ → View) (first now : ℕ) (v : View) (done :
   at1 : l.pc ≡ 1 → done ≡ false → At q t vs first now v done l
   at2 : l.pc ≡ 2 → done ≡ false → Spot v (target l.call) l.pred l.curr
       → Link vs first now (target l.call) l.pred l.curr t (v.used t) → At q t vs first now v done l
-  -- The case that the thread's last step unlinked the node between pred and curr. Now curr is the node after pred.
+  -- If the thread's last step unlinked the node between pred and curr, curr is now the node after pred.
   at2_now : l.pc ≡ 2 → done ≡ false → Spot v (target l.call) l.pred l.curr → first ≤ now → InChain v l.pred
       → v.link l.pred / 2 ≡ l.curr → At q t vs first now v done l
   at3 : l.pc ≡ 3 → done ≡ false → Spot v (target l.call) l.pred l.curr → v.published l.succ → v.link l.curr ≡ 2 * l.succ + 1

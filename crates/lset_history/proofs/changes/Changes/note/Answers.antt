@@ -8,13 +8,13 @@ use Rattle.lset_history.specs.Changes.{changes_in, AreKept}
 use Rattle.lset_history.proofs.ChangeNoted.{kept_beside, kept_listed, kept_present, kept_noted, has_after, others_after}
 use Rattle.lset_history.proofs.changes.Changes.note.Goals as goal
 
--- The case that the first allocation fails: `keys_at` and `keys_now` are unchanged.
+-- If the first allocation fails, the invariant still holds: `keys_at` and `keys_now` are unchanged.
 pub invariant_of-self : goal.invariant_of-self
 invariant_of-self c = kept_listed (changes_in c.self.inside.opening.items c.self.inside.moments) c.self.inside.keys_at c.insert.new.self
     c.self.inside.keys_now
     c.in_err-insert.ensures.err c.self.invariant
 
--- The case that the second allocation fails: only `keys_at` has a new entry.
+-- If the second allocation fails, the invariant still holds: only `keys_at` has a new entry.
 pub invariant_of-self-in_err-insert-2 : goal.invariant_of-self-in_err-insert-2
 invariant_of-self-in_err-insert-2 c = kept_present (changes_in c.self.inside.opening.items c.self.inside.moments) c.insert.new.self c.self.inside.keys_now
     c.insert-2.new.self
@@ -22,7 +22,7 @@ invariant_of-self-in_err-insert-2 c = kept_present (changes_in c.self.inside.ope
     (kept_beside (changes_in c.self.inside.opening.items c.self.inside.moments) c.args.key c.args.at (rw (← c.self.view_is) at c.requires.later)
     c.self.inside.keys_at c.insert.new.self c.self.inside.keys_now c.in_ok-insert.ensures.updates c.self.invariant)
 
--- The case that recording the moment fails: `keys_at` and `keys_now` have a new entry each.
+-- If recording the moment fails, the invariant still holds: `keys_at` and `keys_now` have a new entry each.
 pub invariant_of-self-in_err-push_moment : goal.invariant_of-self-in_err-push_moment
 invariant_of-self-in_err-push_moment c = subst (λ d. AreKept d c.insert.new.self c.insert-2.new.self)
     (sym (c.in_err-push_moment.ensures.unchanged c.self.inside.opening.items))
@@ -31,7 +31,8 @@ invariant_of-self-in_err-push_moment c = subst (λ d. AreKept d c.insert.new.sel
     (kept_beside (changes_in c.self.inside.opening.items c.self.inside.moments) c.args.key c.args.at (rw (← c.self.view_is) at c.requires.later)
     c.self.inside.keys_at c.insert.new.self c.self.inside.keys_now c.in_ok-insert.ensures.updates c.self.invariant))
 
--- The case in which a key was removed: the change is recorded, but the key has not been removed from `keys_now` yet.
+-- If the key was removed, the invariant still holds after the change is recorded and the key is removed from
+-- `keys_now`.
 pub invariant_of-self-then-not-present : goal.invariant_of-self-then-not-present
 invariant_of-self-then-not-present c = kept_noted (changes_in c.self.inside.opening.items c.self.inside.moments) c.args.key c.args.at
     (rw (← c.self.view_is) at c.requires.later)
