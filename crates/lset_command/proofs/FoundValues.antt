@@ -45,8 +45,8 @@ first_and_rest : (name : Text) (left after : List Text) → Some name ≡ slice_
 first_and_rest name [] after first rest = absurd cc
 first_and_rest name (x ∷ xs) after first rest = cc
 
--- Loop step: collecting the values of the next argument preserves the invariant that the values found so far, followed
--- by the values of the remaining arguments, are all values.
+-- Loop step for the next argument. The invariant: the values found so far, followed by the values of the remaining
+-- arguments, are all values.
 pub one_more : (rows : List Row) (all had has : List Text) (name : Text) (left after : List Text) → had
     ++ values_by_names rows left ≡ all
     → Some name ≡ slice_get left 0 → after ≡ drop 1 left → has ≡ had ++ values_by name rows → has

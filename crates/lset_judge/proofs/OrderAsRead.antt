@@ -1,5 +1,5 @@
--- Proof: if an order explains the calls, it also explains the calls as the judge reads them, with the replies that the
--- judge reads.
+-- Proof: an order that explains the calls also explains the calls as the judge reads them. The judge reads each
+-- completed call as one that returns true or false.
 use Rattle.std.proofs.Common.{◌≡◌, ◌≢◌, ℕ, ◌<◌, ◌≤◌, true, List, [], ◌∷◌, ◌++◌, refl, sym, arith, subst, length, get_or, ap, ◌∙◌, map, take, drop}
 use Rattle.std.proofs.Common.{◌+◌, inl, inr, ◌⊎◌, Bool, false}
 use Rattle.std.specs.Prelude.{Option, Some, None, IfSome, IsSomeAnd, ◌==◌, nat_lt, if◌then◌else◌, All, Contains as Has}
@@ -162,7 +162,8 @@ pub next_thread : (threads i : ℕ) (d x : CallRecord) (xs : List CallRecord) �
 next_thread threads i d x xs history low so =
     let a = (history.each i d low).of_a_thread in let e = ap (λ (y : CallRecord). y.thread) so in omega (arith, a, e)
 
--- ---- If no order explains the calls as the judge reads them, no order explains the calls themselves
+-- ---- If no order explains the calls as the judge reads them (with the replies true and false), no order explains the
+-- calls themselves
 
 ceiling_found : (k : ℕ) (x : Key) (keys : List ℕ) → ceiling_in k keys ≡ At x → has_key x.0 keys ≡ true
 ceiling_found k x [] e = absurd (let f : Nothing ≡ At x = e in cc)
@@ -196,8 +197,8 @@ ceiling_other k (y ∷ ys) e = elim (cases_Bool (nat_lt y k)) [
 abbrev Fits : ℕ → SetState → ℕ → Call → Reply → Type 0
 Fits quota s t c r = (reply_to quota s t (call_as c r) ≡ reply_as c r) × (after_call s t (call_as c r) (reply_as c r) ≡ after_call s t c r)
 
--- The judge can read another call in place of an `add` (see `call_as`). The sequential set then returns the reply that
--- the judge reads, and is in the same state as after the `add`.
+-- If an `add` is read as another call (see `call_as`), the sequential set returns the reply as the judge reads it, and
+-- is in the same state as after the `add`.
 add_fits : (quota : ℕ) (s : SetState) (t : ℕ) (k : Key) (b c : Bool) → has_key k.0 s.keys ≡ b → (count_of s t == quota) ≡ c
     → Fits quota s t (Add k) (reply_to quota s t (Add k))
 add_fits quota s t k true c h f = rw h (rw h refl, refl)

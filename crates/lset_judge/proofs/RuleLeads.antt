@@ -101,9 +101,9 @@ once b = if b then 1 else 0
 abbrev pub at : Bool → ℕ → List ℕ → List ℕ → State
 at b t ps ks = record { there = b; turned = t; puts = ps; takes = ks }
 
--- Holds if the timeline (state s) has fewer pending changes left than the judge's rule (state g), the test of one
--- key's calls. Only changes that would change the key's state in g count. A timeline is a choice of the moments when
--- changes take effect.
+-- Holds if the timeline (state s) has fewer pending changes left than the judge's rule (state g). Only changes that
+-- would change the key's state in g count. The rule is the test of one key's calls. A timeline is a choice of the
+-- moments when changes take effect.
 abbrev pub IsFurther : State → State → Type 0
 IsFurther g s = length (changes_to (not g.there) s) < length (options g)
 

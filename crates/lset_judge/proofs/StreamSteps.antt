@@ -46,8 +46,8 @@ event_before last k j [] x low later = passed_over last k j x [] (λ t. (
 ))
 event_before last k j (y ∷ ys) x low later = one_before last k j y (ys ++ x ∷ []) ys (event_before last k j ys x low later)
 
--- The event of key k when the new call x starts: the start of x if x is on k, else `idle`. No other call may start or
--- end at this moment.
+-- The event of key k when the new call x starts: the start of x if x is on k, else `idle`. No other call starts or
+-- ends at this moment.
 pub event_begun : (last k : ℕ) (xs : List CallRecord) (x : CallRecord)
     → AllByRecursion (λ (y : CallRecord). (y.begun ≢ x.begun) × IfSome y.ended (λ (e : ℕ × Reply). e.0 ≢ x.begun)) xs
     → event_at last k (xs ++ x ∷ []) x.begun

@@ -15,9 +15,9 @@ use Rattle.lset_judge.specs.Events.{kind_if}
 use Rattle.lset_judge.specs.Rest.{has_ended, turns_to}
 use Rattle.lset_judge.specs.Clash.{records, other, leaves_if, needs_if, IsOf}
 
--- A count (calls on a key that are too many for any order) covers the time from `since` to `until`. If `since` is None,
--- the key's opening state counts as a first call, and is `was`. If `until` is None, the key's final state counts as a
--- last call, and is not `was`. `also` returns the number of these additional calls: 1 for None, else 0.
+-- A count (calls on a key that are too many for any order) covers the time from `since` to `until`. If `since` is
+-- None, the key's opening state, `was`, counts as a first call. If `until` is None, the key's final state, which is
+-- not `was`, counts as a last call. `also` returns the number of these additional calls: 1 for None, else 0.
 abbrev pub also : Option ℕ → ℕ
 also None = 1
 also (Some moment) = 0

@@ -154,9 +154,9 @@ abbrev pub AreOverBy : List CallRecord → ℕ → Presence → ℕ → Type 0
 AreOverBy calls key there moment = All (λ (x : CallRecord). (key_of x.call).0 ≡ key → turns_to there (kind_if x.call x.ended) ≡ true
     → until_if behind_all x.begun x.ended ≤ moment) calls
 
--- Holds if the stored facts about a key are correct. If they store a call, this call is one of `calls` and left the
--- key in the state `was`; otherwise the set opened with the key in this state. All changes to each state end by the
--- moment that the facts store for this state.
+-- The facts that the judge stores about a key are correct. If they store a call, this call is one of `calls` and left
+-- the key in the state `was`. If they store no call, the set opened with the key in this state. All changes to each
+-- state end by the moment that the facts store for this state.
 pub record AreFacts (opening : List ℕ) (calls : List CallRecord) (key : ℕ) (f : Facts) : Type 0 where
   pub was : WasSo calls key (presence (has_key key opening)) f.was (record_if (first_of key f))
   pub over : (there : Presence) → AreOverBy calls key there (until_of there f)
@@ -272,7 +272,8 @@ pub record IsFoundLeft (key : ℕ) (f : Facts) (left : Presence) (c : Clash) : T
   pub standing : IsStanding key f
 
 -- How the start of a call changes the facts that the judge stores about the keys: as `begun_by` describes for the key
--- of the call, and not at all for any other key.
+-- of the call, and not at all for any other key. After a key has failed the judge's rule (the test of one key's
+-- calls), this is required only of the facts about this key. After a clash has been found, nothing is required.
 abbrev pub BeginIsKnown : States → ℕ → Event → States → Option Failed → Option Clash → Type 0
 BeginIsKnown before key event after None clash = (facts_for after key ≡ begun_by event (facts_for before key))
     × ((k : ℕ) → k ≢ key → facts_for after k ≡ facts_for before k)

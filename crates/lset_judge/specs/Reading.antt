@@ -39,8 +39,8 @@ read_as x = record { thread = x.thread; call = call_if x.call x.ended; begun = x
 
 -- Holds if a verdict on a history is correct. Linearizable: some order explains the history without a quota and leaves
 -- the keys. NotLinearizable: no order does, with any quota, and the reason is correct for the calls as the judge reads
--- them. Undecided: some order explains the calls as the judge reads them, but a completed call is a `ceiling` or
--- returned neither true nor false.
+-- them (each with the reply true or false). Undecided: some order explains the calls as the judge reads them, but a
+-- completed call is a `ceiling` or returned neither true nor false.
 abbrev pub IsJudged : HistoryValue → List ℕ → Judged → Type 0
 IsJudged h keys judged.Linearizable = IsExplained (without_quota h) keys
 IsJudged h keys (judged.NotLinearizable refusal clash) = ((quota : ℕ) → IsUnexplained (with_quota quota h) keys)

@@ -90,8 +90,8 @@ module _ (m : ℕ) (ch : Option Change) (a : Option Reply) where
   ends_done u [] = refl
   ends_done u (c ∷ cs) = ap (λ l. ended_record u c ∷ l) (ends_done u cs)
 
--- A step of thread u changes the thread's calls in the history just as it changes the thread's completed calls and
--- pending call.
+-- A step of thread u changes the thread's calls in the history in the same way as its completed calls and its pending
+-- call.
 open_step : (m u : ℕ) (ch : Option Change) (a : Option Reply) (done : List OwnCall) (o : Option PendingCall)
     → map (ends m ch a) (thread_records u done o) ≡ thread_records u (done ++ ending a o m) (under_after a o)
 open_step m u ch a done o = map-append (ends m ch a) (map (ended_record u) done) (open_records u o)

@@ -258,7 +258,7 @@ lazy_calls_end = calls_end lazy lazy_lawful shape lazy_steps shows
 pub lazy_gets_on : SomeThreadGetsOn lazy
 lazy_gets_on = gets_on lazy lazy_lawful shape lazy_steps shows
 
--- Calls that hold locks or have decided to change the list are `add` and `remove`. Their steps are counted.
+-- Only an `add` or a `remove` holds locks or decides to change the list. The steps of these calls are counted.
 late_counts : (reads : Bool) (c : Call) → (IsRead c → ⊥) → counted reads c ≡ 1
 late_counts reads (Add k) no_read = refl
 late_counts reads (Remove k) no_read = refl

@@ -47,7 +47,7 @@ pub record Stands (v : View) (t : ℕ) (l : Local) : Type 0 where
   pub takes_out : l.pc ≡ 12 → Between v t (target l.call) l.pred l.curr × (v.link l.curr ≡ 2 * l.succ + 1)
   pub ceiling : 23 ≤ l.pc → l.call ≡ Ceiling (key_of l.call)
 
--- The proof obligations of a list, about its step table: row 11 marks curr while the thread holds both locks, row 12
+-- Proof obligations of a list about its step table: row 11 marks curr while the thread holds both locks, row 12
 -- unlinks curr, and only a `ceiling` is at row 23 or later.
 pub record Marking (T : Table) (At : Outline) : Type 1 where
   pub lists : T.marks ≡ true

@@ -134,8 +134,8 @@ module _ (S : Shape) (size : ℕ) where
   Stores ws l w ws' f = Then (node_key ws) ws l (λ x. x ≢ w) (node_key ws') ws' f
 
   module _ (T : Table) (sz : Sizes) (ws : List ℕ) (t : ℕ) (l : Local) where
-    -- Holds if the step is an attempt to take lock w. This lock has a lower rank than all locks that the thread can
-    -- hold. If the attempt fails, the thread repeats it.
+    -- Holds if the step is an attempt to take lock w. This lock has a lower rank (number of nodes with greater keys)
+    -- than all locks that the thread can hold. If the attempt fails, the thread repeats it.
     pub record Tries (w from to : ℕ) : Type 0 where
       pub is_lock : IsLockWord w
       pub inside : w < word_count sz

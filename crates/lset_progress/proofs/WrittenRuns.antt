@@ -173,8 +173,8 @@ module _ (T : Table) (events : List Event) (e : Event) (es : List Event) (led : 
           let x : SomeEnds count T op run m (most (sizes op)) = law op m (most _) run (runs_on (m + most _)) (omega arith) in
           no_reply x.at x.ends.0 x.from (ap (λ z. (told T (state_at T op run x.at) z).answer) x.own ∙ x.ends.1)
 
-    -- If each thread takes one of the steps that repeat forever, the run is fair, and the list is not free from
-    -- deadlock.
+    -- If each thread takes at least one of the steps that repeat forever, the run is fair, and the list is not free
+    -- from deadlock.
     module _ (calls : Call → ℕ) (turns : (t : ℕ) → t < 2 → (d : ℕ) × (turn e es [] d ≡ Go t)) where
       is_fair : IsFair T op run
       is_fair = record {

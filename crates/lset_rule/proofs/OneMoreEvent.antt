@@ -147,8 +147,8 @@ module _ (T : Table) (op : Opening) (es : ℕ → Event) (k t : ℕ) where
       let d = other_done s (es k) (under_at (log_of T op es) t k) (done_at (log_of T op es) t k) ne in
       λ i. here (l i) (u i) (d i)
 
--- Holds if a thread's registers match its pending call. If no call is pending, they are at row 0 of the step table,
--- otherwise at another row, with the pending call.
+-- Holds if a thread's registers match its pending call. If no call is pending, the thread is at row 0 of the step
+-- table. Otherwise it is at another row, and its registers contain the pending call.
 abbrev pub Tied : Option PendingCall → Local → Type 0
 Tied None l = l.pc ≡ 0
 Tied (Some u) l = (l.pc ≢ 0) × (l.call ≡ u.call)

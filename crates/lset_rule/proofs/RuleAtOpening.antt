@@ -22,8 +22,8 @@ use Rattle.lset_rule.specs.Runs.{here, at_end, IsRunOf, StartsWith}
 use Rattle.lset_rule.specs.Rule.{Holds, MatchesLog, opener, asides_from, left_view, right_view}
 use Rattle.lset_rule.specs.Views.{Stands, HasThread, HasAside, AreIdle, IsIdle}
 
--- Returns the view of a new seat (its knowledge of the run). The seat was just split off for thread t, and has not
--- called yet.
+-- Returns the view of a new seat (its knowledge of the run). The seat (a right to call the set) was just split off for
+-- thread t, and has not called yet.
 abbrev pub fresh : Opening → ℕ → View
 fresh k t = record (opener k) { thread = t; local = idle k.quota t; others = []; past = Fresh t }
 

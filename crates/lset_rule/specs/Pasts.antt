@@ -41,8 +41,8 @@ GatheredBefore n (Fresh t) = Unit {0}
 GatheredBefore n (Called' p r c) = GatheredBefore n r
 GatheredBefore n (Gathered' p r q g) = GatheredBefore n r × Before n g
 
--- Holds if records were merged in at the right time. If a record was merged into the seat's record before a call of
--- the seat's own thread, all calls in the merged record ended before this call started.
+-- Holds if records were merged in at the right time. If another record was merged into a record before a call of the
+-- record's own thread, all calls in the merged record ended before this call started.
 abbrev pub InOrder : Past → Type 0
 InOrder (Fresh t) = Unit {0}
 InOrder (Called' p r c) = InOrder r × GatheredBefore c.begun r

@@ -54,8 +54,8 @@ pub record Holds (m : Table) (k : Opening) (s : table.State (Unit {0}) View) : T
   pub placed : (t : ℕ) → t < k.threads → StandsIn s.views (seat_of t) t
   pub known : (j : ℕ) (v : View) → get_elem? s.views j ≡ some v → StartsWith log v.seen
 
--- Returns the spare threads of the first seat: n idle threads, numbered from t. The first seat has all threads of the
--- set: it calls as the last thread, and all other threads are spare.
+-- Returns the spare threads of the first seat: n idle threads, numbered from t. The first seat (right to call) has all
+-- threads of the set: it calls as the last thread, and all other threads are spare.
 abbrev pub asides_from : Opening → ℕ → ℕ → List SpareThread
 asides_from k t zero = []
 asides_from k t (suc n) = record { thread = t; local = idle k.quota t } ∷ asides_from k (t + 1) n
@@ -74,8 +74,9 @@ opener k = record {
   theirs = [];
 }
 
--- The views of two seats (their knowledge of the run) after a split. The old seat loses its first spare thread. The new
--- seat calls as this thread, has an empty record, and has seen the same events as the old seat.
+-- The views of two seats (their knowledge of the run) after a split. The old seat loses its first spare thread. The
+-- new seat calls as this thread, has an empty record, and has seen the same events as the old seat. A seat is the
+-- right to call as one thread.
 abbrev head_aside : View → List SpareThread → View
 head_aside v [] = record v { spent = true }
 head_aside v (o ∷ os) = record v {
@@ -119,8 +120,8 @@ joined v w = record v {
 abbrev pub nobody : View
 nobody = record (opener (record { threads = 0; quota = 0; keys = [] })) { spent = true }
 
--- The view of a new receipt (its knowledge of the run). It has no threads, and has seen the same events as the
--- seat that issued the receipt. The view of this seat does not change.
+-- The view of a new receipt (its knowledge of the run). It has no threads, and has seen the same events as the seat
+-- (right to call) that issued the receipt. The view of this seat does not change.
 abbrev pub without_thread : View → View
 without_thread v = record v { spent = true }
 

@@ -1,4 +1,4 @@
--- Proof that every run of a machine that satisfies its law has an account, a record of the effect of each event on the
+-- Proof: if a machine satisfies its law, each of its runs has an account, a record of the effect of each event on the
 -- set.
 use Rattle.std.specs.Prelude.{◌≡◌, ◌≢◌, ℕ, ◌<◌, ◌≤◌, Bool, true, false, ◌==◌, if◌then◌else◌, Option, Some, None, length, refl}
 use Rattle.std.proofs.Common.{arith, inl, inr, sym, ◌∙◌, ap, subst, zero, suc}

@@ -29,13 +29,13 @@ use Rattle.lset_steps.specs.Rows.{decided_on, goes_to, own_slot}
 use Rattle.lset_coarse.specs.Coarse.{coarse, targets}
 
 -- The protocol of CoarseList: as long as another thread holds the lock, a step of thread `t` changes neither the words
--- nor the numbers of used slots.
+-- nor the numbers of used slots (nodes for adds).
 abbrev pub LeavesHolder : Sizes → ℕ → List ℕ → (ℕ → ℕ) → Action → List ℕ → (ℕ → ℕ) → Option (Key × Bool) → Type 0
 LeavesHolder sz t ws used a ws' used' change = WordStep false sz t ws used a ws' used' change
     × ((u : ℕ) → u ≢ t → slice_index ws 0 ≡ u + 1 → (ws' ≡ ws) × (used' ≡ used))
 
 -- Holds if two views (the list at two moments) agree on everything that the holder of the lock relies on: keys, links,
--- the lock, and the numbers of used slots.
+-- the lock, and the numbers of used slots (nodes for adds).
 pub record Same (v w : View) : Type 0 where
   pub keys : w.key ≡ v.key
   pub links : w.link ≡ v.link
