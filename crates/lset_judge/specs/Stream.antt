@@ -145,8 +145,8 @@ FailsFirst h key (Some moment) = HasFailed h key moment × ((k m : ℕ) → HasF
 
 -- Holds if a verdict is correct. Linearizable: some order explains the calls and leaves the keys. NotLinearizable: no
 -- order does, with any quota. The calls on the key that the reason (`refusal`) names suffice to show this
--- (`IsRefusedBy`). This key is the first to fail the judge's rule (the test of one key's calls), at the reason's
--- moment.
+-- (`IsRefusedBy`). If the reason has a moment, this key is the first to fail the judge's rule (the test of one key's
+-- calls), at this moment. Otherwise no key fails the rule.
 abbrev pub IsStreamVerdict : HistoryValue → List ℕ → StreamVerdict → Type 0
 IsStreamVerdict h keys Linearizable = IsExplained h keys
 IsStreamVerdict h keys (NotLinearizable refusal) =
