@@ -47,7 +47,7 @@ abbrev pub with_arguments : App → List Argument → App
 with_arguments a [] = a
 with_arguments a (argument ∷ arguments) = with_arguments (with_rule a (rule_by argument.0 argument.1)) arguments
 
--- The rules of the command in this row.
+-- Returns the parser's rules for the command in this row.
 abbrev pub app_in : TableRow → App
 app_in row = with_arguments (new_app row.1) row.2
 

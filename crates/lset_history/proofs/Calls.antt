@@ -37,8 +37,8 @@ pub record Beginning (r : Run) (thread : ℕ) (call : Call) (begun : ℕ) : Type
   pub is : begun ≡ suc before
   pub entry : r.log before ≡ began thread call
 
--- Holds if in the log entry just before the moment `changed`, this call changes the set, and the call is allowed to
--- make this change.
+-- Holds if this call changes the set in the log entry just before the moment `changed`, and is allowed to make this
+-- change.
 pub record ChangeAt (r : Run) (thread : ℕ) (call : Call) (begun changed : ℕ) : Type 0 where
   pub before : ℕ
   pub is : changed ≡ suc before
@@ -48,7 +48,7 @@ pub record ChangeAt (r : Run) (thread : ℕ) (call : Call) (begun changed : ℕ)
   pub entry : r.log before ≡ stepped thread (Some change) reply
   pub may : MayChange r.quota (r.counts before thread) call false (Some change)
 
--- Holds if in the log entry just before the moment `end`, this call ends with a correct reply. If the call makes a
+-- Holds if this call ends with a correct reply in the log entry just before the moment `end`. If the call makes a
 -- change, it makes the change in this entry or earlier.
 pub record EndAt (r : Run) (thread : ℕ) (call : Call) (begun : ℕ) (changed : Option ℕ) (end : ℕ) (reply : Reply) : Type 0 where
   pub before : ℕ

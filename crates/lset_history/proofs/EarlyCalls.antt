@@ -25,8 +25,8 @@ pub record EndsSmallest (calls : List CallRecord) (order : List Placed) (i : ℕ
   pub below : (moment : ℕ) → IsSomeAnd smallest (λ end. end < moment) → EndsFrom calls order i moment
   pub ends : (moment : ℕ) → EndsFrom calls order i moment → IsSomeAnd smallest (λ end. end < moment)
 
--- The first call of the order, from index `i` on, that is too early, because a later call of the order ended before
--- this call began.
+-- The first call of the order, from index `i` on, that is too early: a later call of the order ended before this call
+-- began.
 pub record EarlyFrom (calls : List CallRecord) (order : List Placed) (i number : ℕ) : Type 0 where
   pub place : ℕ
   pub from : i ≤ place

@@ -50,8 +50,8 @@ EveryCallHasAPlace = (op : Opening) (last : ℕ) (log : Log) (lists : ℕ → Li
     → Account op last log (contents_of_lists lists) counts
     → (order : List Placed) × IsPlacement op.quota (calls_at log last) (contents_of_lists lists) counts order
 
--- Holds if at each moment of a run with an account (each event is a valid start of a call or a valid step), the calls
--- so far form a history.
+-- At each moment of a run with an account (each event is a valid start of a call or a valid step), the calls so far
+-- form a history.
 abbrev pub LogsTellHistories : Type 0
 LogsTellHistories = (op : Opening) (last : ℕ) (log : Log) (lists : ℕ → List ℕ) (counts : Counts)
     → Account op last log (contents_of_lists lists) counts → (k : ℕ) → k ≤ last → IsHistory op.threads (history_at log k)
@@ -63,15 +63,15 @@ IncreasesFor (call.Remove k) keys = Unit {0}
 IncreasesFor (call.Contains k) keys = Unit {0}
 IncreasesFor (call.Ceiling k) keys = IsStrictlyIncreasing keys
 
--- Holds if [Fits] agrees with the sequential set: a reply fits these keys and this number of successful adds if and
--- only if the set returns the reply and does not change.
+-- [Fits] agrees with the sequential set: a reply fits these keys and this number of successful adds if and only if the
+-- set returns the reply and does not change.
 abbrev pub FitsAreReplies : Type 0
 FitsAreReplies = (quota thread count : ℕ) (keys : List ℕ) (s : SetState) (call : Call) (reply : Reply)
     → ((j : ℕ) → Contains keys j ↔ Contains s.keys j) → IncreasesFor call s.keys → count_of s thread ≡ count
     → Fits quota (content_of keys) count call reply
     ↔ ((reply_to quota s thread call ≡ reply) × (after_call s thread call reply ≡ s))
 
--- Holds if a run has at most one placement, the order of its calls by their linearization points.
+-- A run has at most one placement (an order of its calls by their linearization points).
 abbrev pub PlacementIsOneOrder : Type 0
 PlacementIsOneOrder = (quota : ℕ) (calls : List TracedCall) (lists : ℕ → List ℕ) (counts : Counts)
     (order other : List Placed)

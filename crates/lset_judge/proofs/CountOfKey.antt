@@ -539,8 +539,8 @@ is_count_if calls there left c counted listed backs known begin until opens clos
       backs = same;
     }
 
--- If some calls on a key are a count (too many calls for any order), no order explains the key's calls, whatever the
--- quota is.
+-- If a key has a count (calls that are too many for any order), no order explains the key's calls, whatever the quota
+-- is.
 pub count_has_none : (threads key : ℕ) (there : Presence) (left : Option Presence) (was : Presence) (since til : Option ℕ) (counted calls : List CallRecord)
     → IsHistory threads calls → IsCountOf calls key there left was since til counted → HaveNone threads key there left calls
 count_has_none threads key there left was since til counted calls history c quota keys leaves =

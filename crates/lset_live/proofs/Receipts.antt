@@ -83,7 +83,7 @@ ended_stays T k log es (rest, is) n y d ended at =
     (ap (λ (l : List TracedCall). get_elem? (map record_of l) n)
     (calls_agree (log_by T k es) (log_by T k (es ++ rest)) (length es) (log_of_first T k es rest)) ∙ at))
 
--- ---- Lemmas about two calls in a history if the first ended before the second started
+-- ---- Lemmas about two calls in a history, where the first ended before the second started
 numbered : (H : List CallRecord) (n : ℕ) (y : CallRecord) → get_elem? H n ≡ some y → (call_numbered H n ≡ y) × (n < length H)
 numbered [] n y at = absurd (some-ne-none y (sym at))
 numbered (x ∷ H) zero y at = (some-injective x y at, omega arith)

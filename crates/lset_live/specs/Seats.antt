@@ -1,5 +1,5 @@
--- The values in contracts: of running sets, of seats (rights to call as one thread), and of receipts (the events that a
--- seat had seen).
+-- The values of running sets, seats (rights to call as one thread) and receipts (the events that a seat had seen), as
+-- contracts use them.
 use Rattle.std.specs.Prelude.{◌≡◌, ◌<◌, ◌≤◌, ◌⊎◌, length, ℕ, Bool, true, false, List, [], ◌∷◌, Option, Some, None, map}
 use Rattle.std.specs.List.{range_with_len}
 use Rattle.std.specs.List.Sorted.{IsStrictlyIncreasing}

@@ -36,7 +36,7 @@ pub record HasArrived (l : Local) : Type 0 where
   pub upto : l.pc ≤ 14
   pub there : l.node ≡ l.pred
 
--- Holds if in the event after moment `i`, thread `t` releases the lock of node `a` by a store of 0.
+-- Holds if thread `t`, in the event after moment `i`, releases the lock of node `a` by a store of 0.
 pub record GivesBack (op : Opening) (es : ℕ → Event) (i t a : ℕ) : Type 0 where
   pub step : es i ≡ Go t
   pub stores : optimistic.next (held_at op es i t) ≡ Store (lock_index a) 0
@@ -77,8 +77,8 @@ abbrev pub ValidatedWalk : Type 0
 ValidatedWalk = (op : Opening) (last t : ℕ) (es : ℕ → Event) → Run optimistic op es last → t < op.threads →
     WalksAreValid op last t es
 
--- Holds if at some moment from `first` to just before `now`, thread `t` loaded pred's link at row 8 and saw that the
--- link leads to curr. The reply is correct at this moment.
+-- Holds if, at some moment from `first` to just before `now`, thread `t` loaded pred's link at row 8 of the step
+-- table, saw that the link leads to curr, and the reply was correct.
 pub record FitsAtALoad (op : Opening) (es : ℕ → Event) (first now t : ℕ) (call : Call) (reply : Reply) : Type 0 where
   pub at : ℕ
   pub from : first ≤ at

@@ -40,8 +40,8 @@ module _ (T : Table) (op : Opening) (es : ℕ → Event) (k t : ℕ) where
     ];
   }
 
--- A predicate that says: a thread's pending call ends within n steps. The arguments are the sizes of the list, its
--- state, the thread, and n.
+-- A predicate with this meaning: a thread's pending call ends within n steps. The arguments are the sizes of the list,
+-- its state, the thread, and n.
 abbrev pub Stages : Type 1
 Stages = Sizes → State → ℕ → ℕ → Type 0
 

@@ -68,7 +68,7 @@ module _ (T : Table) (law : Lawful T) (S : Shape) (most : Sizes → ℕ) (shows 
   abbrev count : State → Event → ℕ
   count = moves calls T
 
-  -- Holds if in some number of events after moment k, a counted step ends its call, or at least m counted steps are
+  -- Holds if, in some number of events after moment k, a counted step ends its call or at least m counted steps are
   -- taken. A counted step is not a failed attempt to take a lock.
   abbrev Gather : ℕ → ℕ → Type 0
   Gather m k = (n : ℕ) × (SomeEnds (moves calls T) T op es k n ⊎ (m ≤ steps_among (moves calls T) T op es k n))

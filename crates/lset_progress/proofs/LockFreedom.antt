@@ -153,8 +153,8 @@ module _ (reads : Bool) (op : Opening) (last k : ℕ) (es : ℕ → Event) (r : 
     within = f.within;
   }
 
--- A counted step decreases the potential by one, unless the step ends its call. No other step increases the potential.
--- The potential is a bound on the counted steps until a call ends.
+-- A counted step decreases the potential by at least 1, unless the step ends its call. No other step increases the
+-- potential. The potential is a bound on the counted steps until a call ends.
 module _ (reads : Bool) (op : Opening) (last k : ℕ) (es : ℕ → Event) (r : Run lock_free op es last) (below : k < last) (t : ℕ)
     (en : Enabled (state_at lock_free op es k) (Go t)) (p : ℕ) (f : Phase reads (sizes op) (state_at lock_free op es k) p) where
   abbrev S : State

@@ -37,7 +37,7 @@ pub record TakesOut (threads : ℕ) (locals : ℕ → Local) (b : ℕ) : Type 0 
   pub row : (locals by).pc ≡ 12
   pub node : (locals by).curr ≡ b
 
--- Holds if for each marked node of the chain, some thread is about to unlink this node.
+-- Holds if, for each marked node of the chain, some thread is about to unlink this node.
 abbrev pub Marked : ℕ → List ℕ → (ℕ → Local) → Type 0
 Marked threads ws locals = (b : ℕ) → Path (node_link ws) 0 b → node_link ws b % 2 ≡ 1 → TakesOut threads locals b
 

@@ -1,6 +1,6 @@
--- Proof by a potential, a bound on the counted steps until a call ends. If each counted step decreases the potential by
--- one or ends its call, and no other event increases the potential, then among sufficiently many counted steps at least
--- one ends its call.
+-- Proof by a potential, a bound on the counted steps until a call ends. If each counted step ends its call or
+-- decreases the potential by at least 1, and no other event increases the potential, then among sufficiently many
+-- counted steps at least one ends its call.
 use Rattle.std.specs.Prelude.{◌≡◌, ℕ, ◌+◌, ◌<◌, ◌≤◌, ◌⊎◌, Bool, true, false, refl}
 use Rattle.std.proofs.Common.{arith, inl, inr, subst, zero, suc}
 use Rattle.lset_words.specs.declared.Call.{Call}

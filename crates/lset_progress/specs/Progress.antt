@@ -113,7 +113,7 @@ pub record SomeEnds (count : State → Event → ℕ) (T : Table) (op : Opening)
   pub counts : count (state_at T op es at) (es at) ≡ 1
   pub ends : Answers T (state_at T op es at) thread
 
--- Holds if among any `most` successive counted steps of a run, at least one ends its call. `count` returns 1 for a
+-- Holds if, among any `most` successive counted steps of a run, at least one ends its call. `count` returns 1 for a
 -- counted step, else 0.
 abbrev pub EndsAmong : (State → Event → ℕ) → Table → (Sizes → ℕ) → Type 0
 EndsAmong count T most = (op : Opening) (k n : ℕ) (es : ℕ → Event) → Run T op es (k + n)

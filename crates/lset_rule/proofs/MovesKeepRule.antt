@@ -30,7 +30,7 @@ use Rattle.lset_rule.specs.Calls.{gone_view, begun_view, record_after, Goes, Sta
 use Rattle.lset_rule.proofs.RecordsOfRuns.{still_quiet, quiet_append, starts_more, asides_stay, before_more, after_calls, after_calls_other}
 use Rattle.lset_rule.proofs.RecordsOfRuns.{after_root, after_apart, after_in, after_in_order, after_before, BegunBy, begun_by, after_in_time}
 
--- Holds if after the run of these events, thread t has a pending call and the registers l.
+-- Holds if thread t has a pending call and the registers l after the run of these events.
 abbrev pub IsAt : Table → Opening → List Event → ℕ → Local → Type 0
 IsAt m k es t l = UnderWay m k (event_at es) (length es) t × (local_of (end_of m k es) t ≡ l)
 

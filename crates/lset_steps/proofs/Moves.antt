@@ -85,21 +85,21 @@ pub record Course (vs : ℕ → View) (n : ℕ) : Type 0 where
   pub goes : (t : ℕ) → t < n → KeepsNodes (vs t) (vs (t + 1))
   pub marked : (t : ℕ) → t < n → KeepsMarked (vs t) (vs (t + 1))
 
--- Holds if at some moment from `first` to `now`, node b was in the chain.
+-- Holds if node b was in the chain at some moment from `first` to `now`.
 pub record InPast (vs : ℕ → View) (first now b : ℕ) : Type 0 where
   pub at : ℕ
   pub from : first ≤ at
   pub upto : at ≤ now
   pub in_chain : InChain (vs at) b
 
--- Holds if at some moment from `first` to `now`, key k was in the set.
+-- Holds if key k was in the set at some moment from `first` to `now`.
 pub record Had (vs : ℕ → View) (first now k : ℕ) : Type 0 where
   pub at : ℕ
   pub from : first ≤ at
   pub upto : at ≤ now
   pub has : InContent (vs at) k
 
--- Holds if at some moment from `first` to `now`, key k was not in the set.
+-- Holds if key k was not in the set at some moment from `first` to `now`.
 pub record Lacked (vs : ℕ → View) (first now k : ℕ) : Type 0 where
   pub at : ℕ
   pub from : first ≤ at

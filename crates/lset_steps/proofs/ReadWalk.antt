@@ -50,7 +50,7 @@ module _ (T : Table) (rows : HasReadRows T) (vs : ℕ → View) (first now : ℕ
   seen_now (reads25 e d c x) =
       at_curr (inr (inr (inr (inr (inr e))))) (rows.acts l (inr (inr (inr (inr (inr e))))) ∙ (rw e refl)) x.past
 
--- Holds if at rows 20 to 25 of the step table, a list's proof outline implies the assertions of a `contains` or a
+-- Holds if, at rows 20 to 25 of the step table, a list's proof outline implies the assertions of a `contains` or a
 -- `ceiling` (`Reading`).
 abbrev pub ShowsReading : Outline → Type 1
 ShowsReading At = (q t : ℕ) (vs : ℕ → View) (first now : ℕ) (v : View) (done : Bool) (l : Local) → IsReadRow l.pc

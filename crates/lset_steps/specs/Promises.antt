@@ -102,7 +102,7 @@ abbrev pub UnmarkedNodesInChain : Table → Type 0
 UnmarkedNodesInChain T = (op : Opening) (last k : ℕ) (es : ℕ → Event) → Run T op es last → k ≤ last
     → UnmarkedInChain T.marks (views T op es k)
 
--- Holds if in a list that does not mark nodes, no node has a mark, not even before its first use.
+-- In a list that does not mark nodes, no node has a mark, not even before its first use.
 abbrev pub NoLinkIsMarked : Table → Type 0
 NoLinkIsMarked T = (op : Opening) (last k i : ℕ) (es : ℕ → Event) → Run T op es last → k ≤ last → T.marks ≡ false →
     i < node_count (sizes op)
@@ -145,7 +145,7 @@ IsRead (call.Remove k) = ⊥
 IsRead (call.Contains k) = Unit {0}
 IsRead (call.Ceiling k) = Unit {0}
 
--- Holds if only a `contains` can reply `True` without having changed the set.
+-- Only a `contains` can reply `True` without having changed the set.
 abbrev pub TrueMeansChange : Table → Type 0
 TrueMeansChange T = (op : Opening) (last k t : ℕ) (es : ℕ → Event) (change : Option Change) → Run T op es last → k < last
     → log_of T op es k ≡ stepped t change (Some True)

@@ -97,14 +97,14 @@ key_of (Ceiling k) = k
 abbrev pub target : Call → ℕ
 target call = key_word_of (key_of call)
 
--- Holds if different words of nodes have different indices, and none of them is among the first three words.
+-- Different words of nodes have different indices, and none of them is among the first three words.
 abbrev pub WordsApart : Type 0
 WordsApart = (i j : ℕ)
     → (2 < key_index i) × (2 < link_index i) × (2 < lock_index i)
     × (key_index i ≢ link_index j) × (key_index i ≢ lock_index j) × (link_index i ≢ lock_index j)
     × (i ≢ j → (key_index i ≢ key_index j) × (link_index i ≢ link_index j) × (lock_index i ≢ lock_index j))
 
--- Holds if different slots (nodes that adds use up) are different nodes, and no slot is the head or the tail.
+-- Different slots (nodes that adds use up) are different nodes, and no slot is the head or the tail.
 abbrev pub SlotsApart : Type 0
 SlotsApart = (quota t u i j : ℕ) → i < quota → j < quota
     → (1 < slot_node quota t i) × (slot_node quota t i ≡ slot_node quota u j → (t ≡ u) × (i ≡ j))

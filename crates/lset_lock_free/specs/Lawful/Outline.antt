@@ -36,8 +36,8 @@ use Rattle.lset_steps.proofs.Turns.{Turn, due_of, Follows, no_locks}
 use Rattle.lset_steps.proofs.Turns.Turn.{passes, changes, answers, ends}
 use Rattle.lset_lock_free.specs.LockFree.{lock_free, targets, decision_of, at_key, at_link, again, next_action, fed_by, effect_of}
 
--- Holds if at some moment from `first` to `now`, node `a` was in the chain, `b` was the next node, `P` was true, and
--- thread `t` had made `count` successful adds.
+-- Holds if there was a moment from `first` to `now` when node `a` was in the chain, `b` was the next node, `P` was
+-- true, and thread `t` had made `count` successful adds.
 pub record Was (vs : ℕ → View) (first now a b t count : ℕ) (P : View → Type 0) : Type 0 where
   pub at : ℕ
   pub from : first ≤ at
