@@ -144,7 +144,8 @@ fn first_too_early(calls: &[CallRecord], order: &[Placed]) -> Option<u32>
 ///
 /// `Ok` means that the order linearizes the history (Herlihy and Wing, with completion of pending calls) for the
 /// sequential set with the history's threads, quota and opening keys, and that `keys` are the keys of this set after
-/// all calls, in strictly increasing order. `tool_replay` calls this function in `src/checking.rt`.
+/// all calls, in strictly increasing order. The command `check` calls this function (`src/check_command.rt` of
+/// `tool_replay`).
 ///
 /// # Errors
 ///
