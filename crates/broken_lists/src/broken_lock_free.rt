@@ -13,7 +13,7 @@ fn marked_as_seen(node: u64, local: &Local) -> u64 {
     node.wrapping_mul(2).wrapping_add(local.pkey)
 }
 
-/// Returns the next access of a thread on the list with an `add` that replaces the link of `pred` even if this link is
+/// Returns a thread's next access on a broken LockFreeList: its `add` replaces the link of `pred` even if this link is
 /// marked.
 pub(crate) fn next_whatever_mark(local: &Local) -> Action
     requires { IsSmall local.now }
@@ -62,7 +62,8 @@ pub(crate) fn effect_whatever_mark(local: &Local, seen: u64) -> Option<(Key, boo
     }
 }
 
-/// Returns a thread's state after a step of the list with a `remove` that unlinks a node without marking it first.
+/// Returns a thread's state after a step of a broken LockFreeList: its `remove` unlinks a node without marking it
+/// first.
 pub(crate) fn fed_without_mark(local: &Local, seen: u64) -> Fed
     requires { IsSmall local.now }
 {

@@ -1,4 +1,4 @@
-//! Creates broken lists (lists with one check removed) on which schedules are run.
+//! Creates broken lists (lists with one check removed), to run schedules on them.
 ghost use Rattle.lset_schedule.specs.Plan.{opening_in, view};
 ghost use Rattle.lset_words.specs.Words.{Opens};
 

@@ -73,7 +73,7 @@ impl Ends {
         }
     }
 
-    /// Adds an end. If the allocation fails, nothing changes.
+    /// Adds the end of a call. If an allocation fails, nothing changes.
     pub(crate) fn push(&mut self, end: u64) -> Result<(), AllocError>
         ensures more { OnOk result (self.new ≡ put_in end self.old) }
         ensures same { OnErr result (self.new ≡ self.old) }

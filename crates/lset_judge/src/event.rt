@@ -6,7 +6,7 @@ ghost use Rattle.lset_judge.specs.Events.{kind_as, open_kind, begin_event, end_e
 
 use lset_words::{Call, Effect, Presence};
 
-/// What the start or end of a call means for the call's key. A change is an `add` or `remove` that returned true or is
+/// The meaning of a call's start or end for the call's key. A change is an `add` or `remove` that returned true or is
 /// pending.
 #[derive(Clone, Copy, Debug, PartialEq, Eq)]
 pub(crate) enum Event {

@@ -3,8 +3,8 @@
 
 use crate::stream::BEHIND_ALL;
 
-/// The changes of a key that end at some moment: how many of them are pending now, and when the last completed one
-/// ended.
+/// The changes of a key, without those that never end: how many of them are pending now, and when the last completed
+/// one ended.
 #[derive(Clone, Copy)]
 pub(crate) struct Changes {
     pending: u64,

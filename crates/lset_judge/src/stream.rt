@@ -88,8 +88,8 @@ pub(crate) enum StreamVerdict {
     NotLinearizable(Refusal),
 }
 
-/// The reason why no order explains the calls and leaves the final keys: a key whose calls alone show this, and a
-/// moment.
+/// The reason why no order explains the calls and leaves the final keys: a key and a moment. The calls on this key
+/// alone show that there is no order.
 #[derive(Clone, Copy, Debug, PartialEq, Eq)]
 pub struct Refusal {
     /// The key. No order explains its calls and leaves its final state.
@@ -194,7 +194,7 @@ impl Pending {
     }
 }
 
-/// Processes `event` at moment `before` + 1, for a key that has no stored state yet. Returns whether the judge's rule
+/// Processes `event` at moment `before` + 1. Its key must have no stored state yet. Returns whether the judge's rule
 /// (the test of one key's calls) still succeeds. This is a separate function so that other events need no stack space
 /// for a new state.
 fn meet_new_key(
@@ -291,8 +291,9 @@ struct EndMet {
     overlaps: bool,
 }
 
-/// Processes the end of a call at moment `before` + 1, if its key has no stored state yet. If the judge's rule (the
-/// test of one key's calls) fails, searches for a call that clashes with this one.
+/// Processes the end of a call at moment `before` + 1. The call's key must have no stored state yet. If the judge's
+/// rule (the test of one key's calls) fails, searches for a call that clashes with this one (no order can explain
+/// both).
 fn meet_new_key_end(
     states: &mut HashMap<u32, KeyState>,
     alloc: Global,

@@ -1,5 +1,6 @@
-//! Searches for a stretch: a period of time in which a key would have to change back more often than it can. If a
-//! stretch is found, its calls are checked afterwards. No contract mentions stretches.
+//! Searches for a stretch: a period of time with too many calls on a key for any order. The key would have to change
+//! back between these calls more often than it can. If a stretch is found, its calls are checked afterwards. No
+//! contract mentions stretches.
 
 use crate::clash::{has_ended, other};
 use crate::stream::StreamCall;
@@ -54,14 +55,16 @@ struct Timed {
     step: Step,
 }
 
-/// A call that saw the state other than `was`, and how many changes to `was` had ended when this call started.
+/// A call that saw the key in the state other than `was` (the state after each change in the stretch), and the number
+/// of changes to `was` that had ended when this call started.
 #[derive(Clone, Copy)]
 struct Look {
     call: StreamCall,
     changes: usize,
 }
 
-/// The starts and ends of the calls on a key, ordered by moment, and the calls that saw the state other than `was`.
+/// The starts and ends of the calls on one key, ordered by moment, and the calls that saw the key in the state other
+/// than `was`.
 #[derive(Drop)]
 struct Steps {
     steps: Vec<Timed>,

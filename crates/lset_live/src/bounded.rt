@@ -11,7 +11,7 @@ use lset_rule::{OwnSlots, Pause, Rounds, TableSeat, Words, interpret_within};
 use lset_steps::Machine;
 use lset_words::{Call, Reply};
 
-/// A list whose calls on shared words limit the rounds of each loop.
+/// A list that threads call on shared words. Its calls limit the rounds of each loop.
 ///
 /// A list with a step table (`Machine`) can implement this trait without a body: `impl Bounded for MyList {}`. It then
 /// uses the interpreter (`lset_rule::interpret_within`). A list can also provide its own body under the same contract,

@@ -9,7 +9,7 @@ mod live_set_calls; // implements `SetCalls` for running sets
 mod open_fault; // the errors of `open` and `open_with`
 mod opening; // opens sets
 mod receipt; // receipts: seen events, sent between threads
-mod running_machine; // lists whose calls can block
+mod running_machine; // lists with calls that can block
 mod seat; // seats of running sets
 mod set; // a running set and its calls
 mod typed_calls; // calls with their own result types

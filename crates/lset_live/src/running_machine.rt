@@ -14,7 +14,7 @@ use lset_steps::OpenReads;
 use lset_words::{Call, Key, Reply};
 use std::sync::Wait;
 
-/// A list whose calls on shared words can block.
+/// A list that threads call on shared words. Its calls can block.
 ///
 /// A list that is `Bounded` implements this trait without a body: `impl Running for MyList {}`.
 pub trait Running: Bounded {
@@ -47,7 +47,7 @@ impl Running for LazyList {}
 
 impl Running for LockFreeList {}
 
-/// A list whose `contains` on shared words does not block.
+/// A list that threads call on shared words. Its `contains` does not block.
 ///
 /// A list with bounded reads (`OpenReads`) implements this trait without a body. It then uses the interpreter
 /// (`lset_rule::interpret_read`).
@@ -89,7 +89,7 @@ impl OpenContains for LockFreeList {
     }
 }
 
-/// A list whose calls on shared words can block, except `contains`, which never blocks.
+/// A list that threads call on shared words. Its calls can block, except `contains`, which never blocks.
 pub trait RunningReads: Running + OpenReads + OpenContains {}
 
 impl RunningReads for LazyList {}

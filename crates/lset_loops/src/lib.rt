@@ -10,7 +10,7 @@
 
 mod caller; // the pending call of a thread
 mod coarse; // the calls of CoarseList
-mod decision; // what a call does after its walk
+mod decision; // the decision of a call after its walk
 mod fine; // the calls of FineList
 mod lazy; // `add` and `remove` of LazyList
 mod lock_free; // `add` and `remove` of LockFreeList

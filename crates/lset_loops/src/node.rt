@@ -16,7 +16,7 @@ impl Node {
         Node { number: 0 }
     }
 
-    /// Returns the node to which a link word leads. Ignores the mark.
+    /// Returns the node that a link word leads to. Ignores the mark.
     pub fn behind(link: u64) -> Node
         ensures { result.number ≡ link / 2 }
     {

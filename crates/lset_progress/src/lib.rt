@@ -38,23 +38,23 @@ ghost use Rattle.lset_progress.specs.Wrong.{
   yielding,
 };
 
-/// Theorem: if no other thread holds the lock of a CoarseList, a call that runs alone ends within `2N + 3` steps. (Solo
-/// termination, of Herlihy and Shavit's coarse-grained list.)
+/// Theorem: if no other thread holds the lock of a CoarseList with N nodes, a call that runs alone ends within `2N + 3`
+/// steps. (Solo termination, of Herlihy and Shavit's coarse-grained list.)
 #[tactic(auto, using(crate::proofs::CoarseProgress::coarse_calls_end))]
 pub fn coarse_calls_end_alone()
     ensures { CallsEndAlone coarse coarse_steps }
 {}
 
-/// Theorem: if no other thread holds a lock of a FineList, a call that runs alone ends within `4N + 3` steps. (Solo
-/// termination, of Herlihy and Shavit's fine-grained list.)
+/// Theorem: if no other thread holds a lock of a FineList with N nodes, a call that runs alone ends within `4N + 3`
+/// steps. (Solo termination, of Herlihy and Shavit's fine-grained list.)
 #[tactic(auto, using(crate::proofs::FineProgress::fine_calls_end))]
 pub fn fine_calls_end_alone()
     ensures { CallsEndAlone fine fine_steps }
 {}
 
-/// Theorem: if no other thread holds a lock of an OptimisticList, a call that runs alone ends within `8N + 9` steps.
-/// The call starts again at most once, since validation fails only if another thread has changed nodes that the call
-/// read. (Solo termination, of Herlihy and Shavit's optimistic list.)
+/// Theorem: if no other thread holds a lock of an OptimisticList with N nodes, a call that runs alone ends within
+/// `8N + 9` steps. The call starts again at most once, since validation fails only if another thread has changed nodes
+/// that the call read. (Solo termination, of Herlihy and Shavit's optimistic list.)
 #[tactic(auto, using(crate::proofs::OptimisticProgress::optimistic_calls_end))]
 pub fn optimistic_calls_end_alone()
     ensures { CallsEndAlone optimistic optimistic_steps }

@@ -10,7 +10,7 @@ mod pause; // the code between two steps
 mod rounds; // bounds on the rounds of loops
 mod row_steps; // the steps of an interpreted call
 mod rule; // the invariant
-mod slots; // what a thread keeps between calls
+mod slots; // the state that a thread keeps between calls
 mod view; // the knowledge of a seat
 mod word_steps; // single steps on shared words
 

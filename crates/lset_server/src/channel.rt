@@ -11,8 +11,8 @@ use std::alloc::Global;
 use std::collections::LinkedList;
 use std::sync::Wait;
 
-/// The number of parts into which the right to use the channel can be split: one for each of up to `MOST_THREADS`
-/// workers, and one for the sender. The holder of all parts knows all connections that were sent and received.
+/// The right to use the channel can be split into this many parts: one for each of up to `MOST_THREADS` workers, and
+/// one for the sender. The holder of all parts knows all connections that were sent and received.
 pub(crate) const PARTS: u64 = MOST_THREADS as u64 + 1;
 
 /// An accepted connection with its number. Connections are numbered from 0, in order of acceptance.
@@ -51,8 +51,8 @@ impl<S> Protocol<Message<S>, Tally> for NothingLost {
     ghost first = { tally PARTS [] [] };
 }
 
-/// The change of the tallies when a part of a pass (a right to use the channel) is split off as a new pass, and when
-/// two passes are joined.
+/// Defines the tallies after a part of a pass (a right to use the channel) is split off as a new pass, and after two
+/// passes are joined.
 pub(crate) struct Parting;
 
 impl Split<Tally> for Parting {

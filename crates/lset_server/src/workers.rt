@@ -34,7 +34,7 @@ pub(crate) struct WorkerResult<M: Running> {
     pub calls: u64,
 }
 
-/// What a worker thread was started with, for contracts: its channel, its set, its seat, and the maximum number of its
+/// The arguments of a worker thread, for its contract: its channel, its set, its seat, and the maximum number of its
 /// sessions.
 #[derive(Drop)]
 pub(crate) struct WorkerPromise<M: Running> {

@@ -141,8 +141,8 @@ impl<O: Sink> Sink for Buffered<'_, O> {
 /// `seat` (the right to call as one thread) must belong to `set`.
 ///
 /// If a write fails, the session ends with `WriteFault` and writes nothing more. The bytes written are then a prefix of
-/// the answers. Calls whose answers were not written have still been made, and are counted. Blocks when its set, its
-/// reader or its writer does. Does not allocate.
+/// the answers. A call counts as made even if its answer was not written. Blocks when its set, its reader or its writer
+/// does. Does not allocate.
 pub fn buffered_session<R: Wait, I: Source + Drop, O: Sink + Drop, S: SetCalls>(
     rt: &R,
     reader: I,

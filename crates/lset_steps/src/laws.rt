@@ -76,9 +76,9 @@ pub fn no_link_is_marked<M: Machine>()
     ensures { NoLinkIsMarked M.table }
 {}
 
-/// Lemma: the keys of the set change only in a step whose effect is a key, and only this key changes. Only an `Add` of
-/// the key can add it, and only while its thread is below its quota. Only a `Remove` of the key can remove it. A call
-/// changes the set at most once. (Herlihy and Shavit's linearization points of calls that change the set.)
+/// Lemma: the keys of the set change only in a step with a key as its effect, and only this key changes. Only an `Add`
+/// of the key can add it, and only while its thread is below its quota. Only a `Remove` of the key can remove it. A
+/// call changes the set at most once. (Herlihy and Shavit's linearization points of calls that change the set.)
 pub fn named_change<M: Machine>()
     ensures { NamedChange M.table }
 {}
@@ -109,15 +109,15 @@ pub fn listed_content<M: Machine>()
     ensures { ListedContent M.table }
 {}
 
-/// Lemma: in a list whose reads take no locks (`OpenReads`), each step of a `contains` is a load, and a `contains`
+/// Lemma: in a list with reads that take no locks (`OpenReads`), each step of a `contains` is a load, and a `contains`
 /// takes at most `bound` steps, whatever the other threads do. (Herlihy and Shavit's wait-free `contains`.)
 pub fn bounded_reads<M: OpenReads>()
     ensures { BoundedReads M.table }
 {}
 
-/// Lemma: in a list whose reads take no locks (`OpenReads`), a `contains` or a `ceiling` passes only nodes that were
-/// in the chain at some moment of the call. At this moment, the node had the link that the call saw. The node can have
-/// left the chain before the call read it. (O'Hearn and others' hindsight.)
+/// Lemma: in a list with reads that take no locks (`OpenReads`), a `contains` or a `ceiling` passes only nodes that
+/// were in the chain at some moment of the call. At this moment, the node had the link that the call saw. The node can
+/// have left the chain before the call read it. (O'Hearn and others' hindsight.)
 pub fn walk_was_in_chain<M: OpenReads>()
     ensures { WalkWasInChain M.table }
 {}

@@ -3,7 +3,7 @@
 //! This crate's specs define the terms of the main theorem: the sequential set, the history of a run, an order of the
 //! calls that explains the history, and the keys in the set at each moment. A run is defined in `lset_steps`. The
 //! crates that prove the theorem for each list, run the lists in threads, replay schedules and check reports all use
-//! these definitions. To understand what the theorem claims, read these definitions once.
+//! these definitions. To understand the theorem, read these definitions once.
 //!
 //! A function of this library allocates only if it has a parameter `alloc: Global`, or a parameter that was created
 //! with one. It blocks only if it has a parameter `rt` (the runtime) with `Wait`. The table of words, the limits and

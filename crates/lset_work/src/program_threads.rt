@@ -20,7 +20,7 @@ pub(crate) struct Done<M: Running> {
     pub replies: Option<Vec<Reply>>,
 }
 
-/// What a thread promises in contracts: it makes the calls of its program on its seat, unless the gate stops the
+/// The promise of a thread in contracts: it makes the calls of its program on its seat, unless the gate stops the
 /// program.
 #[derive(Drop)]
 pub(crate) struct WorkerPromise<M: Running, G: Gate> {
