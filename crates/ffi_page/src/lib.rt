@@ -3,8 +3,8 @@
 //! Each function writes the program's text (or a record with the same content), or the message about an error, to the
 //! start of `room`. It returns the length of the text in bytes and sets `status` to the program's exit status: 0; 1 if
 //! something is wrong with the text; 2 if a name is wrong; 3 if an allocation failed. If `room` is too short, nothing
-//! is written; call again with a buffer of the returned length. The functions keep no state. The functions whose
-//! names end with `_from` block.
+//! is written; call again with a buffer of the returned length. The functions keep no state. Only functions with a name
+//! that ends in `_from` block.
 #![tactic(auto)]
 
 mod diagnosing; // why a recording is refused

@@ -22,7 +22,7 @@ pub enum Failure {
 }
 
 impl Failure {
-    /// Returns the error of a failing call whose result is not a number of bytes, such as a flush.
+    /// Returns the error of a failed call that does not return a number of bytes, such as a flush.
     fn error(self) -> io::Error {
         io::Error::from(match self {
             Failure::Interrupted => ErrorKind::Interrupted,
@@ -48,7 +48,7 @@ pub struct Plan {
     pub failure: Failure,
 }
 
-/// A way to fail, and the maximum number of bytes that one call transfers.
+/// How a device fails, and the maximum number of bytes that one call of the device transfers.
 pub type Way = (Failure, usize);
 
 pub fn planned((failure, most): Way, fails_at: usize) -> Plan {

@@ -1,4 +1,4 @@
-//! Tests of library functions that `tests/transcripts` does not cover. The expected values were computed by hand.
+//! Tests of library functions that `tests/transcripts` does not cover. The expected values were worked out by hand.
 use crate::prelude::*;
 use lset_schedule::{GenFault, Line, Schedule, programs, write_schedule};
 use lset_words::{LayoutFault, pack, unpack};

@@ -60,8 +60,8 @@ fn has_schedule<M: Machine, R: Abort>(rt: &R, alloc: Global, size: u32) -> Resul
     Ok(())
 }
 
-/// Returns a schedule in which one thread looks for each of `size` opening keys. On a LazyList, the search for a key
-/// needs two more steps than the search for the previous key.
+/// Returns a schedule of one thread that looks for each of `size` opening keys in turn. On a LazyList, the search for a
+/// key needs two more steps than the search for the previous key.
 fn looks_for_each(alloc: Global, size: u32) -> Result<String, Fail> {
     let mut text = String::from_str(alloc, "listset-schedule 2\nlist lazy\nthreads 1\nquota 0\n")?;
     for key in 0..size {

@@ -8,7 +8,7 @@ use std::net::Shutdown;
 
 const LISTENING: &str = "listening 127.0.0.1:";
 
-/// The text after the first line if one client was served.
+/// The output of a server after its first line, if the server served one client.
 const ONE_SESSION: &str = "sessions 1\ncalls 1\nkey 7\n";
 
 /// An upper limit for the number of writes and flushes of a server on its output.

@@ -143,8 +143,8 @@ fn a_program_can_be_empty(rt: HostRuntime) {
     assert!(rt; are_as_wanted(&outcome, &[&[Reply::True], &[]], &[5]));
 }
 
-/// A gate that refuses one call of one seat. It counts how often it was asked for each of the first three calls of
-/// three seats, and for all other calls.
+/// A gate that refuses one call of one seat. `counts` has how often the gate was asked: an entry for each of the first
+/// three calls of the seats 0 to 2, and one entry for all other calls.
 #[derive(Drop)]
 struct Shut {
     seat: u32,

@@ -9,8 +9,9 @@ use crate::prelude::*;
 /// A step number that is never reached.
 const NEVER: u64 = u64::MAX;
 
-/// A thread of a test: the step after which it stops (counted from 0), the steps that its call has reported to the
-/// `Pause`, whether the thread has stopped, and whether its call has ended.
+/// A thread of a test: the number of the step that it stops after (counted from 0), the numbers of all steps and of
+/// failed steps that its call has reported to the `Pause`, whether the thread has stopped, and whether its call has
+/// ended.
 #[derive(Drop)]
 struct Told {
     stops_at: u64,
@@ -142,8 +143,8 @@ fn both_call<M: Running + Send + Sync, R: Host>(
     )
 }
 
-/// A call of one seat: the step after which the call stops, its reply, the number of steps before the reply, and the
-/// number of failed steps.
+/// A call from one seat, the number of the step that it stops after (counted from 0), its reply, the number of its
+/// steps before the reply, and how many of these steps failed.
 type Part = (Call, u64, Reply, u64, u64);
 
 fn is_as_told<M: Running + Send + Sync, R: Host>(

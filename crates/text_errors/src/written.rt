@@ -31,7 +31,7 @@ fn plain(name: &'static str, index: usize) -> NumberField {
     in_range(name, index, 0, 4_294_967_295)
 }
 
-/// Describes a field that contains a number in this range.
+/// Returns the description of a field that must be a number from `low` to `high`.
 fn in_range(name: &'static str, index: usize, low: u64, high: u64) -> NumberField {
     NumberField {
         name,

@@ -47,7 +47,7 @@ fn line_with(front: &str, number: &str, sign: &str, name: &str) -> ArrayString<L
     line
 }
 
-/// Returns the line that an error prints on stderr: `listset: `, the message, and a newline.
+/// Returns the line that the program prints on stderr for an error: `listset: `, the message, and a newline.
 pub fn line_of(trouble: Trouble) -> ArrayString<LONGEST_LINE>
     ensures { result.bytes ≡ trouble_text trouble }
 {

@@ -1,5 +1,5 @@
-//! Determines how far a thread can run after the lines before an error. Expands these lines as a draft: a schedule in
-//! which a line can state where a thread stops, in place of a number of steps.
+//! Determines how far a thread can run after the lines before an error. Expands these lines as a draft: a schedule with
+//! lines that can state where a thread stops, in place of a number of steps.
 
 use crate::event_errors::thread_text;
 use std::alloc::{AllocError, Global};
@@ -44,8 +44,8 @@ fn schedule_up_to(
     Ok(answer_on(alloc, &Expand {}, &draft))
 }
 
-/// Returns the number of steps after which the pending call of the thread ends. Returns `None` if the thread has no
-/// pending call, or if the call does not end within 10,000 steps of this thread alone.
+/// Returns how many more steps the pending call of the thread needs to end. Returns `None` if the thread has no pending
+/// call, or if the call does not end within 10,000 steps of this thread alone.
 pub(crate) fn steps_out(
     alloc: Global,
     lines: &Lines<'_>,

@@ -1,7 +1,7 @@
 //! The commands `replay`, `check`, `gen`, `draft`, `example` and `trace`, which read and write schedules and reports.
 //!
-//! A draft is a schedule in which a line can state where a thread stops (at the end of its call, or at a row of the
-//! step table) in place of a number of steps. An example is a well-known interleaving on one of the five lists.
+//! A draft is a schedule with one addition: a line can state where a thread stops (at the end of its call, or at a row
+//! of the step table) in place of a number of steps. An example is a well-known interleaving on one of the five lists.
 #![tactic(auto)]
 
 mod check_command; // the command check
