@@ -13,7 +13,7 @@
 //     uint8_t status;
 //     char *said = listset_said(listset_check, report, strlen(report), &length, &status);
 //
-// docs/FOREIGN.md names the functions whose printed text is proved. The caller has four duties, which no function checks:
+// docs/FOREIGN.md names the functions that print proved text. The caller has four duties, which no function checks:
 // - No pointer is null, even if the length beside it is 0.
 // - `room` does not overlap a text. During a call, no other thread writes to the text or accesses `room` or the status.
 // - malloc, realloc and free belong to the same allocator. It aligns a block to each power of two up to 16 that divides
@@ -162,10 +162,10 @@ typedef struct {
 
 #define LISTSET_NONE {false, NULL}
 
-/// A receipt, or nothing. A seat issues a receipt for its calls so far. In the order of all calls, they precede the
-/// later calls of each seat that accepts the receipt. The receipt also covers the calls of all seats that its seat had
-/// gathered, and the calls that the receipts accepted by its seat cover. A receipt is initialized with LISTSET_NONE,
-/// and can be passed to any thread.
+/// A receipt, or nothing. A seat issues a receipt for its calls so far. In the order of all calls, these calls precede the
+/// later calls of each seat that accepts the receipt. The receipt also covers the calls of the seats that the issuing seat had
+/// gathered, and the calls covered by the receipts that it had accepted. A receipt is initialized with LISTSET_NONE, and can
+/// be passed to any thread.
 typedef struct {
   bool full;
   void *at;
@@ -322,7 +322,7 @@ static inline size_t listset_generate(const listset_plan *plan, char *room, size
   return listset_gen(values, (size_t)count, room, size, status);
 }
 
-/// The type of a function of the judge whose only input is one text.
+/// The type of the judge's functions that read one text and have no other input.
 typedef size_t listset_function(const char *text, size_t length, char *room, size_t size, uint8_t *status);
 
 /// Calls `function` with a text. Returns its output in a block with a zero byte at the end, which the caller must free,

@@ -132,9 +132,9 @@ inline std::vector<uint32_t> keys_of(listset_seat &closed) {
   return keys;
 }
 
-/// A receipt, or nothing. A seat issues a receipt for its calls so far. In the order of all calls, they precede the
-/// later calls of each seat that accepts the receipt. The receipt also covers the calls of all seats that its seat had
-/// gathered, and the calls that the receipts accepted by its seat cover. It can be moved but not copied, and can be
+/// A receipt, or nothing. A seat issues a receipt for its calls so far. In the order of all calls, these calls precede the
+/// later calls of each seat that accepts the receipt. The receipt also covers the calls of the seats that the issuing seat had
+/// gathered, and the calls covered by the receipts that it had accepted. A receipt can be moved but not copied, and can be
 /// passed to any thread.
 class receipt {
 public:
@@ -273,7 +273,7 @@ private:
   friend class renewed_set;
 };
 
-/// Returns a number that no other set in this program has.
+/// Returns a number that is unique among the sets of this program.
 inline uint64_t next_number() {
   static std::atomic<uint64_t> sets{0};
   return sets++;

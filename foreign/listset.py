@@ -300,9 +300,9 @@ def _closed_keys(closed):
 
 
 class Receipt:
-    """A receipt. A seat issues a receipt for its calls so far. In the order of all calls, they precede the later calls
-    of each seat that accepts the receipt. The receipt also covers the calls of all seats that its seat had gathered,
-    and the calls that the receipts accepted by its seat cover. It can be passed to any thread.
+    """A receipt, issued by a seat for its calls so far. In the order of all calls, these calls precede the later calls of
+    each seat that accepts the receipt. The receipt also covers the calls of the seats that the issuing seat had gathered,
+    and the calls covered by the receipts that it had accepted. A receipt can be passed to any thread.
     """
 
     def __init__(self):

@@ -299,7 +299,9 @@ def side_by_side():
 
 
 def opened(at, number):
-    """Opens a set. If `at` is 0, 1, 2 or 3, `number` is the number of seats, the quota, the first or the last key."""
+    """Opens a set with `number` as one of its arguments. `at` selects the argument: 0 is the number of seats, 1 the quota, 2
+    the first key, 3 the last key.
+    """
     seats, quota, first, last = [number if at == it else it + 1 for it in range(4)]
     listset.open_set("lazy", seats, quota, [first, last])
 

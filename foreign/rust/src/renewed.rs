@@ -1,4 +1,4 @@
-//! Implements a set that renews itself.
+//! A set that renews itself: when a seat has used up its quota, a new set with the same keys replaces the old one.
 
 use std::sync::atomic::{AtomicBool, Ordering};
 use std::sync::{Mutex, MutexGuard, TryLockError};

@@ -167,9 +167,9 @@ unsafe impl Send for Seat {}
 // requires `Sync`.)
 unsafe impl Sync for Seat {}
 
-/// A receipt. A seat issues a receipt for its calls so far. In the order of all calls, they precede the later calls of
-/// each seat that accepts the receipt. The receipt also covers the calls of all seats that its seat had gathered, and
-/// the calls that the receipts accepted by its seat cover. It can be passed to any thread.
+/// A receipt, issued by a seat for its calls so far. In the order of all calls, these calls precede the later calls of each
+/// seat that accepts the receipt. The receipt also covers the calls of the seats that the issuing seat had gathered, and the
+/// calls covered by the receipts that it had accepted. A receipt can be passed to any thread.
 #[derive(Debug)]
 pub struct Receipt {
     raw: Raw,
@@ -188,7 +188,7 @@ pub fn most_reads(seats: u32, quota: u32, keys: u32) -> u64 {
     unsafe { listset_most_reads(seats, quota, keys) }
 }
 
-/// Returns a number that no other set in this program has.
+/// Returns a number that is unique among the sets of this program.
 pub(crate) fn next_number() -> u64 {
     static SETS: AtomicU64 = AtomicU64::new(0);
     SETS.fetch_add(1, Ordering::Relaxed)

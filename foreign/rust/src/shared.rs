@@ -1,4 +1,4 @@
-//! Implements a set with a pool of seats.
+//! A set that any thread can call: it has a pool of seats (rights to call as one thread), and each call uses a free one.
 
 use std::sync::atomic::{AtomicUsize, Ordering};
 use std::sync::{Mutex, MutexGuard, PoisonError};
