@@ -1,6 +1,6 @@
 # Prints hints below an error at a terminal: an explanation of the error, and how to correct it. Sourced by ./listset, which
 # has the functions kind_of_file and names_of_commands, and sets two variables: `engine` is the command line of the program,
-# and `called` is the name under which the user called the script.
+# and `called` is the name that the user called the script by.
 
 # Sets `values` to the arguments of a command that are not options, and `texts` to the values of its options.
 read_words() {
@@ -154,7 +154,7 @@ print_broken_lists() {
   "${engine[@]}" help replay 2>/dev/null | sed -n 's/^ *--lacks <NAME> [^:]*: //p'
 }
 
-# Explains an option --lacks whose check belongs to a list other than the schedule's.
+# Explains an option --lacks that names a check of another list than the schedule's.
 explain_lacks() {
   local lacks=${texts[lacks]} file=$1 list="" names it of="" fitting=""
   names=$(print_broken_lists)
@@ -250,8 +250,8 @@ explain_port() {
   fi 2>/dev/null
 }
 
-# Explains why the output of a command could not be written: standard output is closed, is a pipe whose reader has
-# ended, or is a file or device.
+# Explains why the output of a command could not be written: standard output is closed, is a pipe that nothing reads any
+# more, or is a file or device.
 explain_unwritten() {
   local to
   to=$(readlink "/proc/$$/fd/1") || to=""

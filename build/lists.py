@@ -8,7 +8,9 @@ from crates_txt import TOP, lines_of
 
 
 class List:
-    """The names of a list: in texts (lock-free), of its step table, of its Kind, of its crate and of its type."""
+    """A list's names: its name in texts (`lock-free`), and the names of its step table, its variant of Kind, its crate and
+    its type.
+    """
 
     def __init__(self, word):
         self.word, self.table = word, word.replace("-", "_")

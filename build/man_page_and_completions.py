@@ -19,7 +19,7 @@ import version_stamp  # noqa: E402
 COMMAND = re.compile(r"^  (\w+) +(.+)$", re.M)
 OPTION = re.compile(r"^ +(?:-\w, )?--([\w-]+)(?: <(\w+)>)? +(.*)$", re.M)
 LISTS = " ".join(it.word for it in lists.lists())
-OF_A_LIST = ["gen", "run", "serve"]  # the commands whose first argument is a list
+OF_A_LIST = ["gen", "run", "serve"]  # the commands that have a list as their first argument
 
 
 class Help:

@@ -155,7 +155,7 @@ def test_a_command_in_an_explanation_corrects_the_line(program, room, name):
     assert ("listset judge" in found[0] and done.stdout.startswith(("ok ", "not linearizable"))) or error_in(after) != error_in(before), (found[0], after)
 
 
-# Matches the file to which a command writes its output
+# Matches the name of the file that a command writes its output to.
 WRITTEN = re.compile(r"(?<!>)> *((?:'[^']*'|\\'|[^\s;'>)])+)")
 
 

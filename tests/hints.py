@@ -263,8 +263,8 @@ def test_a_long_line_of_a_long_recording_is_shown(script):
     assert "listset: line 1: NotEnded\nLine 1 is 'call 0 add 5 1 4 true call " in said and "Write the title and each call in a line of its own, which ends with LF." in said, said[:600]
 
 
-# Arguments that the engine in Node cannot handle: commands that only a built program has, errors to which clap adds a
-# tip, and a hint about a wrong command line
+# Arguments that the engine in Node cannot handle: commands that only a built program has, errors that clap adds a tip to,
+# and a hint about a wrong command line
 NOT_OF_NODE = re.compile(r"(run|serve) |shwo|--prov|show --from (-5|5 --from)|trace --chain=")
 
 

@@ -48,7 +48,7 @@ def drawn(rng, calls):
 
 
 def with_pending(rng, calls):
-    """Returns the calls. The last call of some threads is now pending."""
+    """Returns the calls, with the last call of some threads made pending."""
     last, share = {it.thread: it for it in calls}, rng.choice([0, 0.3, 0.9])
     pending = {it.begin for it in last.values() if rng.random() < share}
     return [it._replace(end=None, reply=None) if it.begin in pending else it for it in calls]
@@ -163,7 +163,7 @@ def leaves(it):
 
 
 def needs(it):
-    """Returns whether a call needs its key present."""
+    """Returns whether a call needs its key to be present."""
     return leaves(it) != changes(it)
 
 

@@ -252,7 +252,7 @@ def test_a_test_that_runs_a_tool_without_a_mark_fails(room):
     assert re.findall("^ERROR .*::(\\w+) - .*no mark for gcc", said, re.M) == ["test_unmarked", "test_second"], said
 
 
-# A script in which two threads run four commands, two at a time.
+# A script with two threads that run four commands, two at a time.
 FOUR = """import sys, time
 sys.path.insert(0, {build!r})
 import processes

@@ -432,7 +432,7 @@ DRAWN = ("moment ", "thread ", "set ", "order")
 
 
 def sentences_in(shown):
-    """Returns the lines with a statement about a report."""
+    """Returns the lines of the output of `show` that state something about a report."""
     above, refusal, below = shown.partition("\nnot linearizable\n")
     return [it for it in above.splitlines() if it and it != LEGEND and not it.startswith(DRAWN)] + f"not linearizable\n{below}".splitlines() * bool(refusal)
 
@@ -540,7 +540,7 @@ def fits_nowhere(run, number):
 @pytest.mark.parametrize("name", LACKING)
 def test_a_call_whose_reply_is_never_correct_is_placed_at_its_end(program, few, name):
     """Tests the linearization point of each call that changes nothing: the end of the call if its reply is never correct,
-    otherwise the first moment at which its reply is correct.
+    otherwise the first moment when its reply is correct.
     """
     found = 0
     for seed in range(1 if few else 4):

@@ -62,8 +62,8 @@ def ended_serve(program, limit):
 
 @pytest.fixture
 def limits(program):
-    """Returns limits, in KiB, under which the program can start. (Its loader needs address space too.) Successive
-    limits differ by half the size of a stack, and the first ones by less.
+    """Returns limits on the address space, in KiB, that still let the program start. (Its loader needs address space too.)
+    Successive limits differ by half the size of a stack, and the first ones by less.
     """
     limits = [*range(2_000, 12_000, 128), *range(12_000, 4 * (THREADS + 2) * STACK, STACK // 2)]
     return [it for it in limits if ran(*limited(it, program, "example", "full")).returncode == 0]

@@ -88,7 +88,7 @@ def test_an_operation_that_alone_is_wrong_is_named_with_a_cause(program, path):
 
 
 def test_a_few_contradictions_are_listed(program, path):
-    """Tests two keys. Two overlapping calls added each key."""
+    """Tests a recording with two keys. Each key was added by two overlapping calls."""
     calls = [Call(thread, "add", key, 10 * key + thread, 10 * key + 5 + thread, "true") for key in (3, 5) for thread in range(2)]
     path.write_text(text_of(calls, [], [3, 5]))
     said = ran(program, "judge", path).stdout

@@ -245,7 +245,7 @@ NEEDS = {"C++": ["cmake", "make", "g++", "node"], "Rust": ["cargo", "rustc", "no
 
 
 def finds_all(text, found):
-    """Returns the source of a set whose `contains` always returns true."""
+    """Returns the source of a set with a `contains` that always returns true."""
     for before, after in (("return ", ";"), ("return ", "\n"), ("{ ", " }")):
         true = "True" if "import listset_judge" in text else "true"
         text = text.replace(f"{before}{found}{after}", f"{before}{true}{after}", 1)

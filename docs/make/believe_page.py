@@ -125,8 +125,8 @@ def contracts_in_sources():
 
 @functools.cache
 def reached(items=""):
-    """Returns the definitions that public contracts reach, as pairs of module and name. If `items` is given, considers
-    only the contracts of functions whose library and name match it.
+    """Returns the definitions that public contracts reach, as pairs of module and name. If the pattern `items` is given,
+    considers only the contracts of functions that it matches, as LIBRARY::NAME.
     """
     contracts = [it for it in public_contracts() if re.match(items, f"{it[0]}::{it[1]}")]
     found, waiting = set(), [it for _, _, text, can_be in contracts for it in named(text, "//", *can_be)]

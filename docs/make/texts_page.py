@@ -39,7 +39,7 @@ def table_of_causes(top):
 
 
 def table_of_orders(top):
-    """Returns a table, taken from `listset faults`, of the errors for which `listset check` refuses an order."""
+    """Returns a table, taken from `listset faults`, of the errors that make `listset check` refuse an order."""
     return table(["Fault", "When"], [[f"`{name}`", when] for name, when in faults_below(top, "refused FAULT ID").items()])
 
 

@@ -32,8 +32,8 @@ def rows_of(text):
 
 
 def table(one):
-    """Returns a list's table: its rows, the row at which each operation begins, and the rows at which a call adds its
-    key, removes its key, and exits. (On some lists, a call exits by returning and has no row for the exit.)
+    """Returns a list's table: its rows, the first row of each operation, and the rows where a call adds its key, removes its
+    key, and exits. (On some lists, a call exits by returning and has no row for the exit.)
     """
     own, reads = SECTIONS[one.type], SECTIONS["Reads without locks"] if one.has_reads() else ""
     places = {word: int(row) for text in (own, reads) for word, row in re.findall(r"(begin|begins|add|remove|leave|ceiling) at row (\d+)", text)}

@@ -1,6 +1,6 @@
-"""A model of the pictures of reports, written from docs/TEXTS.md alone. If the order of a report has an error, the
-model returns the message for the first error, otherwise the first moment at which each call can take effect. Also
-damages reports at random.
+"""A model of the pictures of reports, written from docs/TEXTS.md alone. If the order of a report has an error, the model
+returns the message for the first error, otherwise the first moment when each call can take effect. Also damages reports at
+random.
 """
 
 import collections

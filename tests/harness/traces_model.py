@@ -122,9 +122,9 @@ class Tracing:
             self.chain = later
 
     def end(self, call, reply, moment):
-        """Ends a call. If the call changed nothing, its linearization point is the first moment at which its reply is
-        correct. (On a broken list, `full` counts as correct at every moment. If the reply is correct at no moment, the
-        point is the end of the call.)
+        """Ends a call. If the call changed nothing, its linearization point is the first moment when its reply is correct.
+        (On a broken list, `full` counts as correct at every moment. If the reply is correct at no moment, the point is the
+        end of the call.)
         """
         self.ends[call.number] = (moment, reply)
         if call.number not in self.points:
