@@ -97,8 +97,8 @@ module _ (T : Table) (law : Lawful T) (S : Shape) (most : Sizes → ℕ) (shows 
         (sym (put_other s t u (T.begin c (local_of s t)) y)) (f.times u un, f.owes u un)
   ])
 
-  -- A counted step (not a failed attempt to take a lock) decreases the potential by one, unless the step ends its call.
-  -- No other step increases the potential. The potential is a bound on the counted steps until a call ends.
+  -- A counted step (not a failed attempt to take a lock) decreases the potential by at least 1, unless the step ends
+  -- its call. No other step increases the potential. The potential is a bound on the counted steps until a call ends.
   module _ (op : Opening) (last k : ℕ) (es : ℕ → Event) (r : Run T op es last) (below : k < last) (t : ℕ) (ee : es k ≡ Go t)
       (en : Enabled (state_at T op es k) (Go t)) (p : ℕ) (f : Phase (sizes op) (state_at T op es k) p) where
     abbrev s : State
