@@ -1,4 +1,4 @@
-//! The functions of `ffi_sets` for C: sets of keys that threads share, used through handles (`CSeat`). A handle is
+//! Exports the functions of `ffi_sets` to C: sets of keys that threads share, used through handles (`CSeat`). A handle is
 //! empty, or owns a seat (the right to call as one thread), a receipt, or a closed set.
 //!
 //! Each function calls the function of `ffi_sets` with the same contract. The parameter `alloc` has size zero: C passes

@@ -1,4 +1,5 @@
-//! The commands of `listset` as C functions for a web page: they read a text and return a text and the exit status.
+//! Exports the commands of `listset` as C functions, for C and for a web page: they read a text and return a text and
+//! the exit status.
 //!
 //! Each function writes the program's text (or a record with the same content), or the message about an error, to the
 //! start of `room`. It returns the length of the text in bytes and sets `status` to the program's exit status: 0; 1 if

@@ -1,3 +1,5 @@
+//! Reads the arguments of the commands `gen`, `run` and `serve`, and defines their limits.
+
 ghost use Rattle.std.specs.Prelude.{◌≡◌, ◌≤◌, ◌-◌, ◌^◌, IfOk, IfSome, map, string_bytes};
 ghost use Rattle.lset_schedule.specs.Generating.{IsAccepted};
 ghost use Rattle.tool_base.specs.Arguments.{kind_at, number_at, random_request_of};
@@ -6,13 +8,14 @@ use crate::trouble::ValueName;
 use lset_text::{long_number, number, read_kind};
 use lset_words::{Kind, MOST_QUOTA, MOST_THREADS};
 
-/// The maximum value of the argument CALLS.
+/// The maximum value of the argument CALLS of `gen` (calls in all threads together) and of `run` (calls in each
+/// thread).
 pub const MOST_CALLS_ASKED: u32 = 10_000;
 
-/// The maximum value of the argument LIVES, the number of rounds in `run`.
+/// The maximum value of the argument LIVES of `run`, the number of rounds.
 pub const MOST_LIVES: u32 = 100;
 
-/// The maximum value of the argument SESSIONS.
+/// The maximum value of the argument SESSIONS of `serve`, the number of connections to accept.
 pub const MOST_SESSIONS_ASKED: u32 = 10_000;
 
 /// The largest port number.

@@ -1,3 +1,5 @@
+//! The command `faults`: the text with all error messages and their causes, and the search for one of them.
+
 use crate::answer::Answer;
 use crate::trouble::{Trouble, ValueName};
 use lset_text::cut;

@@ -3,12 +3,12 @@
 //! exit status. They work with any reader and writer.
 #![tactic(auto)]
 
-mod answer;
-mod arguments;
-mod faults;
-mod input;
-mod tool;
-mod trouble;
+mod answer; // the result of a command, and error lines
+mod arguments; // arguments and limits of `gen`, `run` and `serve`
+mod faults; // the text of `faults`: all error messages
+mod input; // reads an input up to a maximum size
+mod tool; // commands that read an input to its end
+mod trouble; // the errors that end the program
 
 pub use answer::{Answer, deliver, line_of};
 pub use arguments::{
