@@ -1,4 +1,5 @@
--- Lemmas about the rows of the table: what one more row adds to a command, and which command a name finds.
+-- Lemmas about the rows of the table of commands: each row adds one argument or one subcommand, and a search by name
+-- returns the command of the first row with this name.
 use Rattle.std.proofs.Common.{◌≡◌, ◌+◌, ◌<◌, ◌∙◌, ℕ, zero, suc, Bool, true, false, List, [], ◌∷◌, map, take, drop, get_or, length, refl, subst, ap, sym, arith}
 use Rattle.std.proofs.lemmas.List.{at_drop_more}
 use Rattle.std.specs.Prelude.{if◌then◌else◌}

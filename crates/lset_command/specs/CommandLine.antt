@@ -56,11 +56,12 @@ abbrev pub with_commands : App → List TableRow → App
 with_commands a [] = a
 with_commands a (row ∷ rows) = with_commands (with_subcommand a (app_in row).top) rows
 
--- The table of the program's commands. The constant also has the help texts.
+-- The table of the program's commands. The constant `COMMANDS` has the same rows with help texts.
 abbrev pub table : List TableRow
 table = map (λ row. (row.0, row.1.now, map (λ argument. (argument.0.now, argument.1)) row.3.now)) COMMANDS.now
 
--- The rules of the whole program: a version and all subcommands. The program's arguments do not include its name.
+-- The rules of the whole program: it has a version and all subcommands. The words that it parses do not start with the
+-- program's name.
 abbrev pub listset : App
 listset = with_commands (on_top (λ s. record s { no_binary_name = true; has_version = true }) (new_app (codes "listset"))) table
 

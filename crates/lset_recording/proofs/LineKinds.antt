@@ -43,7 +43,8 @@ line_pieces told.Cut = codes "cut" ∷ []
 abbrev pub IsMoment : ℕ → Type 0
 IsMoment m = (1 ≤ m) × (m ≤ LAST_MOMENT)
 
--- States that the numbers of a call are in range for a recording, and that the call is not a `ceiling`.
+-- Holds if the numbers of a call are in range for a recording, the call is not a `ceiling`, and a completed call
+-- returned true or false.
 pub record IsNumbered (x : StreamCall) : Type 0 where
   pub thread : x.thread < 2 ^ 32
   pub key : (key_of x.call).0 < 2 ^ 32

@@ -85,7 +85,7 @@ line_of_piece bytes done line more n at =
 
 -- ---- Lemmas about the bytes read so far
 
--- States that the reader has read `bytes`. Their complete lines led to the state s, line n is next, and `held` are the
+-- Holds if the reader has read `bytes`: their complete lines led to the state s, line n is next, and `held` are the
 -- bytes of line n read so far.
 pub record StandsAt (bytes held : List ℕ) (n : ℕ) (s : SoFar) : Type 0 where
   pub lacks : Lacks 10 held
@@ -182,7 +182,7 @@ whole_line bytes line r is lacks short none =
 
 -- ---- Lemmas about the line of a completed call within a piece of the text
 
--- States that the line is read as the call x in each section of a recording that allows calls.
+-- Holds if the line is read as the call x in each section of a recording that allows calls.
 abbrev pub Tells : List ℕ → StreamCall → Type 0
 Tells line x = (p : Section) → takes_calls p ≡ true → line_told p line ≡ Ok (told.Call x)
 

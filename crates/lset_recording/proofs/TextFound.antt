@@ -22,7 +22,7 @@ so_far c = title ∷ opening_lines c.opening ++ map call_line c.calls ++ map key
 abbrev lines_at : SoFar → List (List ℕ)
 lines_at s = cond (is_title s.section) [] (cond (is_done s.section) (lines s.told) (so_far s.told))
 
--- States which parts of a recording are still empty while the reader is in this section.
+-- Holds if the parts of a recording after this section are still empty, and the recording is not marked as cut off.
 abbrev Reaches : Section → Recording → Type 0
 Reaches part.Title c = (c.opening ≡ []) × (c.calls ≡ []) × (c.keys ≡ []) × (c.cut_off ≡ false)
 Reaches part.Opening c = (c.calls ≡ []) × (c.keys ≡ []) × (c.cut_off ≡ false)
@@ -30,7 +30,7 @@ Reaches part.Calls c = (c.keys ≡ []) × (c.cut_off ≡ false)
 Reaches part.Keys c = c.cut_off ≡ false
 Reaches part.Done c = Unit {0}
 
--- States which parts of the recording so far are still empty when this line is read.
+-- Holds if the parts of the recording so far that must be empty before this line are empty.
 abbrev Finds : Line → Recording → Type 0
 Finds told.Title c = Reaches part.Title c
 Finds (told.Opening k) c = Reaches part.Opening c

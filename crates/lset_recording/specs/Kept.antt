@@ -19,19 +19,19 @@ use Rattle.lset_recording.specs.declared.reader.RecordingReader.{RecordingReader
 use Rattle.lset_recording.specs.Texts.{Recording, IsRecording, all_threads}
 use Rattle.lset_recording.specs.Reading.{SoFar, Reads, Says, first_line, is_done, is_title, IsVerdictOnRecording}
 
--- States that `moment` is the start of one of these calls, or 0.
+-- Holds if `moment` is 0 or the start of one of these calls.
 abbrev pub IsLatest : List CallRecord → ℕ → Type 0
 IsLatest calls moment = (moment ≡ 0) ⊎ ((x : CallRecord) × Contains calls x × (moment ≡ x.begun))
 
--- States that the judge has judged exactly these calls. Its current moment is the start of one of them or 0, and is at
+-- Holds if the judge has judged exactly these calls. Its current moment is the start of one of them or 0, and is at
 -- least the number of calls. Before the first call, the reader has no judge (None).
 abbrev pub IsJudgeKept : List ℕ → List CallRecord → Option Judge → Type 0
 IsJudgeKept opening calls None = calls ≡ []
 IsJudgeKept opening calls (Some j) =
     IsJudgeOf all_threads opening calls j × IsLatest calls (moment_of j.stream) × (length calls ≤ moment_of j.stream)
 
--- States that the keys increase strictly. Also states bounds of their number: 2^32, and each key k that can be appended
--- to them.
+-- Holds if the keys increase strictly. Their number is at most 2^32, and at most each key k that can be appended to
+-- them.
 pub record AreKeys (keys : List ℕ) : Type 0 where
   pub increase : IsStrictlyIncreasing keys
   pub below : (k : ℕ) → is_above keys k ≡ true → length keys ≤ k
@@ -45,7 +45,7 @@ count_if false = 0
 abbrev pub lines_of : SoFar → ℕ
 lines_of s = count_if (not (is_title s.section)) + length s.told.opening + length s.told.calls + length s.told.keys + count_if (is_done s.section)
 
--- States that the stored fields of a reader agree with c, the recording read so far.
+-- Holds if the stored fields of a reader agree with c, the recording read so far.
 pub record IsKept (c : Recording) (j : Judging) : Type 0 where
   pub opening : j.opening.items ≡ c.opening
   pub opens : AreKeys c.opening
@@ -55,7 +55,7 @@ pub record IsKept (c : Recording) (j : Judging) : Type 0 where
   pub left : AreKeys c.keys
   pub cut_off : j.cut_off ≡ c.cut_off
 
--- States that the reader has no judge yet if it is in a section of the recording before the calls.
+-- In the sections before the calls of a recording, the reader has no judge yet.
 abbrev pub IsFirst : Section → Option Judge → Type 0
 IsFirst part.Title judge = judge ≡ None
 IsFirst part.Opening judge = judge ≡ None
@@ -63,7 +63,7 @@ IsFirst part.Calls judge = Unit {0}
 IsFirst part.Keys judge = Unit {0}
 IsFirst part.Done judge = Unit {0}
 
--- States that the reader's state j is correct after lines that led to the state s. Its section, its recording and its
+-- Holds if the reader's state j is correct after lines that led to the state s. Its section, its recording and its
 -- number of the next line must agree with s.
 pub record IsJudging (s : SoFar) (j : Judging) : Type 0 where
   pub kept : IsKept s.told j
@@ -71,8 +71,7 @@ pub record IsJudging (s : SoFar) (j : Judging) : Type 0 where
   pub first : IsFirst s.section j.judge
   pub number : j.number ≡ first_line + lines_of s
 
--- States what the reader has stored of an incomplete line: all its bytes (false), or only that the line is too long
--- (true).
+-- Holds if the reader has stored all bytes of an incomplete line (false), or the line is too long (true).
 abbrev pub IsHeld : List ℕ → List ℕ → Bool → Type 0
 IsHeld held kept false = held ≡ kept
 IsHeld held kept true = LONGEST_LINE < length held
@@ -81,7 +80,7 @@ IsHeld held kept true = LONGEST_LINE < length held
 abbrev pub newlines : List ℕ → ℕ
 newlines bytes = count_by (λ (b : ℕ). b == 10) bytes
 
--- States that the reader r is in a correct state after these bytes: however the text continues, reading the rest from
+-- Holds if the reader r is in a correct state after these bytes: however the text continues, reading the rest from
 -- this state has the same result as reading the whole text.
 pub record IsRead (bytes : List ℕ) (r : RecordingReader) : Type 0 where
   pub told : SoFar
@@ -94,19 +93,19 @@ pub record IsRead (bytes : List ℕ) (r : RecordingReader) : Type 0 where
   pub counted : r.judging.number ≡ first_line + newlines bytes
   pub sound : r.failed ≡ None
 
--- States that line number `line` ends in `piece`, the next bytes of the text after `bytes`: its newline is in `piece`.
+-- Holds if line number `line` ends in `piece`, the next bytes of the text after `bytes`: its newline is in `piece`.
 abbrev pub IsLineOf : List ℕ → List ℕ → ℕ → Type 0
 IsLineOf bytes piece line = (first_line + newlines bytes ≤ line) × (line < first_line + newlines (bytes ++ piece))
 
--- States that the reader r has already returned the error e.
+-- Holds if the reader r has failed with the error e.
 abbrev pub HasFailed : RecordingReader → LineFault → Type 0
 HasFailed r e = r.failed ≡ Some e
 
--- States that every text beginning with these bytes has the error e, unless e is a failed allocation.
+-- Holds if every text beginning with these bytes has the error e, unless e is a failed allocation.
 abbrev pub IsRefusedAt : List ℕ → LineFault → Type 0
 IsRefusedAt bytes e = e.cause ≢ wrong.Memory → (more : List ℕ) → Says (bytes ++ more) (Err e)
 
--- States that the reader's answer on the recording c is correct: the verdict, the number of calls, and whether the
+-- Holds if the reader's answer on the recording c is correct: the verdict, the number of calls, and whether the
 -- recording was cut off.
 pub record IsAnswered (c : Recording) (answer : RecordingAnswer) : Type 0 where
   pub recording : IsRecording c

@@ -152,8 +152,8 @@ nothing_told = record {
   told = record { opening = []; calls = []; keys = []; cut_off = false };
 }
 
--- States that a line does not contradict the recording so far: with this line, the keys still increase, and the calls
--- are still a history, ordered by start.
+-- Holds if a line does not contradict the recording so far: with this line, the keys still increase, and the calls are
+-- still a history, ordered by start.
 abbrev pub GoesOn : Recording → RecordingLine → Type 0
 GoesOn c told.Title = Unit {0}
 GoesOn c (told.Opening k) = is_above c.opening k ≡ true
@@ -167,8 +167,8 @@ abbrev pub cause_of : RecordingLine → Cause
 cause_of (told.Call x) = wrong.History
 cause_of l = wrong.Opening
 
--- States that the numbers in a line are in range. If the line is a completed call, also states that the call is not a
--- `ceiling` and returned true or false.
+-- Holds if the numbers in a line are in range. A completed call must also not be a `ceiling`, and must have returned
+-- true or false.
 abbrev pub IsFormed : RecordingLine → Type 0
 IsFormed told.Title = Unit {0}
 IsFormed (told.Opening k) = k < 2 ^ 32
@@ -178,7 +178,7 @@ IsFormed (told.Key k) = k < 2 ^ 32
 IsFormed told.End = Unit {0}
 IsFormed told.Cut = Unit {0}
 
--- States that a line of this kind can be next if the reader is in this section of the recording.
+-- Holds if a line of this kind can be next when the reader is in this section of the recording.
 abbrev pub Comes : Section → RecordingLine → Type 0
 Comes section.Title told.Title = Unit {0}
 Comes section.Title l = ⊥
@@ -192,18 +192,18 @@ Comes section.Keys told.End = Unit {0}
 Comes section.Keys l = ⊥
 Comes section.Done l = ⊥
 
--- States that a reader in state s accepts a line, and is in state t after this line.
+-- Holds if a reader in state s accepts a line, and is in state t after this line.
 abbrev pub IsTaken : SoFar → List ℕ → SoFar → Type 0
 IsTaken s line t = (l : RecordingLine) × (line_told s.section line ≡ Ok l) × GoesOn s.told l × (t ≡ with_told s l)
 
--- States that a reader in state s refuses a line with this cause.
+-- Holds if a reader in state s refuses a line with this cause.
 abbrev pub IsRefused : SoFar → List ℕ → Cause → Type 0
 IsRefused s line cause = (line_told s.section line ≡ Err cause)
     ⊎ ((l : RecordingLine) × (line_told s.section line ≡ Ok l) × (GoesOn s.told l → ⊥) × (cause ≡ cause_of l))
 
 -- ---- Reading whole texts
 
--- Returns whether the text can end here: the last line was `end` or `cut`.
+-- Returns whether the text can end in this section: the last line was `end` or `cut`.
 abbrev pub is_done : Section → Bool
 is_done section.Title = false
 is_done section.Opening = false
@@ -215,16 +215,16 @@ is_done section.Done = true
 abbrev pub cause_at_end : Section → Cause
 cause_at_end s = if is_title s then wrong.Header else wrong.NotEnded
 
--- Returns the result of reading if the text ends here. The last argument contains the bytes after the last newline;
--- there must be none.
+-- Returns the result of reading if the text ends after these lines. The last argument contains the bytes after the
+-- last newline; there must be none.
 abbrev pub ending : ℕ → SoFar → List ℕ → Result Recording LineFault
 ending line s [] = if is_done s.section then Ok s.told else Err (fault line (cause_at_end s.section))
 ending line s (b ∷ bs) = Err (fault line wrong.NotEnded)
 
--- States that reading the rest of a text has the result `read`. The rest is a list: first its complete lines, then, as
--- the last item, the bytes after the last newline. `line` is the number of the first line in the list, and `s` is the
--- reader's state before this line. Either the reader accepts every line, or the first line that it refuses is the
--- error.
+-- Holds if reading the rest of a text has the result `read`. The rest is a list: its complete lines and, as the last
+-- item, the bytes after the last newline. `line` is the number of the first line in the list, and `s` is the reader's
+-- state before this line. Either the reader accepts every line, or `read` is the error of the first line that it
+-- refuses.
 abbrev pub Reads : ℕ → SoFar → List (List ℕ) → Result Recording LineFault → Type 0
 Reads line s [] read = ⊥
 Reads line s (rest ∷ []) read = read ≡ ending line s rest
@@ -236,26 +236,25 @@ Reads line s (x ∷ y ∷ more) read =
 abbrev pub first_line : ℕ
 first_line = 1
 
--- States that reading these bytes as a recording has the result `read`: the recording, or the first error.
+-- Holds if reading these bytes as a recording has the result `read`: the recording, or the first error.
 abbrev pub Says : List ℕ → Result Recording LineFault → Type 0
 Says bytes read = Reads first_line nothing_told (cut_at 10 bytes) read
 
--- States the lemma: if bytes are read as a recording, they are the text of this recording. Therefore each recording has
--- only one text.
+-- If bytes are read as a recording, they are the text of this recording. Therefore each recording has only one text.
 abbrev pub RecordingsAreRead : Type 0
 RecordingsAreRead = (bytes : List ℕ) (c : Recording) → Says bytes (Ok c) → bytes ≡ recording_text c
 
--- States that the verdict is correct. The flag is true if the recording was cut off, so that its final keys are
+-- Holds if the verdict is correct. The flag is true if the recording was cut off and its final keys are therefore
 -- unknown.
 abbrev pub IsVerdictIf : Bool → Recording → Verdict → Type 0
 IsVerdictIf true c verdict = IsVerdictCutOff all_threads c.opening c.calls verdict
 IsVerdictIf false c verdict = IsVerdict all_threads c.opening c.calls c.keys verdict
 
--- States that the verdict on a recording is correct. If the recording was cut off, its final keys are unknown.
+-- Holds if the verdict on a recording is correct. If the recording was cut off, its final keys are unknown.
 abbrev pub IsVerdictOnRecording : Recording → Verdict → Type 0
 IsVerdictOnRecording c verdict = IsVerdictIf c.cut_off c verdict
 
--- ---- The lines that a section of a recording allows
+-- ---- Tests of the lines that a section of a recording allows
 
 abbrev pub takes_opening : Section → Bool
 takes_opening section.Title = false

@@ -19,15 +19,15 @@ pub record Recording : Type 0 where
   pub opening : List ℕ
   pub calls : List CallRecord
   pub keys : List ℕ
-  -- Whether the recording was cut off, so that its final keys are unknown.
+  -- True if the recording was cut off. Its final keys are then unknown.
   pub cut_off : Bool
 
 -- The number of possible threads. A thread is any number below 2^32.
 abbrev pub all_threads : ℕ
 all_threads = 2 ^ 32
 
--- States that c is a valid recording. Its opening keys and its final keys increase strictly. Its calls are a history
--- with moments below 2^63. No completed call is a `ceiling`, and each completed call returned true or false.
+-- Holds if c is a valid recording. Its opening keys and its final keys increase strictly. Its calls are a history with
+-- moments below 2^63. No completed call is a `ceiling`, and each completed call returned true or false.
 pub record IsRecording (c : Recording) : Type 0 where
   pub opening : IsStrictlyIncreasing c.opening
   pub calls : IsHistory all_threads c.calls

@@ -27,7 +27,7 @@ as_many es = length-map es event_in
 
 -- ---- Lemmas about the events that the loop has executed and the events that remain
 
--- States that the first k events of the list es were executed, and that the events in `rest` remain.
+-- Holds if the first k events of the list es were executed, and the events in `rest` remain.
 pub record IsAhead (es : List LineEvent) (k : ℕ) (rest : List LineEvent) : Type 0 where
   pub within : k ≤ length es
   pub rest_is : drop k es ≡ rest

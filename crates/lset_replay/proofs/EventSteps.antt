@@ -98,8 +98,8 @@ module _ (T : Table) (op : Opening) (events : List LineEvent) (k : ℕ) (w : Wor
   stopped cause.Memory w' made = tt
   stopped c w' made = made
 
-  -- The next event of a run can be recorded. The proof uses the account of the run, which states how each event changes
-  -- the keys in the set.
+  -- The next event of a run can be recorded. The proof uses the account of the run (a record of how each event changes
+  -- the keys in the set).
   module _ (accounts : TellsKeys T) where
     open shown T op events use {log, contents, counts}
 
@@ -127,7 +127,7 @@ module _ (T : Table) (op : Opening) (events : List LineEvent) (k : ℕ) (w : Wor
 
 -- ---- Lemmas for the loop that executes the events
 
--- States that all events before `rest` were executed and recorded.
+-- Holds if all events before `rest` were executed and recorded.
 pub record IsOnWay (T : Table) (op : Opening) (events rest : List LineEvent) (w : WorldState) (r : Recorder) : Type 0 where
   pub ahead : IsAhead events r.last rest
   pub followed : HasFollowed T op events r.last w r

@@ -1,4 +1,4 @@
--- Facts about a run that was recorded.
+-- Lemmas about a run that was recorded.
 use Rattle.std.proofs.Common.{ℕ, List, sym, subst, arith}
 use Rattle.lset_words.specs.Log.{Log}
 use Rattle.lset_words.specs.Account.{Account, Contents, Counts}
@@ -18,8 +18,8 @@ use Rattle.lset_replay.proofs.ReplayKept.{Follows}
 use Rattle.lset_replay.proofs.KeyChanges.{HoldsKeys}
 use Rattle.lset_replay.proofs.RecorderReady.{follows}
 
--- A run without its words and registers: its log and, for each moment, the content of the set and the number of keys
--- that each thread has added.
+-- A run without its words and local states: its log (the effect of each event) and, for each moment, the keys in the
+-- set and the number of keys that each thread has added.
 pub record Shown : Type 1 where
   pub log : Log
   pub contents : Contents

@@ -11,11 +11,11 @@ use Rattle.lset_history.proofs.ChangeLaws.{others_stay, earlier_stays, turns_the
 use Rattle.lset_history.proofs.ChangeLaws.{all_upto_change}
 use Rattle.lset_replay.specs.Trace.{MayChange}
 
--- States that all keys in the set are below 2^32 at each moment up to `last`.
+-- Holds if all keys in the set are below 2^32 at each moment up to `last`.
 abbrev pub HoldsKeys : ℕ → Contents → Type 0
 HoldsKeys last contents = (k j : ℕ) → k ≤ last → contents k j → j < 2 ^ 32
 
--- States that C holds if b is true, and does not hold if b is false.
+-- C holds if b is true, and does not hold if b is false.
 abbrev pub Tells : Bool → Type 0 → Type 0
 Tells b C = (b ≡ true → C) × (b ≡ false → C → ⊥)
 

@@ -25,16 +25,16 @@ use Rattle.lset_history.specs.Changes.{is_present, IsBounded}
 use Rattle.lset_history.proofs.ChangeLaws.{all_upto_later}
 use Rattle.lset_replay.proofs.KeyChanges.{Tells, changes_by, quiet_keys}
 
--- States that, at moment k, o is the pending call of thread t, with its number, operation and start.
+-- Holds if, at moment k, o is the pending call of thread t, with its number, operation and start.
 pub record IsWatched (log : Log) (contents : Contents) (counts : Counts) (k t : ℕ) (o : OpenCall) : Type 0 where
   pub here : OpenNumber (calls_at log k) t o.number o.call o.begun
   pub since : o.begun ≤ k
   -- As long as the pending call has not changed the set, its thread has added no key since the call started.
   pub steady : has_changed log t k ≡ false → (m : ℕ) → o.begun ≤ m → m ≤ k → counts m t ≡ counts k t
 
--- States that p is the linearization point of a call: the moment of its change or, for a completed call without a
--- change, the first moment during the call when its reply is correct. A pending call without a change has no
--- linearization point.
+-- Holds if p is the linearization point of a call: the moment of its change or, for a completed call without a change,
+-- the first moment during the call when its reply is correct. A pending call without a change has no linearization
+-- point.
 abbrev pub PlaceBy : ℕ → Contents → Counts → TracedCall → Option ℕ → Option (ℕ × Reply) → Option Linearized → Type 0
 PlaceBy q contents counts x (Some m) ended p = p ≡ Some (changed_at m)
 PlaceBy q contents counts x None None p = p ≡ None
@@ -44,7 +44,7 @@ PlaceBy q contents counts x None (Some end) p =
 abbrev pub PlaceOf : ℕ → Contents → Counts → TracedCall → Option Linearized → Type 0
 PlaceOf q contents counts x p = PlaceBy q contents counts x x.changed x.ended p
 
--- States that the recorder's content s describes the first k events of the run.
+-- Holds if the recorder's content s describes the first k events of the run.
 pub record Follows (op : Opening) (log : Log) (contents : Contents) (counts : Counts) (k : ℕ) (s : Trace) : Type 0 where
   pub history : s.calls ≡ history_at log k
   pub seats : length s.under_way ≡ op.threads

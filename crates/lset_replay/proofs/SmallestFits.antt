@@ -16,7 +16,7 @@ use Rattle.lset_words.specs.declared.Key.{Key}
 use Rattle.lset_replay.specs.Trace.{needs_key, shows}
 use Rattle.lset_replay.proofs.KeyChanges.{Tells, told_yes, told_no}
 
--- States that `moment` is the first moment from `first` to `last` that satisfies F.
+-- Holds if `moment` is the first moment from `first` to `last` that satisfies F.
 pub record SmallestAt (F : ℕ → Type 0) (first last moment : ℕ) : Type 0 where
   pub from : first ≤ moment
   pub upto : moment ≤ last
@@ -48,11 +48,11 @@ module _ (q : ℕ) (contents : Contents) (counts : Counts) (first last t : ℕ) 
   abbrev pub FitsAt : Call → Reply → ℕ → Type 0
   FitsAt c r m = Fits q (contents m) (counts m t) c r
 
-  -- States that the reply r of a call c without a change is correct at moment m, according to the test in `fit`.
+  -- Holds if the reply r of a call c without a change is correct at moment m, according to the test in `fit`.
   abbrev pub Passes : (ℕ → List ℕ) → Call → Reply → ℕ → Type 0
   Passes changes c r m = shows changes c r m ≡ needs_key c r
 
-  -- The lemma for a `ceiling`, whose reply depends on all keys of the set.
+  -- The lemma for a `ceiling`: its reply depends on all keys of the set.
   ceiling_smallest : (changes : ℕ → List ℕ) (k : Key) (found : Option ℕ) (r : Reply) (o : Option ℕ)
       → ((m : ℕ) → FitsAt (call.Ceiling k) r m → IsCeiling (contents m) k.0 found)
       → ((m : ℕ) → IsCeiling (contents m) k.0 found → FitsAt (call.Ceiling k) r m) → IsBounded changes

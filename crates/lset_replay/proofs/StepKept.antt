@@ -91,7 +91,7 @@ module _ (op : Opening) (last : ℕ) (log : Log) (contents : Contents) (counts :
   abbrev open_now : (o : OpenCall) × (open_call_at s.under_way t ≡ Some o) × IsWatched log contents counts k t o
   open_now = f.busy t en.of_a_thread en.under_way
 
-  -- Returns the pending call of the thread that takes the step.
+  -- The pending call of the thread that takes the step.
   abbrev watching : OpenCall
   watching = open_now.0
 
@@ -104,7 +104,7 @@ module _ (op : Opening) (last : ℕ) (log : Log) (contents : Contents) (counts :
   number : OpenNumber (calls_at log k) t number_here watching.call watching.begun
   number = open_now.2.here
 
-  -- `changed` returns the recorder's content after the change of the call, and `kept` the content after the end of the
+  -- `changed` is the recorder's content after the change of the call, and `kept` the content after the end of the
   -- call.
   abbrev changed : Trace
   changed = changed_on (suc k) t ch s

@@ -22,7 +22,7 @@ events_from number (l ∷ ls) = events_of_line number l ++ events_from (number +
 abbrev pub events_of : Plan → List LineEvent
 events_of p = events_from (first_event_line p) p.lines
 
--- States that a schedule can be replayed, that is, its sizes and opening keys are within the limits, and it has at most
+-- Holds if a schedule can be replayed: its sizes and opening keys are within the limits, and it has at most
 -- MOST_EVENTS events. The events are otherwise arbitrary.
 pub record IsInLimits (p : Plan) : Type 0 where
   pub opens : Opens (opening_in p)

@@ -18,14 +18,15 @@ use Rattle.lset_replay.specs.Trace.{trace_at, trace_of}
 use Rattle.lset_replay.specs.Reports.{world_after, IsFirstRefused}
 use Rattle.lset_words.specs.Words.{Opening}
 
--- States that values of type W (worlds: the words and threads of a list) change with each event as the step table T
--- defines. `state` returns the state of a world.
+-- Holds if values of type W (worlds: the words and threads of a list) change with each event as the step table T
+-- defines. `state` returns the state of a world. `account` and `listed` are the assumptions about T: how each event
+-- changes the keys in the set, and which keys they can be.
 pub record AreSteps (T : Table) (W : Type 0) (makes : W → Event → Result Told Cause → W → Type 0) (state : W → WorldState) : Type 0 where
   pub account : HasAccount T
   pub listed : ListedContent T
   pub made : (w : W) (e : Event) (r : Result Told Cause) (w' : W) → makes w e r w' → HasMade T (state w) e r (state w')
 
--- States that the first k events led to the world w (shared words and threads), and that r has recorded them.
+-- Holds if the first k events led to the world w (shared words and threads), and r has recorded them.
 pub record HasFollowed (T : Table) (op : Opening) (events : List LineEvent) (k : ℕ) (w : WorldState) (r : Recorder) : Type 0 where
   pub run : Run T op (event_at (only_events events)) k
   pub world : w ≡ world_after T op (only_events events) k
@@ -33,13 +34,13 @@ pub record HasFollowed (T : Table) (op : Opening) (events : List LineEvent) (k :
   pub opening_is : r.history.opening ≡ op
   pub counted : r.last ≡ k
 
--- States that `next` is the event with index k, counted from 0.
+-- Holds if `next` is the event with index k, counted from 0.
 pub record ComesNext (es : List LineEvent) (k : ℕ) (next : LineEvent) : Type 0 where
   pub known : k < length es
   pub event_is : event_at (only_events es) k ≡ next.event
   pub line_is : next.line ≡ line_at es k
 
--- States that a run can stop at this line for this cause: the line has the first event that is not enabled, or an
+-- Holds if a run can stop at this line for this cause: the line has the first event that is not enabled, or an
 -- allocation failed.
 abbrev pub IsStoppedBy : Table → Opening → List LineEvent → ℕ → Cause → Type 0
 IsStoppedBy T op events line cause.NoThread = IsFirstRefused T op events line step.NoThread

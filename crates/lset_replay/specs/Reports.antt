@@ -1,4 +1,5 @@
--- [Replay]: the report of a schedule or, if the schedule cannot be run, the first event that is not enabled.
+-- [Replay]: the report of a schedule or, if the schedule cannot be run, the line and the cause of the first event that
+-- is not enabled.
 use Rattle.std.specs.Prelude.{◌≡◌, ℕ, ◌<◌, List, length, Result, Ok, Err}
 use Rattle.std.specs.List.Sorted.{IsStrictlyIncreasing}
 use Rattle.lset_words.specs.declared.history.CallRecord.{CallRecord}
@@ -21,7 +22,7 @@ use Rattle.lset_replay.specs.declared.fault.ReplayFault.TheVariants as fault
 use Rattle.lset_report.specs.declared.report.Report.{Report}
 use Rattle.lset_replay.specs.Events.{events_of, only_events, line_at}
 
--- States which history, order and final keys the report of a run with these events has.
+-- Holds if the report of a run with these events has this history, this order and these final keys.
 pub record IsReportOf (T : Table) (op : Opening) (events : List Event)
     (history : List CallRecord) (order : List Placed) (keys : List ℕ) : Type 0 where
   -- Each event is enabled when it is executed.
@@ -37,8 +38,8 @@ pub record IsReportOf (T : Table) (op : Opening) (events : List Event)
 abbrev pub world_after : Table → Opening → List Event → ℕ → WorldState
 world_after T op events k = record { sizes = sizes op; state = state_at T op (event_at events) k }
 
--- States that line number `line` has the first event that is not enabled. `cause` is the first cause that applies to
--- this event.
+-- Holds if line number `line` has the first event that is not enabled. `cause` is the first cause that applies to this
+-- event.
 pub record IsFirstRefused (T : Table) (op : Opening) (events : List LineEvent)
     (line : ℕ) (cause : StepFault) : Type 0 where
   pub index : ℕ
@@ -47,23 +48,22 @@ pub record IsFirstRefused (T : Table) (op : Opening) (events : List LineEvent)
   pub before : Run T op (event_at (only_events events)) index
   pub refused : Refused (world_after T op (only_events events) index) (event_at (only_events events) index) cause
 
--- States why a replay fails: because of the first event that is not enabled, with its line and cause, or because an
--- allocation failed.
+-- The reason why a replay fails: the first event that is not enabled, with its line and cause, or a failed allocation.
 abbrev pub IsRefusal : Table → Opening → List LineEvent → ReplayFault → Type 0
 IsRefusal T op events (fault.NoThread line) = IsFirstRefused T op events line step.NoThread
 IsRefusal T op events (fault.Busy line) = IsFirstRefused T op events line step.Busy
 IsRefusal T op events (fault.Idle line) = IsFirstRefused T op events line step.Idle
 IsRefusal T op events fault.Memory = Unit {0}
 
--- States that r is the correct report of a replay of the schedule p on the step table T.
+-- Holds if r is the correct report of a replay of the schedule p on the step table T.
 pub record IsReplay (T : Table) (p : Plan) (r : ReportValue) : Type 0 where
   pub version_is : r.version ≡ p.version
   pub kind_is : r.kind ≡ p.kind
   pub opening_is : r.history.opening ≡ opening_in p
   pub report : IsReportOf T (opening_in p) (only_events (events_of p)) r.history.calls r.order r.keys
 
--- States the result of a replay on the step table T: the report of the schedule, or the error of its first event that
--- is not enabled.
+-- The result of a replay on the step table T: the report of the schedule, the error of its first event that is not
+-- enabled, or `Memory` for a failed allocation.
 abbrev pub Replays : Table → Plan → Result Report ReplayFault → Type 0
 Replays T p (Ok r) = IsReplay T p (view r)
 Replays T p (Err refusal) = IsRefusal T (opening_in p) (events_of p) refusal

@@ -152,15 +152,15 @@ abbrev pub entry_told : Event → Told → Entry
 entry_told (event.Begin thread call) told = began thread call
 entry_told (event.Go thread) told = stepped thread told.change told.answer
 
--- States that the thread has a pending call that can change the set or end at this moment.
+-- Holds if the thread has a pending call that can change the set or end at this moment.
 pub record MayStep (h : HistoryValue) (under_way : List (Option OpenCall)) (places : List (Option Linearized))
     (thread moment : ℕ) : Type 0 where
   pub of_a_thread : thread < length under_way
   pub goes : IsSomeAnd (open_call_at under_way thread) (λ o.
       (o.number < length places) × (o.begun ≤ moment) × MayEnd h o.number moment)
 
--- States that a change can be recorded, that is, its moment is after every recorded change, and it adds an absent key
--- or removes a present key.
+-- Holds if a change can be recorded: its moment is after every recorded change, and it adds an absent key or removes a
+-- present key.
 abbrev pub MayChange : (ℕ → List ℕ) → ℕ → Option Change → Type 0
 MayChange changes moment None = Unit {0}
 MayChange changes moment (Some (k, present)) =

@@ -1,4 +1,4 @@
--- Lemmas: the number of fields in a line limits which kinds the line can have.
+-- Lemmas: the number of fields in a line rules out some kinds of lines.
 use Rattle.std.proofs.Common.{◌≡◌, ℕ, ◌<◌, ◌⊎◌, inl, inr, List, [], ◌∷◌, length, Err, refl, arith}
 use Rattle.lset_text.specs.declared.words.Version.{Version}
 use Rattle.lset_text.specs.declared.words.Version.TheVariants.{One, Two}

@@ -43,7 +43,7 @@ pieces_of told.End = codes "end" ∷ []
 abbrev pub line_text : Line → List ℕ
 line_text l = line_of (pieces_of l)
 
--- States that the numbers in a line are in range, and that this version of the format has the words in the line.
+-- Holds if the numbers in a line are in range, and this version of the format has the words in the line.
 abbrev pub IsLine : Version → Line → Type 0
 IsLine v (told.Opening k) = (k < 2 ^ 32) × (v ≡ Two)
 IsLine v (told.Call n x) =
@@ -52,7 +52,7 @@ IsLine v (told.Place p) = IsPlace v p
 IsLine v (told.Key k) = k < 2 ^ 32
 IsLine v told.End = Unit {0}
 
--- States that the report has no lines of the sections after this section.
+-- Holds if the report has no lines of the sections after this section.
 abbrev pub Reaches : Section → ReportValue → Type 0
 Reaches section.Opening r = (r.history.calls ≡ []) × (r.order ≡ []) × (r.keys ≡ [])
 Reaches section.Calls r = (r.order ≡ []) × (r.keys ≡ [])
@@ -62,7 +62,7 @@ Reaches section.Done r = Unit {0}
 
 -- ---- Lemmas: bytes that are read as a line are the text of this line
 
--- States that the line is well formed, and that the report has no lines of later sections.
+-- Holds if the line is well formed, and the report has no lines of later sections.
 abbrev pub IsNext : Version → ReportValue → Line → Type 0
 IsNext v r l = IsLine v l × Reaches (section_after l) r
 

@@ -17,14 +17,14 @@ points_in xs = map (λ (x : Pointed). x.point) xs
 abbrev pub rank_of : Pointed → ℕ
 rank_of x = if x.point.change then 2 * x.point.moment else 2 * x.point.moment + 1
 
--- States that the list ys contains the entries in xs, sorted by `rank_of`. Entries with equal ranks keep their relative
+-- Holds if the list ys contains the entries in xs, sorted by `rank_of`. Entries with equal ranks keep their relative
 -- order.
 pub record AreByPoints (xs ys : List Pointed) : Type 0 where
   pub moved : IsPermutation xs ys
   pub increase : IsNonDecreasingBy rank_of ys
   pub stable : (x : Pointed) → filter (λ y. rank_of y == rank_of x) ys ≡ filter (λ y. rank_of y == rank_of x) xs
 
--- States that the call of x has a smaller number than the call of y. The definition [Placement] sorts entries by
+-- Holds if the call of x has a smaller number than the call of y. The definition [Placement] sorts entries by
 -- `rank_of`, and entries with equal ranks by call number.
 abbrev pub HasSmallerNumber : Pointed → Pointed → Type 0
 HasSmallerNumber x y = x.placed.call < y.placed.call

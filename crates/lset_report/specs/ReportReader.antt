@@ -13,7 +13,7 @@ use Rattle.lset_report.specs.declared.reading.report_lines.Line.TheVariants.{End
 use Rattle.lset_report.specs.Texts.{last_line}
 use Rattle.lset_report.specs.ReportReading.{line_after, SoFar, step}
 
--- Returns the report that consists of the lines read so far.
+-- Returns the part of the report that the reader has read.
 abbrev pub so_far : Reader → ReportValue
 so_far s = record {
   version = s.version;
@@ -30,19 +30,19 @@ so_far s = record {
 abbrev pub state : Reader → SoFar
 state s = record { section = s.section; report = so_far s }
 
--- States that an allocation failed at a complete line other than `end`, and that neither this line nor an earlier line
--- has an error.
+-- Holds if an allocation failed at a complete line other than `end`, and neither this line nor an earlier line has an
+-- error.
 abbrev pub IsFull : List (List ℕ) → Result SoFar LineFault → LineFault → Type 0
 IsFull parts read e = (index : ℕ) × (e ≡ fault (first_line + index) Memory)
     × IsGoodLine first_line parts read (first_line + index) × (slice_index_or parts index [] ≢ last_line)
 
--- States the result of reading the lines after the header: the new state of the reader, the first error, or a failed
+-- The result of reading the lines after the header: the new state of the reader, the first error, or a failed
 -- allocation.
 abbrev pub GoesOn : {X : Type 0} → SoFar → Result X LineFault → List (List ℕ) → Result SoFar LineFault → Type 0
 GoesOn s (Ok x) parts read = read ≡ Ok s
 GoesOn s (Err e) parts read = (read ≡ Err e) ⊎ IsFull parts read e
 
--- States the result of reading one line: the new state of the reader, the error of the line, or a failed allocation.
+-- The result of reading one line: the new state of the reader, the error of the line, or a failed allocation.
 abbrev pub ReadsLine : {X : Type 0} → Reader → Reader → ℕ → List ℕ → Result X LineFault → Type 0
 ReadsLine s t number line (Ok x) = step (state s) line ≡ Ok (state t)
 ReadsLine s t number line (Err e) = ((cause : Cause) × (step (state s) line ≡ Err cause) × (e ≡ fault number cause))

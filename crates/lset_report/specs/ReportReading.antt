@@ -37,7 +37,7 @@ use Rattle.lset_report.specs.Texts.{title, last_line, report_text}
 
 -- ---- Limits on the numbers in a report
 
--- States that a call is pending, or that its end is at most 4294967295 and its reply is in this version of the format.
+-- Holds if a call is pending, or its end is at most 4294967295 and its reply is in this version of the format.
 abbrev pub IsEnd : Version → Option (ℕ × Reply) → Type 0
 IsEnd version None = Unit {0}
 IsEnd version (Some end) = (end.0 < 2 ^ 32) × HasReply version end.1
@@ -48,7 +48,7 @@ IsCall version x = (x.begun < 2 ^ 32) × ((key_of x.call).0 < 2 ^ 32) × IsEnd v
 abbrev pub IsPlace : Version → Placed → Type 0
 IsPlace version p = (p.call < 2 ^ 32) × HasReply version p.reply
 
--- Returns the maximum number of final keys. A set that opens with keys can reach more keys than a set that opens empty.
+-- Returns the maximum number of final keys. A set that opens with keys can reach more keys than an empty set.
 abbrev pub most_keys : Version → ℕ
 most_keys One = MOST_KEYS
 most_keys Two = MOST_KEYS_OPENED
@@ -78,7 +78,7 @@ abbrev pub call_told : {X : Type 0} → ℕ × (ℕ × (CallWord × (ℕ × (ℕ
 call_told t end = told.Call t.0
     (record { thread = t.1.0; call = with_key t.1.1.0 (record { 0 = t.1.1.1.0 }); begun = t.1.1.1.1.0; ended = end })
 
--- Returns the fields of the line of a call. `end` are the fields after the moment when the call starts.
+-- Returns the form (the sequence of fields) of a call's line. `end` is the form of the fields after the call's start.
 abbrev pub call_form : Form → Form
 call_form end = piece.word (codes "call") ∷ piece.any ∷ piece.any ∷ piece.call ∷ piece.any ∷ piece.moment ∷ end
 
@@ -160,8 +160,9 @@ abbrev pub ends_later : List CallRecord → ℕ → Option (ℕ × Reply) → Bo
 ends_later calls begun None = true
 ends_later calls begun (Some end) = nat_lt begun end.0 && not (is_taken calls end.0)
 
--- Returns whether the call x can be appended to the calls of a history: x starts after all of them have started, the
--- thread of x has no pending call, and no other call starts or ends when x starts or ends.
+-- Returns whether the call x can be appended to the calls of a history. It starts after all of them have started, and
+-- ends after its start. All earlier calls of its thread have ended before its start. No other call starts or ends at
+-- the moments when x starts and ends.
 abbrev pub may_follow : ℕ → List CallRecord → CallRecord → Bool
 may_follow threads calls x =
     nat_lt x.thread threads
@@ -219,9 +220,9 @@ with_line r (told.Place p) = record r { order = r.order ++ p ∷ [] }
 with_line r (told.Key k) = record r { keys = r.keys ++ k ∷ [] }
 with_line r told.End = r
 
--- ---- A text as a list of lines: the complete lines, then the bytes after the last newline
+-- ---- Reading a text, cut into its complete lines and the bytes after the last newline
 
--- The state of a reader after some lines: the section that it has reached, and the report read so far.
+-- The state of a reader after some lines: its current section, and the report read so far.
 pub record SoFar : Type 0 where
   pub section : Section
   pub report : ReportValue
@@ -273,8 +274,7 @@ report_of parts = versioned_from text parts >>= λ last. Ok last.report
 abbrev pub reading : List ℕ → Result ReportValue LineFault
 reading bytes = report_of (cut_at 10 bytes)
 
--- States that reading and writing agree: the text of every report is read as this report, and only texts of reports are
--- read.
+-- Reading and writing agree: the text of every report is read as this report, and only texts of reports are read.
 abbrev pub ReportsReadBack : Type 0
 ReportsReadBack = (r : ReportValue) (bytes : List ℕ)
     → (IsReport r → reading (report_text r) ≡ Ok r)
@@ -298,7 +298,7 @@ pub record RunsOut (first : ℕ) (parts : List (List ℕ)) (read : Result Report
   -- Neither the line that caused the failed allocation nor any line before it has another error.
   pub good : IsFaultlessTo e.line read
 
--- States that the result is the report with this text, the first error in the text, or Memory from a failed allocation.
+-- Holds if the result is the report with this text, the first error in the text, or `Memory` for a failed allocation.
 abbrev pub Gives : {X : Type 0} → (X → ReportValue) → Result X LineFault → List ℕ → Type 0
 Gives view (Ok x) bytes = reading bytes ≡ Ok (view x)
 Gives view (Err e) bytes = (reading bytes ≡ Err e) ⊎ RunsOut 1 (cut_at 10 bytes) (reading bytes) e

@@ -55,7 +55,7 @@ report_text r = text_of (report_lines r)
 
 -- ---- Reports that a version of the format can express
 
--- States that the call is pending, or that the version has a word for its reply.
+-- Holds if the call is pending, or the version has a word for its reply.
 abbrev pub HasEnd : Version → Option (ℕ × Reply) → Type 0
 HasEnd version None = Unit {0}
 HasEnd version (Some end) = HasReply version end.1
@@ -65,8 +65,9 @@ HasWordsIn One calls order = AllByRecursion (λ (x : CallRecord). HasCall One x.
     × AllByRecursion (λ (p : Placed). HasReply One p.reply) order
 HasWordsIn Two calls order = Unit {0}
 
--- States that the report's version of the format has words for everything in the report. Version 1 has no words for
--- opening keys, for `ceiling` and for the replies of `ceiling`. Version 2 can express every report.
+-- Holds if the report's version of the format has words for everything in the report. Version 1 has no words for
+-- opening keys (the keys at the start), for `ceiling` and for the replies of `ceiling`. Version 2 can express every
+-- report.
 pub record HasWordsOfVersion (r : ReportValue) : Type 0 where
   pub opening : HasOpening r.version r.history.opening.keys
   pub words : HasWordsIn r.version r.history.calls r.order

@@ -44,7 +44,7 @@ room_for_events : {L : Type 0} (b : Bool) (s t : BodyValue L) → cond b (Err To
 room_for_events true s t is = absurd cc
 room_for_events false s t is = (refl, ok_is s t is)
 
--- States that the content s can be written in version v of the format: s is within the limits, and version v has the
+-- Holds if the content s can be written in version v of the format: s is within the limits, and version v has the
 -- opening keys and lines of s.
 pub record HasText {L : Type 0} (text : EventLines L) (v : Version) (Good : L → Type 0) (s : BodyValue L) : Type 0 where
   pub opens : Opens (record { threads = s.header.threads; quota = s.header.quota; keys = s.keys })
@@ -108,7 +108,7 @@ module _ {L : Type 0} (text : EventLines L) (v : Version) (title : List ℕ) (pi
 
   -- ---- Lemmas about a single line
 
-  -- States that the content t can be written, and that its text is the text of s followed by the line x.
+  -- Holds if the content t can be written, and its text is the text of s followed by the line x.
   abbrev Adds : BodyValue L → List ℕ → BodyValue L → Type 0
   Adds s x t = HasText text v Good t × (text_lines t ≡ text_lines s ++ x ∷ [])
 

@@ -1,5 +1,5 @@
--- Lemmas about the loop that reads the lines after the header: which line an error names, and why no line of a text has
--- the error `Memory`.
+-- Lemmas about the loop that reads the lines after the header: the line that an error names, and the reason why no
+-- line of a text has the error `Memory`.
 use Rattle.std.proofs.Common.{arith, ◌≡◌, ℕ, ◌+◌, inl, inr, Bool, true, false, cond, ltb, List, [], ◌∷◌, length, Option, Some}
 use Rattle.std.proofs.Common.{None, Result, Err, refl, codes}
 use Rattle.std.specs.Prelude.{MatchOption}

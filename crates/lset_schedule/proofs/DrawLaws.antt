@@ -1,4 +1,4 @@
--- Lemmas about loops that draw calls and programs one by one.
+-- Lemmas about loops that draw calls and programs (lists of calls, one for each thread) one by one.
 use Rattle.std.proofs.Common.{◌≡◌, ℕ, suc, ◌+◌, ◌-◌, ◌<◌, ◌≤◌, List, [], ◌∷◌, ◌++◌, map, append_assoc, append-nil, refl, sym, ap}
 use Rattle.std.proofs.Common.{◌∙◌, arith}
 use Rattle.std.specs.List.{range_with_len}

@@ -1,5 +1,5 @@
--- The lines that `generate` draws, as a function of the seed. `generate` works in turns, and random numbers determine
--- what happens in each turn.
+-- The lines that `generate` draws, as a function of the seed. `generate` works in turns. Random numbers determine the
+-- event of each turn.
 use Rattle.std.specs.Prelude.{◌≡◌, ℕ, zero, suc, ◌-◌, ◌%◌, ◌<◌, ◌⊎◌, ◌==◌, if◌then◌else◌, Option, Some, None, List, [], ◌∷◌, ◌++◌, length}
 use Rattle.rand_core.specs.Stream.{Stream, next_u32}
 use Rattle.lset_schedule.specs.declared.TheConstants.{MOST_GENERATED, MOST_TURNS}
@@ -20,7 +20,7 @@ abbrev pub left_after : ℕ → Event → ℕ
 left_after left (event.Begin t call) = left - 1
 left_after left (event.Go t) = left
 
--- States that a schedule ends here: the maximum number of events is reached, or no call is pending and no further call
+-- Holds if a schedule ends here: the maximum number of events is reached, or no call is pending and no further call
 -- can begin.
 abbrev pub IsOver : State → ℕ → ℕ → Type 0
 IsOver s events left =
@@ -63,7 +63,7 @@ after_turn T threads keys p =
 abbrev pub IsEnd : Progress → Type 0
 IsEnd p = IsOver p.state (length p.lines) p.left
 
--- States that `lines` are the lines of the schedule after at most `turns` further turns of `generate` from state p (a
+-- Holds if `lines` are the lines of the schedule after at most `turns` further turns of `generate` from state p (a
 -- turn draws at most one event). `generate` stops early if the schedule ends.
 unfoldable pub AreDrawn : Table → ℕ → ℕ → ℕ → Progress → List Line → Type 0
 AreDrawn T threads keys zero p lines = lines ≡ p.lines
@@ -78,7 +78,7 @@ before_turns threads quota calls answers = record {
   answers = answers;
 }
 
--- States that `generate` draws these lines for these arguments.
+-- Holds if `generate` draws these lines for these arguments.
 abbrev pub AreOfSeed : Table → ℕ → ℕ → ℕ → ℕ → ℕ → List Line → Type 0
 AreOfSeed T threads quota calls keys seed lines =
     AreDrawn T threads keys MOST_TURNS (before_turns threads quota calls (seeded seed)) lines

@@ -1,4 +1,4 @@
--- The calls that random numbers select, and the programs that a seed determines.
+-- The calls that random numbers select, and the programs (lists of calls, one for each thread) that a seed determines.
 use Rattle.std.specs.Prelude.{ℕ, zero, suc, ◌+◌, ◌%◌, ◌^◌, ◌==◌, List, [], ◌∷◌, map, if◌then◌else◌}
 use Rattle.std.specs.List.{range_with_len}
 use Rattle.rand_core.specs.Pcg32Seed.{pcg32_seed}
@@ -36,11 +36,11 @@ drawn_calls keys (suc n) s =
     let others = drawn_calls keys n first.1 in
     (first.0 ∷ others.0, others.1)
 
--- Returns the random program of a thread. The random generator of the thread is seeded with the wrapping sum of the
--- seed and the thread's number.
+-- Returns the random program of a thread (its list of calls). The thread's random generator is seeded with the
+-- wrapping sum of the seed and the thread's number.
 unfoldable pub program_of : ℕ → ℕ → ℕ → ℕ → List Call
 program_of calls keys seed thread = (drawn_calls keys calls (seeded ((seed + thread) % 2 ^ 64))).0
 
--- Returns the random programs of threads 0 to `threads` - 1.
+-- Returns the random programs (lists of calls) of threads 0 to `threads` - 1.
 abbrev pub programs_of : ℕ → ℕ → ℕ → ℕ → List (List Call)
 programs_of threads calls keys seed = map (program_of calls keys seed) (range_with_len 0 threads)

@@ -27,8 +27,8 @@ abbrev pub is_begin : Line → Bool
 is_begin (line.Begin t call) = true
 is_begin (line.Go t steps) = false
 
--- States that a line is one event of one of the threads. If the event begins a call, the key of the call is below
--- `keys`, and version 1 of the format can express this call.
+-- Holds if a line is one event of one of the threads. If the event begins a call, the key of the call is below `keys`,
+-- and version 1 of the format can express this call.
 abbrev pub IsGeneratedLine : ℕ → ℕ → Line → Type 0
 IsGeneratedLine threads keys (line.Begin t call) = (t < threads) × ((key_of call).0 < keys) × HasCall One call
 IsGeneratedLine threads keys (line.Go t steps) = (t < threads) × (steps ≡ 1)
@@ -37,7 +37,7 @@ abbrev pub StartsWithBegin : List Line → Type 0
 StartsWithBegin [] = ⊥
 StartsWithBegin (l ∷ ls) = is_begin l ≡ true
 
--- States that thread t has no pending call after these events on a set without opening keys.
+-- Holds if thread t has no pending call after these events on a set without opening keys (keys at the start).
 abbrev pub NoneOpenAfter : Table → ℕ → ℕ → List Event → ℕ → Type 0
 NoneOpenAfter T threads quota es t = (local_of (state_at T (empty threads quota) (event_at es) (length es)) t).pc ≡ 0
 
@@ -54,11 +54,11 @@ pub record IsGenerated (T : Table) (threads quota calls keys : ℕ) (lines : Lis
       → (length lines ≡ MOST_GENERATED)
       ⊎ ((count_by is_begin lines ≡ calls) × NoneOpenAfter T threads quota (events_of_lines lines) 0)
 
--- States that `generate` accepts these arguments.
+-- Holds if `generate` accepts these arguments.
 abbrev pub IsAccepted : ℕ → ℕ → ℕ → Type 0
 IsAccepted threads quota keys = IsWithin (record { threads = threads; quota = quota; opening = 0 }) × (0 < keys)
 
--- States that `generate` returns this error for these arguments: the error of the first check that fails, or `Memory`
+-- Holds if `generate` can return this error for these arguments: the error of the first check that fails, or `Memory`
 -- if no check fails.
 abbrev pub Refuses : ℕ → ℕ → ℕ → GenFault → Type 0
 Refuses threads quota keys Threads = (threads ≡ 0) ⊎ (MOST_THREADS < threads)

@@ -10,11 +10,11 @@ use Rattle.lset_steps.specs.Steps.{State, local_of}
 abbrev pub HasOpenCall : State → ℕ → Type 0
 HasOpenCall s t = (local_of s t).pc ≢ 0
 
--- States that a turn for thread t has no event: the thread has no pending call, and no further call can begin.
+-- Holds if a turn for thread t has no event: the thread has no pending call, and no further call can begin.
 abbrev pub IsIdle : State → ℕ → ℕ → Type 0
 IsIdle s t left = ((local_of s t).pc ≡ 0) × (left ≡ 0)
 
--- States that e is a possible event of a turn for thread t: a step of the thread's pending call, or the start of a call
+-- Holds if e is a possible event of a turn for thread t: a step of the thread's pending call, or the start of a call
 -- if `left` calls can still begin.
 abbrev pub IsNextEvent : State → ℕ → ℕ → ℕ → Event → Type 0
 IsNextEvent s t left keys (event.Begin u call) = (u ≡ t) × ((local_of s t).pc ≡ 0) × (0 < left) × ((key_of call).0 < keys)

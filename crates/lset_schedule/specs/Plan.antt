@@ -43,7 +43,8 @@ view s = planned s.version (record { kind = s.kind; threads = s.threads; quota =
 abbrev pub header_in : Plan → Header
 header_in p = record { kind = p.kind; threads = p.threads; quota = p.quota }
 
--- Returns the opening of the set that a schedule runs on: its threads, quota and opening keys.
+-- Returns the opening of the set that a schedule runs on: its number of threads, its quota (the most successful adds
+-- of a thread) and its opening keys.
 abbrev pub opening_in : Plan → Opening
 opening_in p = record { threads = p.threads; quota = p.quota; keys = p.opening }
 
@@ -72,7 +73,7 @@ first_event_line p = first_line + length p.opening
 
 -- ---- The limits of a schedule
 
--- Returns the number of events that a line counts as: 1, or the number of steps of a `go` line.
+-- Returns how many events a line counts as: the number of steps for a `go` line, else 1.
 abbrev pub event_count : Line → ℕ
 event_count (Begin thread call) = 1
 event_count (Go thread steps) = steps
@@ -94,11 +95,11 @@ abbrev pub HasCallOfLine : Version → Line → Type 0
 HasCallOfLine version (Begin thread call) = HasCall version call
 HasCallOfLine version (Go thread steps) = Unit {0}
 
--- States that the format version of a schedule can express each call that the schedule begins.
+-- Holds if the format version of a schedule can express each call that the schedule begins.
 abbrev pub HasCallsOfVersion : Plan → Type 0
 HasCallsOfVersion p = AllByRecursion (HasCallOfLine p.version) p.lines
 
--- States that a schedule can be written in its format version: the version has all calls of the schedule, and has
--- opening keys if the schedule has any. `IsSchedule` implies this condition (see proofs/VersionLaws.antt).
+-- Holds if a schedule can be written in its format version: the version has all calls of the schedule, and has opening
+-- keys if the schedule has any. `IsSchedule` implies this condition (see proofs/VersionLaws.antt).
 abbrev pub HasWordsOfVersion : Plan → Type 0
 HasWordsOfVersion p = HasOpening p.version p.opening × HasCallsOfVersion p

@@ -28,7 +28,7 @@ use Rattle.lset_schedule.specs.Plan.{Plan, planned, IsSchedule, title, schedule_
 
 -- ---- Reading the lines after the header: opening keys, then event lines
 
--- A kind of text with event lines: the patterns of these lines, and how many events each line counts as.
+-- A kind of text with event lines: the patterns of these lines, and the number of events that each line counts as.
 pub record EventLines (L : Type 0) : Type 0 where
   pub kinds : List (LineKind L)
   pub count : L → ℕ
@@ -95,9 +95,9 @@ schedules version = texts events version (title version)
 abbrev pub plan_in : Version → List (List ℕ) → Result Plan LineFault
 plan_in version parts = text_from (schedules version) parts >>= λ told. Ok (planned version told.header told.keys told.lines)
 
--- Returns the format version of a schedule, which depends only on the first line of its text: version 2 if this line is
--- the title of version 2, else version 1. If the title of version 2 has no newline, the version is 2, and the line is
--- rejected just as in version 1.
+-- Returns the format version of a schedule, which depends only on the first line of its text: version 2 if this line
+-- is the title of version 2, else version 1. A title of version 2 without a newline counts as version 2. Either
+-- version rejects such a text with the same error.
 abbrev pub version_told : List (List ℕ) → Version
 version_told parts = version_in (title Two) parts
 
@@ -107,20 +107,20 @@ plan_of parts = plan_in (version_told parts) parts
 abbrev pub reading : List ℕ → Result Plan LineFault
 reading bytes = plan_of (cut_at 10 bytes)
 
--- States that reading inverts writing: a text that can be read as a schedule is the text of this schedule, and the text
--- of each schedule can be read.
+-- Reading inverts writing: a text that can be read as a schedule is the text of this schedule, and the text of each
+-- schedule can be read.
 abbrev pub SchedulesReadBack : Type 0
 SchedulesReadBack = (p : Plan) (bytes : List ℕ)
     → (IsSchedule p → reading (schedule_text p) ≡ Ok p)
     × (reading bytes ≡ Ok p → IsSchedule p × (bytes ≡ schedule_text p))
 
--- States that a function returned the result `read`, or that an allocation failed. `view` maps the value that the
--- function returned to the value in `read`.
+-- Holds if a function returned the result `read`, or an allocation failed. `view` maps the value that the function
+-- returned to the value in `read`.
 abbrev pub Gives : {X Y : Type 0} → (X → Y) → Result X LineFault → Result Y LineFault → Type 0
 Gives view (Ok x) read = read ≡ Ok (view x)
 Gives view (Err e) read = e.cause ≢ Memory → read ≡ Err e
 
--- States that `line` is a complete line after the header, and that this line and all lines before it have no error.
+-- Holds if `line` is a complete line after the header, and this line and all lines before it have no error.
 abbrev pub IsGoodAfterHeader : {X : Type 0} → List ℕ → Result X LineFault → ℕ → Type 0
 IsGoodAfterHeader bytes read line = (last_of_header < line) × lines.IsGoodLine 1 (cut_at 10 bytes) read line
 
@@ -132,12 +132,12 @@ IsGoodLine bytes line = IsGoodAfterHeader bytes (reading bytes) line
 abbrev pub told : {L : Type 0} → TextBody L → BodyValue L
 told t = record { header = t.header; keys = t.opening.items; lines = t.lines.items }
 
--- States that the reader's count of events is correct and within the limit.
+-- Holds if the reader's count of events is correct and within the limit.
 abbrev pub Counts : {L : Type 0} → EventLines L → TextBody L → Type 0
 Counts text t = (t.total ≡ sum_by text.count t.lines.items) × (t.total ≤ MOST_EVENTS)
 
--- States that a reader has processed a line as the grammar demands: the reader has extended its content, or returned
--- the error of the line, or failed to allocate at a line without errors.
+-- Holds if a reader has processed a line as the grammar demands: the reader has extended its content, or returned the
+-- error of the line, or failed to allocate at a line without errors.
 abbrev pub Takes : {L X : Type 0} → Result (BodyValue L) Cause → BodyValue L → Result X Cause → Type 0
 Takes next now (Ok x) = next ≡ Ok now
 Takes {L = L} next now (Err cause) = (next ≡ Err cause) ⊎ ((cause ≡ Memory) × (s : BodyValue L) × (next ≡ Ok s))

@@ -77,7 +77,7 @@ line_due_ok line cause [] due is = absurd cc
 line_due_ok line cause (rest ∷ []) due is = absurd cc
 line_due_ok line cause (a ∷ b ∷ more) due is = subst (IsDue (a ∷ b ∷ more)) (ok_is (a, b ∷ more) due is) (refl, omega arith)
 
--- States that `read` reads the value `told.0` from the first line. `told.1` contains the parts after this line, and is
+-- Holds if `read` reads the value `told.0` from the first line. `told.1` contains the parts after this line, and is
 -- not empty.
 abbrev IsToldBy : {A : Type 0} → (List ℕ → Option A) → List (List ℕ) → A × List (List ℕ) → Type 0
 IsToldBy read parts told = (x : List ℕ) × (parts ≡ x ∷ told.1) × (read x ≡ Some told.0) × (0 < length told.1)
@@ -102,8 +102,8 @@ told_again line cause read x y more told is = rw is refl
 abbrev Found : Type 0
 Found = Header × List (List ℕ)
 
--- Continues reading a header after its quota line. The next three functions continue after the threads line, after the
--- kind line, and after the title.
+-- `after_quota` continues reading a header after its quota line. `after_threads`, `after_kind` and `after_title`
+-- continue after the threads line, the kind line and the title.
 abbrev after_quota : Kind → ℕ → ℕ × List (List ℕ) → Result Found LineFault
 after_quota kind threads quota = Ok (record { kind = kind; threads = threads; quota = quota.0 }, quota.1)
 

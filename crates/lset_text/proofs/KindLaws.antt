@@ -17,8 +17,8 @@ pub made_ok : {X Y : Type 0} (f : X → Y) (r : Result X Cause) (y : Y) → made
 made_ok f (Ok x) y e = (x, refl, ok_is (f x) y e)
 made_ok f (Err d) y e = absurd cc
 
--- States two properties of a kind of line. Its form can be read back. Each value made from fields that the version can
--- spell has the property `Good`, and the value's spelling consists of these fields.
+-- Two properties of a kind of line. Its form can be read back. Each value made from fields that the version can spell
+-- has the property `Good`, and the value's spelling consists of these fields.
 abbrev pub Knows : {X : Type 0} → Version → (X → List (List ℕ)) → (X → Type 0) → LineKind X → Type 0
 Knows v pieces Good k = IsForm k.0 × ((t : Told k.0) → AllFit v k.0 t → (spell k.0 t ≡ pieces (k.1 t)) × Good (k.1 t))
 
@@ -66,7 +66,7 @@ line_found_lacks v none pieces Good ks line x known e =
     let found = line_found v none pieces (λ y. Lacks 10 (line_of (pieces y))) ks line x (lacks_too v pieces Good ks known) e in
     subst (Lacks 10) (sym found.0) found.1
 
--- States that the value `x` can be read from a line of one of these kinds, and that this is the first kind whose form
+-- Holds if the value `x` can be read from a line of one of these kinds, and this is the first kind with a form that
 -- matches the spelling of `x`.
 abbrev pub IsMade : {X : Type 0} → Version → (X → List (List ℕ)) → List (LineKind X) → X → Type 0
 IsMade v pieces [] x = ⊥

@@ -113,7 +113,7 @@ is_good {S} g first text read line s t rest x after parts is stands =
       rw (← more) (faultless_from g line (line + 1) t (cut_at 10 after) (omega arith)),
     )
 
--- Lemmas about the line at which reading stops, because the line has an error or an allocation failed.
+-- Lemmas about the last line that is read, if it has an error or an allocation failed.
 module _ {S : Type 0} (g : Grammar S) (first : ℕ) (text : List ℕ) (read : Result S LineFault) (line : ℕ) (s : S)
     (rest x after : List ℕ) (parts : cut_at 10 rest ≡ x ∷ cut_at 10 after) (stands : Stands g first text read line s rest)
     (cause : Cause) where

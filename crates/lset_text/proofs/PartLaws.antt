@@ -37,7 +37,8 @@ some_part byte text = omega (arith, length-slice_split (λ b. eqb b byte) text)
 
 -- ---- Lemmas about bytes that do not occur in a text
 
--- Returns whether a byte is absent from a text. Unlike `Lacks`, this function can be computed for a given text.
+-- Returns whether a byte is absent from a text. Unlike the proposition `Lacks`, this test can be computed for a given
+-- text.
 abbrev pub is_free : ℕ → List ℕ → Bool
 is_free byte [] = true
 is_free byte (b ∷ bs) = not (eqb b byte) && is_free byte bs

@@ -37,9 +37,9 @@ pub push_before : {X : Type 0} (f a : List (List ℕ)) (line : X → List ℕ) (
     → f ++ map line (xs ++ x ∷ []) ++ a ≡ f ++ map line xs ++ a ++ line x ∷ []
 push_before f a line xs x none = rw (none, map_push line xs x) (simp (append-nil, append_assoc))
 
--- ---- Lemmas about the section that the reader is currently in
+-- ---- Lemmas about the current section of the reader
 
--- Returns the section that the reader is in: `s` if the list of items is still empty, else `t`.
+-- Returns the current section of the reader: `s` if the list of items is still empty, else `t`.
 abbrev pub later : {X T : Type 0} → List X → T → T → T
 later [] s t = s
 later (x ∷ xs) s t = t

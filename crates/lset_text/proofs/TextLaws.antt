@@ -92,8 +92,8 @@ some_first : (ls : List (List ℕ)) → (y : List ℕ) × (more : List (List ℕ
 some_first [] = ([], [], refl)
 some_first (l ∷ ls) = (l, ls ++ [] ∷ [], refl)
 
--- If some lines lead from the header's start state to a possible last state, reading the header and these lines returns
--- this state.
+-- If some lines lead from the header's start state to a possible last state, reading the header and these lines
+-- returns the last state.
 pub text_again : {S : Type 0} (g : TextGrammar S) (P : S → Type 0)
     → ((s t : S) (x : List ℕ) → P s → g.lines.step s x ≡ Ok t → P t × Lacks 10 x)
     → (h : Header) (xs : List (List ℕ)) (t : S) → Lacks 10 g.title → IsHeader h → P (g.start h)

@@ -110,7 +110,7 @@ at_again : (k : Key) → k.0 < 2 ^ 32 → reply_in Two (reply_text (reply.At k))
 unfolding reply_of
 at_again k low = rw (number_again 0 max_number k.0 (omega arith) (omega arith) (omega arith)) refl
 
--- States that the field is the spelling of this reply and looks like a reply, and that the version has this reply.
+-- Holds if the field is the spelling of this reply and looks like a reply, and the version has this reply.
 abbrev pub ReadFrom : Version → Reply → List ℕ → Bool → Type 0
 ReadFrom v r piece form = HasReply v r × (piece ≡ reply_text r) × (form ≡ true)
 

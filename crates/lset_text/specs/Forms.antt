@@ -43,7 +43,7 @@ spelled kind k = kind_text k
 spelled call w = call_word_text w
 spelled reply r = reply_text r
 
--- States that this version of a file format can spell this value in this field.
+-- Holds if this version of a file format can spell this value in this field.
 abbrev pub Fits : Version → (p : Piece) → Tells p → Type 0
 Fits v (word w) t = Unit {0}
 Fits v (number low high) n = (low ≤ n) × (n ≤ high)
@@ -111,8 +111,8 @@ all_told v (p ∷ f) (x ∷ xs) = both (told v p x) (all_told v f xs)
 abbrev pub told_in : Version → (f : Form) → List (List ℕ) → Option (Told f)
 told_in v f xs = if have_form v f xs then all_told v f xs else None
 
--- States that the field can be separated from its neighbours and read back: a fixed word has only bytes from 45 up
--- (letters, digits and dashes, but no space and no newline), and the largest number is below 2^64.
+-- Holds if the field can be separated from its neighbours and read back. A fixed word has only bytes from 45 up
+-- (letters, digits and dashes, but no space and no newline). The largest number is below 2^64.
 abbrev pub IsPiece : Piece → Type 0
 IsPiece (word w) = all_from 45 w ≡ true
 IsPiece (number low high) = high < 2 ^ 64
@@ -126,8 +126,8 @@ abbrev pub IsForm : Form → Type 0
 IsForm [] = ⊥
 IsForm (p ∷ f) = IsPiece p × ArePieces f
 
--- States that reading inverts writing for every form of line: reading a line returns values if and only if the version
--- can spell these values and the line is their spelling.
+-- Reading inverts writing for every form of line: reading a line returns values if and only if the version can spell
+-- these values and the line is their spelling.
 abbrev pub FormsReadBack : Type 0
 FormsReadBack = (v : Version) (f : Form) (line : List ℕ) (t : Told f) → IsForm f
     → (AllFit v f t → told_in v f (cut_at 32 (line_with f t)) ≡ Some t)

@@ -1,4 +1,5 @@
--- The header of a file, its first four lines: title, kind of list, number of threads, and quota.
+-- The header of a file, its first four lines: title, kind of list, number of threads, and quota (the most successful
+-- adds of a thread).
 use Rattle.std.specs.Prelude.{◌≡◌, ℕ, ◌==◌, List, [], ◌∷◌, ◌++◌, length, codes, Option, Some, None, Result, Ok, Err}
 use Rattle.std.specs.Prelude.{if◌then◌else◌, option_map}
 use Rattle.std.specs.Fmt.{decimal}
@@ -32,7 +33,7 @@ abbrev pub header_lines : List ℕ → Header → List (List ℕ)
 header_lines title h =
     title ∷ kind_line h.kind ∷ number_line (codes "threads") h.threads ∷ number_line (codes "quota") h.quota ∷ []
 
--- States that the header has 1 to 64 threads and a quota from 0 to 16,384.
+-- Holds if the header has 1 to 64 threads and a quota from 0 to 16,384.
 abbrev pub IsHeader : Header → Type 0
 IsHeader h = IsWithin (record { threads = h.threads; quota = h.quota; opening = 0 })
 
@@ -98,7 +99,7 @@ header_of title parts = do
   quota ← quota_told threads.1
   Ok (record { kind = kind.0; threads = threads.0; quota = quota.0 }, quota.1)
 
--- States that reading the text of a header returns this header, whatever text follows.
+-- Reading the text of a header returns this header, whatever text follows.
 abbrev pub HeadersReadBack : Type 0
 HeadersReadBack = (title : List ℕ) (h : Header) (rest : List ℕ) → Lacks 10 title → IsHeader h
     → header_of title (cut_at 10 (text_of (header_lines title h) ++ rest)) ≡ Ok (h, cut_at 10 rest)

@@ -19,8 +19,8 @@ abbrev pub made : {X Y : Type 0} → (X → Y) → Result X Cause → Result Y C
 made f (Ok x) = Ok (f x)
 made f (Err e) = Err e
 
--- Reads a line that was cut into fields. The first kind whose form matches the line makes the value. If no kind
--- matches, the line is refused with the cause `none`. If a kind matches, but one of the line's numbers is malformed or
+-- Reads a line that was cut into fields. The value comes from the first kind with a form that matches the line. If no
+-- kind matches, the line is refused with the cause `none`. If a kind matches, but a number in the line is malformed or
 -- out of range, the line is refused with `Number`.
 abbrev pub first_of : {X : Type 0} → Version → Cause → List (LineKind X) → List (List ℕ) → Result X Cause
 first_of v none [] pieces = Err none

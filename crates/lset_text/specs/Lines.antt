@@ -23,18 +23,18 @@ lines_from g line s (x ∷ y ∷ more) = do
   next ← map_fault (fault line) (g.step s x)
   lines_from g (line + 1) next (y ∷ more)
 
--- States that reading the lines `xs` changes state `s` to state `t`.
+-- Holds if reading the lines `xs` changes state `s` to state `t`.
 abbrev pub Leads : {S : Type 0} → Grammar S → S → List (List ℕ) → S → Type 0
 Leads g s [] t = s ≡ t
 Leads {S = S} g s (x ∷ xs) t = (next : S) × (g.step s x ≡ Ok next) × Leads g next xs t
 
--- States that no error was found in line number `line` or an earlier line.
+-- Holds if no error was found in line number `line` or an earlier line.
 abbrev pub IsFaultlessTo : {X : Type 0} → ℕ → Result X LineFault → Type 0
 IsFaultlessTo line (Ok x) = Unit {0}
 IsFaultlessTo line (Err e) = line < e.line
 
--- States that `line` is the number of a complete line, and that no error was found in this line or an earlier one.
--- `first` is the number of the first line. The last part is the text after the last newline.
+-- Holds if `line` is the number of a complete line, and no error was found in this line or an earlier one. `first` is
+-- the number of the first line. The last part is the text after the last newline.
 abbrev pub IsGoodLine : {X : Type 0} → ℕ → List (List ℕ) → Result X LineFault → ℕ → Type 0
 IsGoodLine first parts read line = (first ≤ line) × (line + 1 < first + length parts) × IsFaultlessTo line read
 

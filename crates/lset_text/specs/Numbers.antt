@@ -21,8 +21,7 @@ number_in low high piece =
 abbrev pub max_number : ℕ
 max_number = 4294967295
 
--- States that reading inverts writing for numbers: a field is read as a number if and only if it is the number's
--- decimal numeral.
+-- Reading inverts writing for numbers: a field is read as a number if and only if it is the number's decimal numeral.
 abbrev pub NumbersReadBack : Type 0
 NumbersReadBack = (low high n : ℕ) (piece : List ℕ) → high < 2 ^ 64
     → (low ≤ n → n ≤ high → number_in low high (decimal n) ≡ Some n)

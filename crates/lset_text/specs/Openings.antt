@@ -1,4 +1,5 @@
--- The `opening K` lines that follow the header in a file of version 2. They list the set's opening keys.
+-- The `opening K` lines that follow the header in a file of version 2. They list the set's opening keys (the keys at
+-- the start).
 use Rattle.std.specs.Prelude.{◌≡◌, ℕ, ◌-◌, nat_lt, Bool, true, List, [], length, map, codes, Option, Some, None, slice_get}
 use Rattle.lset_text.specs.declared.words.Version.{Version}
 use Rattle.lset_text.specs.declared.words.Version.TheVariants.{One, Two}
@@ -16,7 +17,7 @@ opening_lines keys = map opening_line keys
 abbrev pub opening_form : Form
 opening_form = number_form (codes "opening") 0 max_number
 
--- States that a file of this version can have these opening keys. A file of version 1 has none.
+-- Holds if a file of this version can have these opening keys (the keys at the start). A file of version 1 has none.
 abbrev pub HasOpening : Version → List ℕ → Type 0
 HasOpening One keys = keys ≡ []
 HasOpening Two keys = Unit {0}

@@ -19,7 +19,7 @@ ended line = line ++ 10 ∷ []
 abbrev pub text_of : List (List ℕ) → List ℕ
 text_of lines = flat_map ended lines
 
--- States that the byte does not occur in the text.
+-- Holds if the byte does not occur in the text.
 abbrev pub Lacks : ℕ → List ℕ → Type 0
 Lacks byte text = All (λ b. b == byte ≡ false) text
 

@@ -73,7 +73,7 @@ HasWord version word.Add = Unit {0}
 HasWord One word.Ceiling = ⊥
 HasWord version w = Unit {0}
 
--- States that this version of a file format has this call.
+-- Holds if this version of a file format has this call.
 abbrev pub HasCall : Version → Call → Type 0
 HasCall version c = HasWord version (word_of c)
 
@@ -112,7 +112,7 @@ abbrev pub is_reply_in : Version → List ℕ → Bool
 is_reply_in One piece = is_some (reply_of (plain_in One) piece)
 is_reply_in Two piece = is_some (reply_of (plain_in Two) piece) || begins_at piece
 
--- States that this version of a file format can express this reply.
+-- Holds if this version of a file format can express this reply.
 abbrev pub HasReply : Version → Reply → Type 0
 HasReply version reply.True = Unit {0}
 HasReply One (reply.At k) = ⊥
@@ -120,8 +120,8 @@ HasReply Two (reply.At k) = k.0 < 2 ^ 32
 HasReply One reply.Nothing = ⊥
 HasReply version r = Unit {0}
 
--- States that reading inverts writing for kinds of lists: a field is read as a kind if and only if it is the kind's
--- name. `CallsReadBack` and `RepliesReadBack` state this for calls and replies.
+-- Reading inverts writing for kinds of lists: a field is read as a kind if and only if it is the kind's name.
+-- `CallsReadBack` and `RepliesReadBack` are the same law for calls and replies.
 abbrev pub KindsReadBack : Type 0
 KindsReadBack = (k : Kind) (piece : List ℕ)
     → (kind_of (kind_text k) ≡ Some k) × (kind_of piece ≡ Some k → piece ≡ kind_text k)

@@ -19,22 +19,22 @@ abbrev pub HasOrderIf : Bool → Recording → Type 0
 HasOrderIf true c = (keys : List ℕ) × IsExplained (history_of c) keys
 HasOrderIf false c = IsExplained (history_of c) c.keys
 
--- States that some order explains the calls of a recording and leaves its final keys. If the recording was cut off, the
+-- Holds if some order explains the calls of a recording and leaves its final keys. If the recording was cut off, the
 -- order can leave any keys.
 abbrev pub HasOrder : Recording → Type 0
 HasOrder c = HasOrderIf c.cut_off c
 
--- States that the answer is correct. If some order explains the recording, the answer begins with `ok N calls` and has
+-- Holds if the answer is correct. If some order explains the recording, the answer begins with `ok N calls` and has
 -- status 0. If no order does, the answer begins with `not linearizable` and has status 1.
 abbrev pub IsRight : Recording → AnswerValue → Type 0
 IsRight c answer = (HasOrder c × (answer.status ≡ 0) × Begins (ok_line (length c.calls)) answer.text)
     ⊎ ((HasOrder c → ⊥) × (answer.status ≡ 1) × Begins (codes "not linearizable\n") answer.text)
 
--- States that `read` is the only result of reading the bytes.
+-- Holds if `read` is the only result of reading the bytes.
 abbrev pub SaysOnly : List ℕ → Result Recording LineFault → Type 0
 SaysOnly bytes read = Says bytes read × ((other : Result Recording LineFault) → Says bytes other → other ≡ read)
 
--- States that the result is correct: an exact answer about the recording, the error of the first wrong line with its
+-- Holds if the result is correct: an exact answer about the recording, the error of the first wrong line with its
 -- cause, `CannotRead` for a failed read, or `Memory` for a failed allocation.
 abbrev pub JudgesRightly : List ℕ → Made → Type 0
 JudgesRightly bytes (Ok answer) = (c : Recording) × SaysOnly bytes (Ok c) × IsRight c answer

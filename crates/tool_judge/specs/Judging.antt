@@ -38,12 +38,12 @@ clash_text key (Some c) = clash_lines key c
 abbrev pub refused_text : Refusal → Option Clash → List ℕ
 refused_text r clash = refused_lines r ++ clash_text r.key.0 clash
 
--- States that the text begins with `head`.
+-- Holds if the text begins with `head`.
 abbrev pub Begins : List ℕ → List ℕ → Type 0
 Begins head text = (more : List ℕ) × (text ≡ head ++ more)
 
--- States that the answer is correct for a verdict on this number of calls. The text begins with the lines of the
--- verdict. The status is 0 for `Linearizable` and 1 for `NotLinearizable`. Further lines can follow.
+-- Holds if the answer is correct for a verdict on this number of calls. The text begins with the lines of the verdict.
+-- The status is 0 for `Linearizable` and 1 for `NotLinearizable`. Further lines can follow.
 abbrev pub IsAnswerTo : Verdict → ℕ → AnswerValue → Type 0
 IsAnswerTo Linearizable calls answer = Begins (ok_line calls) answer.text × (answer.status ≡ 0)
 IsAnswerTo (NotLinearizable refusal clash) calls answer = Begins (refused_text refusal clash) answer.text × (answer.status ≡ 1)
@@ -58,24 +58,23 @@ abbrev pub shown_in : Detail → Verdict → Verdict
 shown_in Whole verdict = verdict
 shown_in Brief verdict = without_clash verdict
 
--- States that the answer prints a correct verdict on this recording. A brief answer leaves out its contradiction.
+-- Holds if the answer prints a correct verdict on this recording. A brief answer leaves out the contradiction.
 pub record IsAnswerOn (detail : Detail) (c : Recording) (answer : AnswerValue) : Type 0 where
   pub recording : IsRecording c
   pub verdict : Verdict
   pub verdict_is : IsVerdictOnRecording c verdict
   pub answer_is : IsAnswerTo (shown_in detail verdict) (length c.calls) answer
 
--- States that the result is correct for the bytes of an input: a correct answer for the recording that the bytes spell,
--- the error of the first wrong line with its cause, `CannotRead` for a failed read, or `Memory` for a failed
--- allocation.
+-- Holds if the result is correct for the bytes of an input: a correct answer for the recording in the bytes, the error
+-- of the first wrong line with its cause, `CannotRead` for a failed read, or `Memory` for a failed allocation.
 abbrev pub JudgesIn : Detail → List ℕ → Made → Type 0
 JudgesIn detail bytes (Ok answer) = (c : Recording) × Says bytes (Ok c) × (bytes ≡ recording_text c) × IsAnswerOn detail c answer
 JudgesIn detail bytes (Err t) = (t ≡ CannotRead) ⊎ ((t ≡ Memory) ⊎ ((fault : LineFault) × Says bytes (Err fault) × (t ≡ of_line_fault fault)))
 
--- States that the result is correct, and that a refusal has the contradiction of its verdict.
+-- Holds if the result is correct, and a refusal prints the contradiction of its verdict, if there is one.
 abbrev pub Judges : List ℕ → Made → Type 0
 Judges bytes made = JudgesIn Whole bytes made
 
--- States that the result is correct, and that a refusal has no contradiction.
+-- Holds if the result is correct, and a refusal prints no contradiction.
 abbrev pub JudgesBriefly : List ℕ → Made → Type 0
 JudgesBriefly bytes made = JudgesIn Brief bytes made

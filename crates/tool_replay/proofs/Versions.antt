@@ -1,4 +1,4 @@
--- Lemmas about the versions of the schedule format. Version 2 has a keyword for every operation.
+-- Lemmas about the versions of the schedule format. Version 2 has a name for every operation.
 use Rattle.std.proofs.Common.{◌≡◌, ℕ, List, [], ◌∷◌, length, refl}
 use Rattle.std.specs.List.{AllByRecursion}
 use Rattle.lset_words.specs.declared.Call.{Call}

@@ -35,7 +35,7 @@ no_turn : (b : Bool) → b ≡ not b → ⊥
 no_turn true e = absurd cc
 no_turn false e = absurd cc
 
--- A change to the state that the key already has neither adds an absent key nor removes a present key.
+-- A change to the state that the key already has does not add an absent key and does not remove a present key.
 not_turned : (changes : ℕ → List ℕ) (key moment : ℕ) (there present : Bool) → ((j : ℕ) → All (λ m. m < moment) (changes j))
     → there ≡ is_present changes key moment → not (beq there present) ≡ false → present ≡ not (is_present_now changes key) → ⊥
 not_turned changes key moment there present later is same turn =

@@ -1,4 +1,4 @@
--- Proof of the contract of `of`: it splits a box into its pointer and its allocator.
+-- Proof of the contract of `of`: it splits a box into its pointer and its allocator. Assumes `Logic`.
 use mir.Raw.{raw as bare}
 use base.Fml.{fsep}
 use types.Logic.{sem}
