@@ -35,8 +35,8 @@ may_come calls moment pending are latest x before plain follows =
 
 -- ---- Lemmas about the judge of the calls so far
 
--- If the judge has accepted call x after the other calls, x can follow the other calls in a history, and the judge's state
--- is correct for the calls including x.
+-- If the judge has accepted call x after the other calls, x can follow them in a history, and the judge's state is
+-- correct for the calls including x.
 pub one_more : (opening : List ℕ) (calls : List CallRecord) (x : CallRecord) (s t : Judge) → IsJudgeKept opening calls (Some s)
     → (x.thread < all_threads → IsJudgeOf all_threads opening calls s → IsJudgeOf all_threads opening (calls ++ x ∷ []) t)
     → x.thread < all_threads → moment_of t.stream ≡ x.begun

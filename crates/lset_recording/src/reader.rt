@@ -31,7 +31,7 @@ fn next_line(bytes: &[u8]) -> Option<(&[u8], &[u8])>
 pub struct RecordingReader {
     judging: Judging,
     line: ArrayVec<u8, LONGEST_LINE>,
-    // Whether the incomplete line is longer than `LONGEST_LINE` bytes, so that `line` cannot store it.
+    // Whether the incomplete line is longer than `LONGEST_LINE` bytes. `line` then does not have all its bytes.
     is_long: bool,
     // The error that `feed` has returned, if any.
     failed: Option<LineFault>,
@@ -182,13 +182,14 @@ impl RecordingReader {
         Ok(())
     }
 
-    /// Reads the next piece of the text, and judges the calls whose lines end in this piece. Allocates; does not block.
+    /// Reads the next piece of the text, and judges each call as soon as its line is complete. Allocates; does not
+    /// block.
     ///
     /// # Errors
     ///
     /// Returns the first error of the text, which does not depend on later pieces, or `Cause::Memory` if an allocation
-    /// fails. The error names a line whose newline is in `piece`. After an error, each later call of `feed` or `finish`
-    /// returns the same error.
+    /// fails. The error names a line that ends in `piece`. After an error, each later call of `feed` or `finish` returns
+    /// the same error.
     #[tactic(auto, using(crate::proofs::ReadLaws::none_failed, crate::proofs::ReadLaws::one_failed))]
     pub fn feed(&mut self, piece: &[u8]) -> Result<(), LineFault>
         ensures taken { OnOk result ((bytes : List ℕ) → IsRead bytes self.old → IsRead (bytes ++ piece.now) self.new) }
@@ -209,8 +210,8 @@ impl RecordingReader {
         }
     }
 
-    /// Ends the text here. Returns the verdict and the counts, or the error if the text cannot end here. `finish` calls
-    /// this function only if `feed` has returned no error.
+    /// Ends the text. Returns the verdict and the counts, or an error if the text is not complete. `finish` calls this
+    /// function only if `feed` has returned no error.
     fn end(self) -> Result<RecordingAnswer, LineFault>
         ensures said { IfOk result (λ answer. (bytes : List ℕ) → IsRead bytes self
             → (c : Recording) × Says bytes (Ok c) × IsAnswered c answer) }
@@ -224,13 +225,13 @@ impl RecordingReader {
         self.judging.finish()
     }
 
-    /// Ends the text here, and returns the verdict: whether some order of the calls explains their replies and leaves
-    /// the final keys. If the recording was cut off, its final keys are unknown, and the order can leave any keys.
+    /// Ends the text and returns the verdict: whether some order of the calls explains their replies and leaves the
+    /// final keys. If the recording was cut off, its final keys are unknown, and the order can leave any keys.
     /// Allocates; does not block.
     ///
     /// # Errors
     ///
-    /// Returns the error of the text if it cannot end here, `Cause::Memory` if an allocation fails, and the error of
+    /// Returns the error of the text if it is not complete, `Cause::Memory` if an allocation fails, and the error of
     /// `feed` if `feed` has returned one.
     #[tactic(auto, using(crate::proofs::ReadLaws::none_failed, crate::proofs::ReadLaws::one_failed))]
     pub fn finish(self) -> Result<RecordingAnswer, LineFault>
@@ -248,8 +249,8 @@ impl RecordingReader {
     }
 }
 
-/// States a lemma: if bytes are read as a recording, they are the text of this recording. Therefore each recording has
-/// only one text. This function does nothing at run time.
+/// Lemma: if bytes are read as a recording, they are the text of this recording. Therefore each recording has only one
+/// text. The function does nothing.
 #[tactic(auto, using(crate::proofs::TextFound::text_found))]
 pub fn recordings_are_read()
     ensures { RecordingsAreRead }

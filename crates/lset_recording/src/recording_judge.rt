@@ -29,7 +29,7 @@ pub struct RecordingAnswer {
     pub calls: u64,
     /// The number of calls that overlap another call that changes the same key.
     pub overlapped: u64,
-    /// Whether the recording was cut off, so that its final keys are unknown.
+    /// True if the recording was cut off. Its final keys are then unknown.
     pub cut_off: bool,
 }
 
@@ -93,8 +93,8 @@ fn add_key(keys: &mut Vec<u32>, key: u32) -> Result<(), Cause>
     Ok(())
 }
 
-/// Stores a new judge in `place`. This is a separate function so that its callers need no stack space for a judge. If
-/// an allocation fails, returns `AllocError`.
+/// Stores a new judge in `place`. As a separate function, it keeps the judge out of the stack frames of its callers.
+/// If an allocation fails, returns `AllocError`.
 fn create_judge(alloc: Global, opening: &[u32], place: &mut Option<Judge>) -> Result<(), AllocError>
     requires increase { IsStrictlyIncreasing opening.now }
     requires none { place.old ≡ None }
@@ -235,7 +235,7 @@ impl Judging {
         }
     }
 
-    /// Returns the cause to report if the text ends here, although its last line is neither `end` nor `cut`.
+    /// Returns the cause to report if the text ends after a line that is neither `end` nor `cut`.
     fn cause_at_end(&self) -> Cause
         ensures { result ≡ cause_at_end self.now.section }
     {
@@ -270,8 +270,8 @@ impl Judging {
         }
     }
 
-    /// Ends the text after a complete line, and returns the verdict and the counts. If the text cannot end here, or an
-    /// allocation fails, returns the error.
+    /// Ends the text after a complete line, and returns the verdict and the counts. Returns an error if the text is
+    /// not complete or an allocation fails.
     pub(crate) fn finish(self) -> Result<RecordingAnswer, LineFault>
         ensures said { IfOk result (λ answer. (s : SoFar) → IsJudging s self
             → (ending self.number s [] ≡ Ok s.told) × IsAnswered s.told answer) }

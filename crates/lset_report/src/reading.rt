@@ -208,8 +208,8 @@ fn report(alloc: Global, bytes: &[u8]) -> Result<Report, ReportFault>
 ///
 /// The first line states the version. In version 2, lines with opening keys can precede the calls, in strictly
 /// increasing order. In version 1, a line with `opening`, `ceiling`, `nothing` or a reply such as `at-5` has the error
-/// `Line`. The function does not check that the order explains the history and leaves the final keys; use `check_order`
-/// for this check. Reading n bytes takes about `n log n` steps, whatever numbers they contain.
+/// `Line`. The function does not check that the order explains the history and leaves the final keys: `check_order`
+/// does. The number of steps grows linearly with the number of bytes, whatever numbers they contain.
 ///
 /// # Errors
 ///
@@ -232,8 +232,8 @@ pub fn read_report(alloc: Global, bytes: &[u8]) -> Result<Report, ReportFault>
     report(alloc, bytes)
 }
 
-/// States a lemma: `read_report` accepts exactly the texts of reports. If it accepts bytes, they are the text of its
-/// result.
+/// Lemma: `read_report` accepts exactly the texts of reports. If it accepts bytes, they are the text of its result.
+/// The function does nothing.
 pub fn reports_read_back()
     ensures { ReportsReadBack }
 {}

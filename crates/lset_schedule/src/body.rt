@@ -82,7 +82,7 @@ impl<L: EventLine> Body<L> {
         }
     }
 
-    /// Returns the second field `K` if the line is `opening K` and the text can have an opening key here, else `None`.
+    /// Returns the second field `K` if the line is `opening K` and can be the line of an opening key, else `None`.
     /// Opening keys are in version 2 only, and before all event lines.
     fn key_due<'a>(&self, version: Version, line: &'a [u8]) -> Option<&'a [u8]>
         ensures { MatchOption result

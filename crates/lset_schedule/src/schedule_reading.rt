@@ -126,8 +126,8 @@ pub fn read_schedule(alloc: Global, bytes: &[u8]) -> Result<Schedule, ScheduleFa
     schedule(alloc, bytes)
 }
 
-/// States a lemma: reading inverts writing. A text that can be read as a schedule is the text of this schedule, and the
-/// text of every schedule can be read.
+/// Lemma: reading inverts writing. A text that can be read as a schedule is the text of this schedule, and the text of
+/// every schedule can be read. The function does nothing.
 pub fn schedules_read_back()
     ensures { SchedulesReadBack }
 {}

@@ -6,7 +6,7 @@ use lset_text::{Header, Version};
 use lset_words::{Call, Kind};
 
 /// A line of a schedule. `Begin(thread, call)`: the thread begins the call. `Go(thread, steps)`: the pending call of
-/// the thread takes this many steps, 1 to 10,000. Any call is allowed here, but `write_schedule` accepts only calls
+/// the thread takes this many steps, 1 to 10,000. A `Begin` can have any call, but `write_schedule` accepts only calls
 /// that the schedule's version has.
 #[derive(Clone, Copy, Debug, PartialEq, Eq)]
 pub enum Line {

@@ -54,8 +54,8 @@ pub fn number_of_line(line: &[u8], word: &[u8], low: u32, high: u32) -> Option<u
     number(count, low, high)
 }
 
-/// Splits the next header line, number `line`, off a text. Returns the line and the text after it. If the text is
-/// empty, returns an error with the given cause.
+/// Splits the next header line, number `line`, off a text. Returns the line and the text after it. Returns an error
+/// with the given cause if the text is empty, and with `NotEnded` if it has bytes but no newline.
 fn due(text: &[u8], line: u64, cause: Cause) -> Result<(&[u8], &[u8]), LineFault>
     ensures value { MatchResult result
         (λ p. line_due line cause (cut_at 10 text.now) ≡ Ok (p.0.now, cut_at 10 p.1.now))

@@ -133,7 +133,7 @@ impl fmt::Display for ReplyWord {
     }
 }
 
-/// Wraps a reply so that it is displayed as files spell it.
+/// Wraps a reply. The result is displayed as files spell the reply.
 pub fn reply_word(reply: Reply) -> ReplyWord
     ensures { result ≡ record { 0 = reply } }
 {

@@ -29,7 +29,7 @@ pub struct RandomRequest {
     pub kind: Kind,
     /// The number of threads, 1 to `MOST_THREADS`.
     pub threads: u32,
-    /// The number of keys that each thread can add, 0 to `MOST_QUOTA`.
+    /// The quota: the number of keys that each thread can add, 0 to `MOST_QUOTA`.
     pub quota: u32,
     /// The number of calls, 0 to `MOST_CALLS_ASKED`.
     pub calls: u32,
@@ -53,9 +53,9 @@ pub struct LivesRequest {
 pub struct ServeRequest {
     /// The kind of list.
     pub kind: Kind,
-    /// The number of seats, that is, of threads that can call the set: 1 to `MOST_THREADS`.
+    /// The number of seats (rights to call the set as one thread), 1 to `MOST_THREADS`.
     pub seats: u32,
-    /// The number of keys that each seat can add, 0 to `MOST_QUOTA`.
+    /// The quota: the number of keys that each seat can add, 0 to `MOST_QUOTA`.
     pub quota: u32,
     /// The port, 0 to `MOST_PORT`. If it is 0, the system chooses one.
     pub port: u16,

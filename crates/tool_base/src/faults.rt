@@ -155,8 +155,8 @@ impl FaultLine {
     }
 }
 
-/// Removes the prefix of a `FAULTS` line, such as `listset: line L: `, so that the line begins with the name that it
-/// explains.
+/// Removes the prefix of a `FAULTS` line, such as `listset: line L: `. The rest of the line begins with the name that
+/// the line explains.
 fn from_name(line: &[u8]) -> &[u8] {
     let line = line.strip_prefix(b"  ").unwrap_or(line);
     let line = line.strip_prefix(b"listset: ").unwrap_or(line);

@@ -1,7 +1,7 @@
-//! Finds contradictions: pairs of calls of one key that no order explains. A call needs its key present or absent, and
-//! leaves it present or absent. Two calls contradict each other if the first leaves the key in a state that the second
-//! does not need, and no call that can change that state overlaps the time from the first call's begin to the second
-//! call's end.
+//! Finds contradictions: pairs of calls on a key that no order explains. A call needs its key present or absent, and
+//! leaves it present or absent. Two calls contradict each other if the first leaves the key in one state, the second
+//! needs the other state, and no call that can change the key to this other state overlaps the time from the first
+//! call's begin to the second call's end.
 
 use crate::key_calls::KeyCalls;
 use crate::made_calls::{Made, NEVER, drop_ended, other};
@@ -9,7 +9,7 @@ use crate::stretches::{Stretch, stretch_before};
 use lset_words::Presence;
 use std::alloc::{AllocError, Global};
 
-/// A contradiction between calls of one key.
+/// A contradiction between calls on one key.
 #[derive(Clone, Copy)]
 pub struct Clash {
     /// The call that leaves the key in the state `was`. `None` if `stretch` leaves this state, or if it is the opening
@@ -33,7 +33,9 @@ impl Clash {
         }
     }
 
-    /// Returns when the first call of the contradiction began.
+    /// Returns when the contradiction begins: when its first call began. If `stretch` takes the place of this call, the
+    /// contradiction begins with the stretch or its call `read`. If the opening state takes its place, it begins with
+    /// the second call.
     pub fn begun(&self) -> u64 {
         match (self.stretch, self.first, self.second) {
             (Some(stretch), _, _) => stretch.read.map_or(stretch.begun, |read| read.begun),
@@ -53,7 +55,7 @@ struct Need {
     ended: u64,
 }
 
-/// Finds earlier calls that had ended and contradict a state that a later call, or the final state, needs.
+/// Finds earlier calls that had ended and contradict the state that a later call needs, or the final state.
 fn clash_before(key: &KeyCalls, stretches: &[Stretch], need: Need) -> Option<Clash> {
     let was = other(need.state);
     let first = key.proof_before(was, need.begun);
@@ -95,7 +97,7 @@ pub fn clash_of(key: &KeyCalls, stretches: &[Stretch], call: Made) -> Option<Cla
     clash_before(key, stretches, need)
 }
 
-/// Finds calls that contradict the final state.
+/// Finds calls that contradict the final state of the key.
 fn clash_at_end(key: &KeyCalls, stretches: &[Stretch]) -> Option<Clash> {
     let need = Need {
         second: None,

@@ -80,7 +80,7 @@ impl Proofs {
     }
 }
 
-/// The calls of a key, with its opening state and, if known, its final state.
+/// The calls on a key, with its opening state and, if known, its final state.
 #[derive(Drop)]
 pub struct KeyCalls {
     pub key: u32,
@@ -94,7 +94,7 @@ pub struct KeyCalls {
 }
 
 impl KeyCalls {
-    /// Indexes the calls of a key for searches. The calls must be ordered by begin. Allocates.
+    /// Indexes the calls on a key for searches. The calls must be ordered by begin. Allocates.
     pub fn new(
         alloc: Global,
         key: u32,

@@ -1,11 +1,11 @@
-//! The judge's rule for the calls of one key: a pending change takes effect only if the reply of an ending call
+//! The judge's rule for the calls on one key: a pending change takes effect only if the reply of an ending call
 //! requires it. If several pending changes could take effect, the change that ends first does.
 
 use crate::made_calls::{Made, NEVER, other};
 use lset_words::Presence;
 use std::alloc::{AllocError, Global};
 
-/// Calls that have begun and end later.
+/// The running calls: they have begun and end later.
 #[derive(Drop)]
 pub struct Pending {
     calls: Vec<Made>,
@@ -110,7 +110,7 @@ impl KeyState {
         })
     }
 
-    /// Returns `true` if this state accepts every continuation that the state `than` accepts.
+    /// Returns `true` only if this state accepts every continuation that the state `than` accepts.
     pub fn is_like(&self, than: &KeyState) -> bool {
         self.state == than.state
             && self.turned >= than.turned

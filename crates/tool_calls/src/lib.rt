@@ -1,5 +1,5 @@
-//! The calls of a recording, key by key, and what follows from the calls of one key: its contradictions, how long a wrong
-//! state lasts, and which replies would be right. Nothing here asks the judge.
+//! The calls of a recording, key by key, and their properties: contradictions, the duration of a wrong state, and the
+//! replies that would be right. Nothing in this crate asks the judge.
 #![tactic(auto)]
 
 mod contradictions;

@@ -1,5 +1,5 @@
-//! Finds two keys that the set treats as one: the calls of each key are not linearizable, but all of them, taken as
-//! calls of one key, are.
+//! Finds two keys that the set treats as one: the calls on each key are not linearizable, but all of them, taken as
+//! calls on one key, are.
 
 use crate::key_order::has_order;
 use crate::made_calls::Made;
@@ -26,7 +26,7 @@ fn count_changes(calls: &[Made]) -> usize {
         .count()
 }
 
-/// Returns `true` if the calls of two keys are linearizable when taken as calls of one key.
+/// Returns `true` if the calls on two keys are linearizable when taken as calls on one key.
 fn are_one(alloc: Global, runs: &Runs<'_>, one: u32, two: u32) -> Result<bool, AllocError> {
     let opening = runs.recorded.opens(one);
     if opening != runs.recorded.opens(two) {
@@ -43,8 +43,8 @@ fn are_one(alloc: Global, runs: &Runs<'_>, one: u32, two: u32) -> Result<bool, A
     has_order(alloc, &calls, opening, None)
 }
 
-/// Returns the first of these keys that is a partner of the key `one`: the calls of both keys are linearizable when taken
-/// as calls of one key.
+/// Returns the first of these keys that is a partner of the key `one`: the calls on both keys are linearizable when
+/// taken as calls on one key.
 fn partner_of(
     alloc: Global,
     runs: &Runs<'_>,
@@ -59,7 +59,7 @@ fn partner_of(
     Ok(None)
 }
 
-/// Returns two refused keys with calls that are linearizable when taken as calls of one key. If there are more than
+/// Returns two refused keys with calls that are linearizable when taken as calls on one key. If there are more than
 /// `MOST_PAIRED` refused keys, tries only pairs with the first refused key. Allocates.
 pub fn merged_keys(
     alloc: Global,

@@ -7,7 +7,7 @@ pub struct Recorded {
     pub opening: Vec<u32>,
     pub calls: Vec<Made>,
     pub left: Vec<u32>,
-    /// Whether the recording was cut off, so that the final keys are unknown.
+    /// True if the recording was cut off. Its final keys are then unknown.
     pub is_cut: bool,
     /// Whether these are only the first calls of a longer recording.
     pub is_part: bool,

@@ -9,7 +9,7 @@ use crate::stretches::{Stretch, sure_before};
 use lset_words::Presence;
 use std::alloc::{AllocError, Global};
 
-/// How many later calls of the key must be linearizable with a repair. The largest number is tried first.
+/// How many later calls on the key must be linearizable with a repair. The largest number is tried first.
 const AHEAD: [usize; 3] = [24, 8, 2];
 
 /// The maximum number of calls around a contradiction that are searched for repairs.

@@ -13,7 +13,7 @@ pub struct Runs<'a> {
     keys: Vec<u32>,
     /// For each key in `keys`, the index after its last call in `calls`.
     ends: Vec<usize>,
-    /// The calls, grouped by key. The calls of each key are ordered by begin.
+    /// The calls, grouped by key. The calls on each key are ordered by begin.
     calls: Vec<Made>,
 }
 

@@ -38,7 +38,7 @@ pub struct Place {
     pub silent: Option<Made>,
     /// Whether the surrounding calls are linearizable with the opposite reply of one call.
     pub is_turned: bool,
-    /// How many calls of the key had begun by the end of the contradiction.
+    /// How many calls on the key had begun by the end of the contradiction.
     pub begun: usize,
 }
 
@@ -149,7 +149,8 @@ impl Place {
         matches!(self.symptom, Symptom::Lost | Symptom::CameBack)
     }
 
-    /// Returns the duration of the contradiction. A contradiction with a less clear symptom counts as longer.
+    /// Returns the duration of the contradiction. A contradiction that relies on overlapping changes (`stretch`) or on
+    /// the final state counts as 1,000,000,000 moments longer.
     pub fn length(&self) -> u64 {
         let length = self.clash.until.saturating_sub(self.clash.begun());
         let is_long = self.clash.stretch.is_some() || self.clash.second.is_none();

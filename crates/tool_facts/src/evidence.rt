@@ -1,4 +1,5 @@
-//! Facts about a refused recording. The message and the likely cause are derived from these facts.
+//! Facts about a refused recording: no order explains its calls. The message and the likely cause are derived from
+//! these facts.
 
 use crate::odd_facts::{Odd, find_odd, places_of_odd};
 use crate::tally::Tally;
@@ -11,7 +12,8 @@ use tool_calls::{
 /// The facts that determine the likely cause.
 #[derive(Clone, Copy)]
 pub struct Evidence {
-    /// Two refused keys whose calls are linearizable if they are taken as calls of one key.
+    /// Two refused keys: the calls on each key have no order, but all of them have one if they are taken as calls on
+    /// one key.
     pub merged: Option<(u32, u32)>,
     pub odd: Option<Odd>,
     pub tally: Tally,
@@ -24,7 +26,7 @@ pub struct Evidence {
     pub calls: u64,
     /// Whether these are only the first calls of a longer recording.
     pub is_part: bool,
-    /// Whether the calls of the smallest key have an order, and the calls of at least two other keys have none.
+    /// Whether the calls on the smallest key have an order, and the calls on at least two other keys have none.
     pub is_first_spared: bool,
     /// The difference between the largest and the smallest key.
     pub span: u32,
@@ -102,8 +104,8 @@ fn losses_of(alloc: Global, gone: &[Place]) -> Result<Vec<Place>, AllocError> {
     Ok(losses)
 }
 
-/// Returns whether the first of these contradictions begins before the refused key's calls have no order, or at that
-/// moment. The contradictions must be ordered by time.
+/// Returns whether the first of these contradictions begins at or before the moment of the refusal: already the key's
+/// calls up to this moment have no order. The contradictions must be ordered by time.
 fn has_first(places: &[Place], refused: Refused) -> bool {
     match places.first() {
         Some(place) => place.clash.begun() <= refused.moment,
@@ -255,8 +257,8 @@ fn span_of(keys: &[u32]) -> u32 {
     }
 }
 
-/// Returns whether the calls of the smallest key have an order although this key has as many calls as others, and the
-/// calls of at least two other keys have none.
+/// Returns whether the calls on the smallest key have an order, and at least two other keys are refused, although the
+/// smallest key has at least half as many calls as the first refused key.
 fn is_first_spared(runs: &Runs<'_>, keys: &[u32], refused: &[Refused]) -> bool {
     let (Some(first), Some(hit)) = (keys.first(), refused.first()) else {
         return false;

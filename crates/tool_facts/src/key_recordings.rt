@@ -1,4 +1,4 @@
-//! Writes a recording of one key: all calls of the key or, if they are not linearizable, a few calls that are not
+//! Writes a recording of one key: all calls on the key or, if they are not linearizable, a few calls that are not
 //! linearizable either.
 
 use lset_words::Presence;
@@ -11,7 +11,7 @@ const ENOUGH: usize = 16;
 /// How many calls are tried as the first call of a part: this many of the last calls, and this many earlier calls.
 const MOST_TRIED: usize = 64;
 
-/// Consecutive calls of a key, with the key's state before these calls and, if known, its final state.
+/// Consecutive calls on a key, with the key's state before these calls and, if known, its final state.
 #[derive(Clone, Copy)]
 struct Part<'a> {
     calls: &'a [Made],
@@ -19,7 +19,7 @@ struct Part<'a> {
     left: Option<Presence>,
 }
 
-/// Returns the indices of calls that begin while no other call of the key is pending.
+/// Returns the indices of calls that begin while no other call on the key is pending.
 fn quiet_starts(alloc: Global, calls: &[Made]) -> Result<Vec<usize>, AllocError> {
     let mut starts = Vec::new(alloc);
     let mut latest = 0;

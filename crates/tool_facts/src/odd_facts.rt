@@ -72,8 +72,8 @@ pub struct Odd {
     pub then_wrong: u64,
     /// The number of wrong answers that were checked for overlapping calls; see `apart`.
     pub placed: u64,
-    /// The number of checked wrong answers with a contradiction during which no call of the recording began while
-    /// another call was running.
+    /// The number of checked wrong answers with sequential calls around them: no call that began during the
+    /// contradiction began while another call was running.
     pub apart: u64,
     /// Whether the final keys are ignored, in addition to the operation's answers.
     pub puts_left_aside: bool,
@@ -81,7 +81,7 @@ pub struct Odd {
     pub keys: u64,
     /// Whether the operation never found any of the keys with wrong answers, but found other keys.
     pub never_finds: bool,
-    /// The number of wrong answers that agree with the last earlier call of the same key by the same thread.
+    /// The number of wrong answers that agree with the last earlier call on the same key by the same thread.
     pub own: u64,
     /// The number of wrong answers that were compared with the presence of other keys.
     pub compared: u64,
@@ -105,8 +105,8 @@ pub struct OddFound {
     pub answers: WrongAnswers,
 }
 
-/// The maximum number of calls that the judge judges again. With more calls, only the judge's test of each key is
-/// applied, which has the same result.
+/// The maximum number of calls that the judge judges again. If there are more calls, only the judge's test of each key
+/// is applied, which has the same result.
 const MOST_JUDGED: usize = 500_000;
 
 /// Returns the final state of a key. `None` if the final state is not known, or is ignored (`aside`).
@@ -118,7 +118,7 @@ fn left_of(runs: &Runs<'_>, key: u32, aside: bool) -> Option<Presence> {
     }
 }
 
-/// Returns whether the calls of all refused keys have an order without the answers of an operation. If `aside`, the
+/// Returns whether the calls on all refused keys have an order without the answers of an operation. If `aside`, the
 /// final keys are ignored.
 fn is_odd(
     alloc: Global,
@@ -182,7 +182,8 @@ pub fn find_odd(
             let found = wrong_answers(alloc, runs, refused, operation, aside)?;
             let wrong = u64::try_from(found.answers.wrong.len()).unwrap_or(u64::MAX);
             let of = count_answers(&runs.recorded.calls, operation);
-            // (a few answers can be right against all other calls, for example if an `add` was lost)
+            // If the operation has only a few answers, these can be right and the other calls wrong, for example if an
+            // `add` was lost.
             let is_mostly_right = of >= LEAST_ANSWERS && wrong.saturating_mul(2) < of;
             let is_blamed = !aside || is_mostly_right;
             if is_blamed && !found.answers.wrong.is_empty() {
@@ -252,7 +253,7 @@ struct Sound {
 /// answers.
 const MOST_STRETCHED: usize = 50_000;
 
-/// Returns the calls of a key without the answers of the wrong operation, indexed for searches.
+/// Returns the calls on a key without the answers of the wrong operation, indexed for searches.
 fn sound_calls(
     alloc: Global,
     runs: &Runs<'_>,
@@ -402,10 +403,10 @@ fn begins_of(alloc: Global, calls: &[Made]) -> Result<Vec<u64>, AllocError> {
     Ok(begins)
 }
 
-/// The maximum number of calls of a key that are searched for the last call of a thread.
+/// The maximum number of calls on a key that are searched for the last call of a thread.
 const MOST_OWN: usize = 2_000;
 
-/// Returns whether the last call of the key by the answer's thread left the key in the state that the answer needs.
+/// Returns whether the last call on the key by the answer's thread left the key in the state that the answer needs.
 fn was_left_so(calls: &[Made], answer: Made) -> bool {
     let end = calls.partition_point(|call| call.begun < answer.begun);
     let earlier = calls.get(..end).unwrap_or(&[]).iter().rev();
@@ -417,7 +418,7 @@ fn was_left_so(calls: &[Made], answer: Made) -> bool {
     false
 }
 
-/// The maximum number of earlier calls of a key that are checked for an overlap with a sampled call.
+/// The maximum number of earlier calls on a key that are checked for an overlap with a sampled call.
 const MOST_BEFORE: usize = 64;
 
 /// Returns whether another add or remove of the same key, successful or not, overlaps a sampled call.
@@ -643,7 +644,7 @@ fn count_answer(sound: &Sound, call: Made, odd: &mut Odd, neighbours: &Neighbour
     }
 }
 
-/// A wrong answer counts as soon after a change if it begins at most this many moments after the end of the change.
+/// A wrong answer is counted in `soon` if it begins at most this many moments after the end of the change.
 const SOON: u64 = 50;
 
 /// Counts a wrong answer that did not see a completed change to the state `was`: by the thread that made the change,

@@ -109,15 +109,15 @@ pub struct Tally {
     pub adds_soon: u64,
     /// The number of successful adds of refused keys.
     pub adds: u64,
-    /// The number of successful adds that are followed by a call of the key, if no remove can have changed the key
+    /// The number of successful adds that are followed by a call on the key, if no remove can have changed the key
     /// before this next call.
     pub followed_adds: u64,
-    /// The part of `followed_adds` that the next call of the key did not see.
+    /// The part of `followed_adds` that the next call on the key did not see.
     pub unseen_adds: u64,
-    /// The number of successful removes that are followed by a call of the key, if no add can have changed the key
+    /// The number of successful removes that are followed by a call on the key, if no add can have changed the key
     /// before this next call.
     pub followed_removes: u64,
-    /// The part of `followed_removes` that the next call of the key did not see.
+    /// The part of `followed_removes` that the next call on the key did not see.
     pub unseen_removes: u64,
     /// The number of wrong answers that missed a present key and overlapped a change of another key.
     pub missed_beside: u64,
@@ -128,7 +128,7 @@ pub struct Tally {
     pub keys: u64,
     /// The number of refused keys with calls that have no order even before the first counted contradiction begins.
     pub unplaced: u64,
-    /// The largest number of calls of one key that had begun by the end of a contradiction of that key.
+    /// The largest number of calls on one key that had begun by the end of a contradiction of that key.
     pub begun: u64,
 }
 
@@ -208,7 +208,7 @@ impl Tally {
     }
 
     /// Counts a change that was undone. Checks whether a change of another key can have restored a state that it read
-    /// before. `key` has all calls of the key.
+    /// before. `key` has all calls on the key.
     pub fn add_change(&mut self, key: &KeyCalls, place: &Place, neighbours: &Neighbours) {
         let Some(second) = place.clash.second else {
             return;
@@ -234,8 +234,9 @@ impl Tally {
         }
     }
 
-    /// Counts the pairs of adds that both returned true, if the next remove of the key left the key present. `places`
-    /// are the contradictions of the key, ordered by time.
+    /// Counts the pairs of adds that both returned true, if the next change of the key is part of the next
+    /// contradiction: a return of the key, or a pair of removes that both returned true. `places` are the
+    /// contradictions of the key, ordered by time.
     pub fn add_doubled(&mut self, key: &KeyCalls, places: &[Place]) {
         for (one, next) in places.iter().zip(places.get(1..).unwrap_or(&[])) {
             if is_doubled(key, one, next) {
@@ -244,7 +245,7 @@ impl Tally {
         }
     }
 
-    /// Counts the completed changes of a key, and those that the next call of the key did not see.
+    /// Counts the completed changes of a key, and those that the next call on the key did not see.
     pub fn add_followed(&mut self, key: &KeyCalls) {
         for change in &key.calls {
             let Some(state) = change.makes().filter(|_| change.reply.is_some()) else {

@@ -1,5 +1,5 @@
-//! Writes the lines that describe a contradiction between two calls of a key, or between a call and the key's first or
-//! final state. Moments are positions in the recording.
+//! Writes the lines that describe a contradiction between two calls on a key, or between a call and the key's first or
+//! final state. A moment is a time in the recording.
 
 ghost use Rattle.std.specs.Prelude.{◌≡◌, IfOk};
 ghost use Rattle.tool_judge.specs.Clashes as lines;
@@ -169,7 +169,7 @@ fn needs_text(alloc: Global, key: u32, need: Presence) -> Result<Vec<u8>, AllocE
     }
 }
 
-/// Returns the line that states whether the set contains the key at the start.
+/// Returns the line about the key's state at the start.
 fn opening_text(alloc: Global, key: u32, was: Presence) -> Result<Vec<u8>, AllocError>
     ensures { IfOk result (λ text. text.items ≡ lines.opening_text key was) }
 {
@@ -185,7 +185,7 @@ fn opening_text(alloc: Global, key: u32, was: Presence) -> Result<Vec<u8>, Alloc
     }
 }
 
-/// Returns the line that states whether the set contains the key at the end.
+/// Returns the line about the key's state at the end.
 fn final_text(alloc: Global, key: u32, need: Presence) -> Result<Vec<u8>, AllocError>
     ensures { IfOk result (λ text. text.items ≡ lines.final_text key need) }
 {
@@ -243,8 +243,7 @@ fn second_line(
     }
 }
 
-/// Returns the words for the missing call: the `add` or `remove` that would bring the key into the state `need` between
-/// the two calls.
+/// Returns the words for the missing call: the `add` or `remove` that would bring the key into the state `need`.
 fn no_change(alloc: Global, key: u32, need: Presence) -> Result<Vec<u8>, AllocError>
     ensures { IfOk result (λ text. text.items ≡ lines.no_change key need) }
 {
@@ -300,7 +299,7 @@ fn time_text(
     }
 }
 
-/// Returns line 3 of 3, which states that no call changes the key between the two calls.
+/// Returns line 3 of 3: no call changes the key between the two calls.
 fn third_line(
     alloc: Global,
     key: u32,
@@ -396,8 +395,8 @@ fn turned_there(
     Ok(text)
 }
 
-/// Returns the words for the case in which the second call takes effect first: no call that could bring the key into
-/// the state `back` overlaps the moments `from` to `to`.
+/// Returns the words for the case that the second call takes effect first: no call that could bring the key into the
+/// state `back` overlaps the moments `from` to `to`.
 #[tactic(auto, unfolding(crate::specs::Clashes::turned_back))]
 fn turned_back(alloc: Global, back: Presence, from: u64, to: u64) -> Result<Vec<u8>, AllocError>
     ensures { IfOk result (λ text. text.items ≡ lines.turned_back back from to) }

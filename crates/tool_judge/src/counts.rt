@@ -100,7 +100,7 @@ fn put_calls(out: &mut String, count: &Count) -> Result<(), AllocError> {
     Ok(())
 }
 
-/// Writes how many times the key must change back between these calls, and between which moments (positions in the
+/// Writes how many times the key must change back between these calls, and between which moments (times in the
 /// recording).
 fn put_need(out: &mut String, count: &Count) -> Result<(), AllocError> {
     let (key, state) = (count.key.0, state_word(other(count.was)));

@@ -1,6 +1,6 @@
 //! The command `judge` reads recorded calls of a set and prints whether some order explains them. The command `stats`
-//! counts them. If `show` refuses the
-//! order in a report, it prints the same lines below the picture.
+//! counts the calls. If the command `show` refuses the order in a report, it prints below the picture whether another
+//! order explains the calls.
 #![tactic(auto)]
 
 mod clashes;

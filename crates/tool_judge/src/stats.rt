@@ -41,10 +41,10 @@ impl Replies {
     }
 }
 
-/// What later calls need to know about the calls so far: of all calls, or of the calls of one key.
+/// A summary of the calls so far (of all calls, or of the calls on one key), for counting the calls that overlap.
 #[derive(Clone, Copy)]
 struct Span {
-    /// The last moment at which one of the calls ends.
+    /// The latest end of these calls.
     end: u64,
     /// The end of the call that began last.
     last_end: u64,
@@ -105,7 +105,7 @@ impl Counts {
         }
     }
 
-    /// Adds the next call. Calls are added in the order in which they begin.
+    /// Adds the next call. Calls must be added in the order of their begins.
     fn add(&mut self, call: StreamCall) -> Result<(), AllocError> {
         let begun = call.begun;
         let end = match call.ended {

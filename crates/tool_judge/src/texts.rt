@@ -27,8 +27,8 @@ fn is_few(overlapped: u64, calls: u64) -> bool {
     overlapped.saturating_mul(20) < calls
 }
 
-/// Returns the lines after `ok N calls`: how many calls overlap a change of their key, advice if these are few, and a
-/// remark if the recording was cut off.
+/// Returns the lines after `ok N calls`: the number of calls that overlap a change of their key, advice if these are
+/// few, and a remark if the recording was cut off.
 fn notes(
     alloc: Global,
     calls: u64,
@@ -70,8 +70,8 @@ fn calls_of_key(alloc: Global, key: u32) -> Result<Vec<u8>, AllocError>
     Ok(text.into_bytes())
 }
 
-/// Returns the rest of the second line. It names the moment (a position in the recording) up to which the calls already
-/// have no order. Without a moment, it states that no order ends with the key's final state.
+/// Returns the rest of the second line. It names the moment of the refusal (a time in the recording): already the
+/// key's calls up to this moment have no order. Without a moment, no order ends with the key's final state.
 fn extent(alloc: Global, moment: Option<u64>) -> Result<Vec<u8>, AllocError>
     ensures { IfOk result (λ text. text.items ≡ extent moment) }
 {
@@ -124,7 +124,7 @@ fn end_of(clash: Option<Clash>) -> Option<u64> {
     Some(end)
 }
 
-/// Returns a line for a contradiction whose second call ended after the moment of the refusal. Otherwise returns an
+/// Returns a line if the second call of the contradiction ended after the moment of the refusal. Otherwise returns an
 /// empty string.
 fn later_note(alloc: Global, refusal: Refusal, clash: Option<Clash>) -> Result<String, AllocError> {
     match (refusal.moment, end_of(clash)) {
