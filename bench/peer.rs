@@ -187,7 +187,7 @@ fn whole_of_list(kind: Kind, wanted: &Wanted) {
     });
 }
 
-/// Executes a call on a tree and returns the reply.
+/// Applies a call to a tree and returns the reply.
 fn change(tree: &mut BTreeSet<u32>, call: &Call) -> bool {
     match call.op {
         Op::Add => tree.insert(call.key),

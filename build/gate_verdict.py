@@ -20,7 +20,7 @@ def git(*words):
 
 
 def changes():
-    """Returns git's lines about uncommitted changes."""
+    """Returns git's list of uncommitted changes."""
     return git("status", "--porcelain").splitlines()
 
 

@@ -1,5 +1,5 @@
-// Tests `renew`, and sets that renew themselves. Eight threads call such a set. Their calls are recorded in the text of
-// docs/YOUR-SET.md, and judged in this process. Arguments: a file for the recording, and the number of calls of each thread.
+// Tests `renew`, and sets that renew themselves. Eight threads call such a set. Their calls are recorded in the format of
+// docs/YOUR-SET.md, and judged in this process. Arguments: a file for the recording, and the number of calls per thread.
 // With two further arguments, a list (0 to 4) and a quota, tests only a set with this list and quota.
 #include "listset.hpp"
 

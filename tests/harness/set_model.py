@@ -1,4 +1,4 @@
-"""A Python model of the sequential set: it returns the reply of each call, as spelled in a report. All tests that need
+"""A Python model of the sequential set: it returns the reply of each call, as written in a report. All tests that need
 replies use this model. It was written independently of the crates.
 """
 

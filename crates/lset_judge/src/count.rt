@@ -51,7 +51,8 @@ pub fn counts_exclude_orders()
     ensures { CountsExcludeOrders }
 {}
 
-/// Returns 1 if `bound` is `None`, else 0. `None` means that the key's opening or final state counts as a call.
+/// Returns 1 if `bound` is `None`, and 0 otherwise. `None` means that the key's opening or final state counts as a
+/// call.
 fn also(bound: Option<u64>) -> usize
     ensures { result ≡ also bound }
 {

@@ -92,7 +92,7 @@ impl Ends {
         Some(end.0)
     }
 
-    /// Removes and returns the earliest end if it is before `moment`, else returns `None`.
+    /// Removes and returns the earliest end if it is before `moment`. Otherwise returns `None`.
     pub(crate) fn pop_before(&mut self, moment: u64) -> Option<u64>
         ensures { MatchOption result ((self.new ≡ self.old) × All (λ end. moment ≤ end) self.old)
             (λ end. (self.old ≡ end ∷ self.new) × (end < moment) × All (λ other. end ≤ other) self.old) }

@@ -7,7 +7,7 @@ ghost use Rattle.lset_words.specs.SequentialSet.{has_key};
 
 use lset_words::Presence;
 
-/// Returns `Present` if `key` is in `keys`, else `Absent`. `keys` must be in increasing order.
+/// Returns `Present` if `key` is in `keys`, and otherwise `Absent`. `keys` must be in increasing order.
 pub(crate) fn presence_in(keys: &[u32], key: u32) -> Presence
     requires { IsStrictlyIncreasing keys.now }
     ensures { result ≡ presence (has_key key keys.now) }

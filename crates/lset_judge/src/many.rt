@@ -45,7 +45,7 @@ pub(crate) fn end_or_begin(call: StreamCall) -> u64
     }
 }
 
-/// Removes and returns the call with the earliest end if this end is before `moment`, else returns `None`.
+/// Removes and returns the call with the earliest end if this end is before `moment`. Otherwise returns `None`.
 fn pop_before(calls: &mut HashMap<u64, StreamCall>, ends: &mut Ends, moment: u64) -> Option<Pending>
     requires { All (λ e. Contains ends.old e.0) calls.old.entries }
     ensures held { All (λ e. Contains ends.new e.0) calls.new.entries }
@@ -121,7 +121,7 @@ impl ManyCalls {
         }
     }
 
-    /// Removes and returns the call with the earliest end if this end is before `moment`, else returns `None`.
+    /// Removes and returns the call with the earliest end if this end is before `moment`. Otherwise returns `None`.
     pub(crate) fn next_before(&mut self, moment: u64) -> Option<Pending>
         ensures { MatchOption result ((self.new ≡ self.old) × All (λ p. moment ≤ p.end) self.old)
             (λ next. IsNext moment self.old next self.new) }

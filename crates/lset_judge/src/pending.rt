@@ -157,7 +157,7 @@ impl PendingCalls {
         }
     }
 
-    /// Removes and returns the call with the earliest end if this end is before `moment`, else returns `None`.
+    /// Removes and returns the call with the earliest end if this end is before `moment`. Otherwise returns `None`.
     pub(crate) fn next_before(&mut self, moment: u64) -> Option<Pending>
         ensures { MatchOption result ((self.new ≡ self.old) × All (λ p. moment ≤ p.end) self.old)
             (λ next. IsNext moment self.old next self.new) }

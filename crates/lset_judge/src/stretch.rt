@@ -36,16 +36,17 @@ struct Best {
     size: usize,
 }
 
-/// The start or the end of a call, as used in the search for stretches of time.
+/// The start or the end of a call, as used in the search for stretches of time. `was` is the key's state after each
+/// change in the stretch.
 #[derive(Clone, Copy)]
 enum Step {
     /// A call that can change the key back starts. The field is the moment when this call ends.
     Back(u64),
     /// A change to the state `was` ends. The field is the moment when the change started.
     Change(u64),
-    /// A call that saw the state other than `was` starts. The field is its index in `looks`.
+    /// A call that saw the key in the state other than `was` starts. The field is the call's index in `looks`.
     Begins(usize),
-    /// A call that saw the state other than `was` ends. The field is the call's index in `looks`.
+    /// A call that saw the key in the state other than `was` ends. The field is the call's index in `looks`.
     Ends(usize),
 }
 

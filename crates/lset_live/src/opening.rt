@@ -64,8 +64,8 @@ fn open_on<M: Machine>(
 /// (0 to `MOST_QUOTA`). Allocates all memory of the set. After that, only the vector of the final keys can need an
 /// allocation.
 ///
-/// Returns `OpenFault::Seats` if `seats` is out of range, else `OpenFault::Quota` if `quota` is out of range. Returns
-/// `OpenFault::Memory` if an allocation fails.
+/// Returns the first error that applies: `OpenFault::Seats` if `seats` is out of range, `OpenFault::Quota` if `quota`
+/// is, or `OpenFault::Memory` if an allocation fails.
 pub fn open<M: Machine>(
     alloc: Global,
     seats: u32,
@@ -91,9 +91,9 @@ pub fn open<M: Machine>(
 /// any quota, and each seat can remove them. The final keys of a closed set can open another set, of any list. (In the
 /// literature, a list starts empty.)
 ///
-/// Returns `OpenFault::Seats` if `seats` is out of range, else `OpenFault::Quota` if `quota` is, else
-/// `OpenFault::Opening` if `keys` has too many keys or a key is not above the key before it. Returns
-/// `OpenFault::Memory` if an allocation fails.
+/// Returns the first error that applies: `OpenFault::Seats` if `seats` is out of range, `OpenFault::Quota` if `quota`
+/// is, `OpenFault::Opening` if `keys` has too many keys or a key is not above the key before it, or `OpenFault::Memory`
+/// if an allocation fails.
 pub fn open_with<M: Machine>(
     alloc: Global,
     seats: u32,

@@ -60,26 +60,27 @@ pub fn optimistic_calls_end_alone()
     ensures { CallsEndAlone optimistic optimistic_steps }
 {}
 
-/// Theorem: if no other thread holds a lock of a LazyList, a call that runs alone ends within `4N + 15` steps. This
-/// includes `ceiling`, which starts again at a marked node: a thread that has marked a node holds the node's lock until
-/// it has unlinked the node. (Solo termination, of Heller and others' lazy list.)
+/// Theorem: if no other thread holds a lock of a LazyList with N nodes, a call that runs alone ends within `4N + 15`
+/// steps. This includes `ceiling`, which starts again at a marked node: a thread that has marked a node holds the
+/// node's lock until it has unlinked the node. (Solo termination, of Heller and others' lazy list.)
 #[tactic(auto, using(crate::proofs::LazyProgress::lazy_calls_end))]
 pub fn lazy_calls_end_alone()
     ensures { CallsEndAlone lazy lazy_steps }
 {}
 
-/// Theorem: a call of a LockFreeList that runs alone ends within `4N + 5` steps, whatever state the other threads are
-/// in. For a `ceiling`, this holds if no node of the chain is marked, since a `ceiling` starts again at a marked node
-/// and unlinks no node. (Obstruction freedom, by Herlihy, Luchangco and Moir; the list is Harris's and Michael's.)
+/// Theorem: a call of a LockFreeList with N nodes that runs alone ends within `4N + 5` steps, whatever state the other
+/// threads are in. For a `ceiling`, this holds if no node of the chain is marked, since a `ceiling` starts again at a
+/// marked node and unlinks no node. (Obstruction freedom, by Herlihy, Luchangco and Moir; the list is Harris's and
+/// Michael's.)
 #[tactic(auto, using(crate::proofs::LockFreeProgress::lock_free_calls_end))]
 pub fn lock_free_calls_end_alone()
     ensures { CallsEndUnhindered lock_free lock_free_steps }
 {}
 
 /// Theorem: among any `n(2N + 2)(N + n) + n(4N + 5)` successive steps of `add` and `remove` by the n threads of a
-/// LockFreeList, at least one ends its call, whichever threads take the steps and whatever else happens in between. The
-/// same is true of steps of `add`, `remove` and `contains`. (Lock freedom of Harris's and Michael's list, as Herlihy
-/// and Shavit define it.)
+/// LockFreeList with N nodes, at least one ends its call, whichever threads take the steps and whatever else happens in
+/// between. The same is true of steps of `add`, `remove` and `contains`. (Lock freedom of Harris's and Michael's list,
+/// as Herlihy and Shavit define it.)
 #[tactic(auto, using(crate::proofs::LockFreedom::lock_free_is_lock_free))]
 pub fn lock_free_list_is_lock_free()
     ensures { IsLockFree lock_free lock_free_window }

@@ -95,8 +95,8 @@ fn answer<R: Wait, W: Sink, S: SetCalls>(
     }
 }
 
-/// Writes `text`, the last line of a session. Returns why the session ends: `why` if the whole line was written, else
-/// `WriteFault`.
+/// Writes `text`, the last line of a session. Returns the reason why the session ends: `why` if the whole line was
+/// written, and otherwise `WriteFault`.
 fn last_line<W: Sink>(writer: &mut W, text: &[u8], why: EndReason) -> EndReason
     requires works { W.has_failed writer.old ≡ false }
     ensures { (whole : Bool) × (result ≡ (if whole then why else EndReason.WriteFault))
@@ -120,7 +120,8 @@ fn count_of(request: Request) -> u64
     }
 }
 
-/// Answers the current line, which is complete. Returns the reason if the session ends with this line, else `None`.
+/// Answers the current line, which is complete. If the session ends with this line, returns the reason, otherwise
+/// `None`.
 fn line_in<R: Wait, W: Sink, S: SetCalls>(
     rt: &R,
     writer: &mut W,
@@ -153,7 +154,7 @@ fn line_in<R: Wait, W: Sink, S: SetCalls>(
     None
 }
 
-/// Processes one byte of the input. Returns the reason if the session ends with this byte, else `None`.
+/// Processes one byte of the input. If the session ends with this byte, returns the reason, otherwise `None`.
 fn byte_in<R: Wait, W: Sink, S: SetCalls>(
     rt: &R,
     writer: &mut W,
@@ -182,7 +183,7 @@ fn byte_in<R: Wait, W: Sink, S: SetCalls>(
     None
 }
 
-/// Processes the bytes of one read. Returns the reason if the session ends within these bytes, else `None`.
+/// Processes the bytes of one read. If the session ends within these bytes, returns the reason, otherwise `None`.
 fn bytes_in<R: Wait, W: Sink, S: SetCalls>(
     rt: &R,
     writer: &mut W,

@@ -115,7 +115,7 @@ pub enum Reply {
 ///
 /// # Errors
 ///
-/// Returns `LayoutFault::Threads` if `threads` is outside its limits, else `LayoutFault::Quota` if `quota` is.
+/// Returns `LayoutFault::Threads` if `threads` is out of range, and otherwise `LayoutFault::Quota` if `quota` is.
 pub fn layout(threads: u32, quota: u32) -> Result<Layout, LayoutFault>
     ensures sizes { IfOk result (λ l. l ≡ record { threads = threads; quota = quota; opening = 0 }) }
     ensures refused { IfErr result (RefusesSizes (record { threads = threads; quota = quota; opening = 0 })) }

@@ -125,7 +125,7 @@ fn each_kind_of_answer_is_written_before_the_next_read(rt: HostRuntime) {
 }
 
 /// Asserts that a buffered session writes the same answers as an unbuffered session, and ends for the same reason after
-/// as many calls.
+/// the same number of calls.
 fn is_answered_alike<R: Host>(rt: &R, alloc: Global, text: &[u8]) {
     let (plain, ended) = held(rt, alloc, &mut Device::new(text));
     let session = held_buffered(rt, alloc, Device::new(text));

@@ -293,7 +293,7 @@ fn balance_of(programs: &[Vec<Call>], replies: &[Vec<Reply>]) -> [u64; 50] {
     balance
 }
 
-/// Lets four threads make calls on the same 50 keys. Asserts that a key is present if it was added one more time than
+/// Makes calls on the same 50 keys from four threads. Asserts that a key is present if it was added one more time than
 /// it was removed, and absent if it was added and removed equally often.
 fn add_up<M: Running + Send + Sync, R: Host>(rt: &R, alloc: Global) {
     let (set, seats) = open::<M>(alloc, 4, 2_000).expect(rt, "not opened");

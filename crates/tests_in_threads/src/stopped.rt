@@ -294,8 +294,8 @@ fn reads<M: RunningReads, R: Clock + Wait>(
     (looked, asked, sought)
 }
 
-/// Lets seat 1 remove the key 10, and stops this call after step `stops_at` until seat 0 has looked for 10. The set
-/// also contains 20. Returns the replies.
+/// Removes the key 10 with a call from seat 1, and stops this call after step `stops_at` until seat 0 has looked for
+/// the key 10. The set also contains 20. Returns the replies.
 fn reads_beside<M: RunningReads + Send + Sync, R: Host>(
     rt: &R,
     alloc: Global,

@@ -3,7 +3,7 @@
 use crate::opened::{close_with, two_seats};
 use crate::prelude::*;
 
-/// A call with a typed result, its key, and the value that it returns.
+/// A call, with its key and the typed result that it returns.
 #[derive(Clone, Copy)]
 enum Made {
     Adds(u32, Added),

@@ -92,12 +92,14 @@ pub fn count_fields(line: &[u8]) -> usize {
         .saturating_add(1)
 }
 
-/// Returns the number in field `index` of a line if the number is in the range of threads, keys and calls.
+/// Parses field `index` (counted from 0) of a line as a thread, a key or a call number. Returns `None` if the field is
+/// not a number from 0 to 4,294,967,295.
 pub fn number_at(line: &[u8], index: usize) -> Option<u32> {
     number(field(line, index)?, 0, u32::MAX)
 }
 
-/// Returns the number in field `index` of a line if the number is a possible moment, that is, at least 1.
+/// Parses field `index` (counted from 0) of a line as a moment. Returns `None` if the field is not a number that is at
+/// least 1.
 pub fn moment_at(line: &[u8], index: usize) -> Option<u64> {
     long_number(field(line, index)?, 1, u64::MAX)
 }

@@ -26,7 +26,7 @@ struct NumberField {
     high: u64,
 }
 
-/// Describes a field that contains a thread, a key or a call number.
+/// Returns the description of a field that must be a thread, a key or a call number.
 fn plain(name: &'static str, index: usize) -> NumberField {
     in_range(name, index, 0, 4_294_967_295)
 }

@@ -63,16 +63,16 @@ pub struct ServeRequest {
     pub sessions: u32,
 }
 
-/// Returns the kind of list that argument `index` (from 0) names. Returns `None` if the argument is missing or is not a
-/// list name.
+/// Parses argument `index` (counted from 0) as the name of a list. Returns `None` if the argument is missing or is not
+/// such a name.
 fn kind_at(values: &[String], index: usize) -> Option<Kind>
     ensures { result ≡ kind_at (map string_bytes values.now) index }
 {
     read_kind(values.get(index)?.as_bytes())
 }
 
-/// Returns the number from `low` to `high` that argument `index` (from 0) spells as a decimal without leading zeros.
-/// Returns `None` if the argument is missing or is not such a number.
+/// Parses argument `index` (counted from 0) as a decimal number from `low` to `high` without leading zeros. Returns
+/// `None` if the argument is missing or is not such a number.
 fn number_at(values: &[String], index: usize, low: u32, high: u32) -> Option<u32>
     ensures value { result ≡ number_at (map string_bytes values.now) index low high }
     ensures range { IfSome result (λ n. (low ≤ n) × (n ≤ high)) }
@@ -113,8 +113,8 @@ pub fn read_random_request(values: &[String]) -> Result<RandomRequest, ValueName
     })
 }
 
-/// Returns the number of rounds from argument 6 (counted from 0), which must be from 1 to `MOST_LIVES`. Returns 1 if
-/// the argument is missing, and `None` if it is wrong.
+/// Parses argument 6 (counted from 0), the number of rounds, as a number from 1 to `MOST_LIVES`. Returns 1 if the
+/// argument is missing, and `None` if it is wrong.
 fn lives_in(values: &[String]) -> Option<u32> {
     match values.get(6) {
         Some(_) => number_at(values, 6, 1, MOST_LIVES),

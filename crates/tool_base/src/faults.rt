@@ -164,7 +164,7 @@ fn from_name(line: &[u8]) -> &[u8] {
     line.strip_prefix(b"line 1: ").unwrap_or(line)
 }
 
-/// Returns `name` as a line of `FAULTS` spells it, if the line (without its prefix) starts with `name`, ignoring case.
+/// Returns `name` as written in a line of `FAULTS`, if the line (without its prefix) starts with `name`, ignoring case.
 /// Otherwise returns `None`.
 fn name_of_line<'a>(line: &'a [u8], name: &[u8]) -> Option<&'a [u8]> {
     let line = from_name(line);

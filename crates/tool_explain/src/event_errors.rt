@@ -113,7 +113,7 @@ fn begun_before(lines: &Lines<'_>, place: Place<'_>) -> Option<usize> {
     })
 }
 
-/// Returns the thread of an event as it is spelled in the event's line.
+/// Returns the thread of an event as written in the event's line.
 pub(crate) fn thread_text(line: &[u8]) -> &str {
     match str::from_utf8(field_or_empty(line, 1)) {
         Ok(text) => text,

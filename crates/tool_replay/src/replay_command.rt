@@ -45,8 +45,8 @@ impl Tool for Replay {
 }
 
 /// The command `replay --lacks NAME`. The answer is the report of the schedule's run on the broken list (a list without
-/// one of its checks), in version 2 of the format, with exit status 0. The command fails with `Line`, as
-/// `report_broken` does, or with `Memory`.
+/// one of its checks), in version 2 of the format, with exit status 0. The command fails with `Memory` if an allocation
+/// fails, and with `Line` on any other error of `report_broken`.
 #[derive(Clone, Copy)]
 pub struct ReplayBroken {
     pub broken: BrokenList,

@@ -113,8 +113,8 @@ fn threads_use_the_quota_of_each_seat() {
     }
 }
 
-/// Lets threads add the same keys, exactly as many as all quotas together allow. No add may return full: when all
-/// quotas are used up, all keys are present.
+/// Adds the same keys from several threads, exactly as many keys as all quotas together allow. No add may return full: when
+/// all quotas are used up, all keys are present.
 #[test]
 fn no_add_is_full_while_a_seat_has_quota() {
     for _ in 0..20 {
