@@ -212,8 +212,8 @@ typedef enum LISTSET_BYTE listset_fault {
 const char *listset_fault_text(listset_fault fault);
 
 /// Opens a set with `seats` seats and with the `count` keys in `keys`, which must be in strictly increasing order. Each seat
-/// may add `quota` keys. Stores a seat that contains all other seats in `out`, which must be empty. No other open set may
-/// have the same `number`, because `listset_gather` uses it to compare the sets of two seats.
+/// may add `quota` keys. Stores in `out`, which must be empty, a seat that contains all other seats of the set. No other open
+/// set may have the same `number`, because `listset_gather` uses it to compare the sets of two seats.
 LISTSET_USED listset_fault listset_open(listset_list kind, uint32_t seats, uint32_t quota, uint64_t number, const uint32_t *keys,
                                         size_t count, listset_seat *out);
 

@@ -333,9 +333,9 @@ class renewed_set {
   static constexpr size_t MOST_OPENING = 1 << 20;
   static constexpr std::chrono::milliseconds LONG{5};
 
-  // Locks `lock`. The holder of `lock` can be in a `ceiling` on a lock-free list, which can retry until another call
-  // unlinks a marked node. If the seat in `helper` has used up its quota, the waiting thread therefore calls `add` with
-  // this seat: the `add` unlinks the node, but cannot add a key.
+  // Locks `lock`. On a lock-free list, the holder of `lock` can be in a `ceiling`, which can retry until another call unlinks
+  // a marked node. If the seat in `helper` has used up its quota, the waiting thread therefore calls `add` with this seat: the
+  // `add` unlinks the node, but cannot add a key.
   //
   // `helper` is the caller's own place (its seat with the seat's lock) if the caller is locking all places, otherwise
   // null. After a caller with a `helper` has waited for 5 ms, new calls of other threads wait too, unless one of these
@@ -542,7 +542,7 @@ public:
   }
 };
 
-/// A set with a pool of seats, which any number of threads may call. A call uses a seat that no other call is using, or waits
+/// A set that any number of threads may call, with a pool of seats. A call uses a seat that no other call is using, or waits
 /// for a seat. Two calls of one thread can use different seats, so not even the order of a thread's own calls is guaranteed.
 class shared {
   struct alignas(128) place {

@@ -4,7 +4,7 @@
     pytest-3 tests/serve_clients.py   runs the tests of a file, or of a page in tests/transcripts; -k WORD selects tests by name
     pytest-3 --program=PROGRAM        tests this program; by default the most recently built program, proved or unproved
     pytest-3 --few                    tests a tenth of the random inputs
-    pytest-3 --show PAGE              prints the current output of the commands on PAGE, a file in tests/transcripts, in its form
+    pytest-3 --show PAGE              prints PAGE, a file in tests/transcripts, with the current output of its commands
     pytest-3 --tools                  also fails a test that runs a command of build/needs.txt without a mark `needs` for it
 
 A test that needs a missing tool or program is skipped with a message. If it was selected by -k or as FILE::NAME, it

@@ -148,7 +148,7 @@ class Drawn:
 
 
 def with_rows_of(width, drawn):
-    """Removes columns until no row is longer than `width`, but keeps at least one. For an SVG, `width` is None."""
+    """Removes columns until no row is longer than `width`, but keeps at least one column. For an SVG, `width` is None."""
     while width and len(drawn.columns) > 1 and (len(drawn.row_of_moments()) > width or max(map(len, drawn.rows())) > width):
         drawn.columns.pop()
         drawn.last = drawn.columns[-1]

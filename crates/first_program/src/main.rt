@@ -30,7 +30,7 @@ use std::thread::{Threads, join};
 const SCHEDULE: &str =
     "listset-schedule 1\nlist coarse\nthreads 1\nquota 1\nbegin 0 add 5\ngo 0 7\n";
 
-/// Makes calls on a LazyList from one thread, which can add two keys, and prints the replies.
+/// Makes calls on a LazyList from one thread and prints the replies. The thread can add two keys.
 fn one_thread<R: Wait + Print>(rt: &R, alloc: Global) -> Result<()> {
     let (set, mut seats) = open::<LazyList>(alloc, 1, 2)?;
     let mut seat = seats.pop().context("the set has no seat")?;

@@ -75,7 +75,7 @@ impl Judge {
         Ok(Judge { stream })
     }
 
-    /// Adds a call, which must start after all calls added before.
+    /// Adds a call. It must start after all calls that were added before.
     ///
     /// An error other than `Memory` is the reason why this call cannot be next; the judge is then unchanged. After
     /// `Memory`, the judge can no longer be used.

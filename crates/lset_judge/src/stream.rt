@@ -603,7 +603,7 @@ impl Stream {
         Ok(())
     }
 
-    /// Adds a call, which must start after all calls added before.
+    /// Adds a call. It must start after all calls that were added before.
     ///
     /// An error other than `Memory` is the reason why this call cannot be next; the stream is then unchanged. After
     /// `Memory`, the stream can no longer be used.

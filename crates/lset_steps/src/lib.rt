@@ -100,7 +100,7 @@ pub struct Told {
 
 /// A list set as a table of steps. Each function describes one step of one thread. The five lists of this library are
 /// Herlihy and Shavit's algorithms. The argument `seen` is the value that the step loads or stores; for an exchange, it
-/// is the value before the exchange, which succeeds if `seen` is the expected value.
+/// is the value before the exchange. The exchange succeeds if `seen` is the expected value.
 pub trait Machine {
     const KIND: Kind;
 

@@ -130,8 +130,8 @@ impl<'s, R: Wait + Sync, M: Running + Send + Sync, G: Gate + Sync> Shared<'s, R,
             .ok()
     }
 
-    /// Starts a thread for each seat, which makes the calls of the seat's program. Returns `None` if the system refuses
-    /// to start a thread.
+    /// Starts a thread for each seat. The thread makes the calls of the seat's program. Returns `None` if the system
+    /// refuses to start a thread.
     pub fn start_all<E>(
         &self,
         scope: &Scope<'s, E>,

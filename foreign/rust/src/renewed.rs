@@ -196,9 +196,9 @@ impl RenewedSet {
         Ok(keys)
     }
 
-    /// Locks `lock`. The holder of `lock` can be in a `ceiling` on a lock-free list, which can retry until another call
-    /// unlinks a marked node. If the seat in `helper` has used up its quota, the waiting thread therefore calls `add`
-    /// with this seat: the `add` unlinks the node, but cannot add a key.
+    /// Locks `lock`. On a lock-free list, the holder of `lock` can be in a `ceiling`, which can retry until another call
+    /// unlinks a marked node. If the seat in `helper` has used up its quota, the waiting thread therefore calls `add` with
+    /// this seat: the `add` unlinks the node, but cannot add a key.
     ///
     /// `helper` is the caller's own place (its seat with the seat's lock) if the caller is locking all places,
     /// otherwise `None`. After a caller with a `helper` has waited for 5 ms, new calls of other threads wait too,
