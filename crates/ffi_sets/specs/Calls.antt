@@ -55,8 +55,8 @@ ReadsIn None old new = ⊥
 abbrev pub HasReadHeld : Held → Held → Type 0
 HasReadHeld h h' = ReadsIn (set_in h) (seat_in h) (seat_in h')
 
--- Holds if a call through a C handle returned this number. The first argument is true if the handle was full. An empty
--- handle stays empty, and the number is 255.
+-- Holds if a call through a C handle returned this number. The first argument is true if the handle was full (owned a
+-- value). An empty handle stays empty, and the number is 255.
 abbrev pub HasMade : Bool → Held → Call → ℕ → Bool → Held → Type 0
 HasMade true h c n true h' = (r : Option Reply) × (n ≡ code_of r) × HasCalledHeld h c r h'
 HasMade false h c n false h' = n ≡ 255

@@ -91,7 +91,7 @@ pub record SameSet (h h' : Held) : Type 0 where
 abbrev pub Gathers : Held → Held → Type 0
 Gathers h h' = number_in h ≡ number_in h' → set_in h ≡ set_in h'
 
--- If both C handles are full, `Gathers` holds for their values.
+-- If both C handles are full (each owns a value), `Gathers` holds for their values.
 abbrev pub GathersAt : Bool → Held → Bool → Held → Type 0
 GathersAt true h true h' = Gathers h h'
 GathersAt into h from h' = Unit {0}

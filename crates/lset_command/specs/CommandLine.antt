@@ -28,7 +28,7 @@ flag_rule name = record (new_rule name) { long = Some name; action = Some SetTru
 abbrev pub option_rule : Text → Rule
 option_rule name = record (new_rule name) { long = Some name; value_names = 1 }
 
--- The rule for an argument, by its form.
+-- Returns clap's rule for an argument of this form.
 abbrev pub rule_by : Text → Form → Rule
 rule_by name Value = new_rule name
 rule_by name Flag = flag_rule name
@@ -42,7 +42,7 @@ Argument = Text × Form
 abbrev pub TableRow : Type 0
 TableRow = Command × Text × List Argument
 
--- A command with a rule for each of these arguments.
+-- Returns the command with a rule for each of these arguments added.
 abbrev pub with_arguments : App → List Argument → App
 with_arguments a [] = a
 with_arguments a (argument ∷ arguments) = with_arguments (with_rule a (rule_by argument.0 argument.1)) arguments
@@ -51,7 +51,7 @@ with_arguments a (argument ∷ arguments) = with_arguments (with_rule a (rule_by
 abbrev pub app_in : TableRow → App
 app_in row = with_arguments (new_app row.1) row.2
 
--- A command with a subcommand for each of these rows.
+-- Returns the command with a subcommand for each of these rows added.
 abbrev pub with_commands : App → List TableRow → App
 with_commands a [] = a
 with_commands a (row ∷ rows) = with_commands (with_subcommand a (app_in row).top) rows
@@ -146,12 +146,12 @@ options_in rows = record {
   lacks = first_of (codes "lacks") rows;
 }
 
--- The command with this name in these rows; `replay` if no row has this name.
+-- Returns the command with this name in these rows, or `replay` if no row has this name.
 abbrev pub command_in : Text → List TableRow → Command
 command_in name [] = Replay
 command_in name (row ∷ rows) = if bytes_eq row.1 name then row.0 else command_in name rows
 
--- The command with this name. A parse finds only the names in `listset`.
+-- Returns the command with this name. A parse finds only names of commands in the table.
 abbrev pub command_named : Text → Command
 command_named name = command_in name table
 

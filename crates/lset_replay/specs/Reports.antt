@@ -55,7 +55,7 @@ IsRefusal T op events (fault.Busy line) = IsFirstRefused T op events line step.B
 IsRefusal T op events (fault.Idle line) = IsFirstRefused T op events line step.Idle
 IsRefusal T op events fault.Memory = Unit {0}
 
--- Holds if r is the correct report of a replay of the schedule p on the step table T.
+-- Holds if r is the correct report of a replay of the schedule p on the step table T (the steps of a list).
 pub record IsReplay (T : Table) (p : Plan) (r : ReportValue) : Type 0 where
   pub version_is : r.version ≡ p.version
   pub kind_is : r.kind ≡ p.kind

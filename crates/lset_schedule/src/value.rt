@@ -36,10 +36,11 @@ pub(crate) fn title(version: Version) -> &'static str
     }
 }
 
-/// A schedule of at most 1,000,000 events: the version of its format; the kind of list; the number of threads, 1 to 64;
-/// the quota of each thread, 0 to 16,384; the opening keys, at most 1,048,576 and in strictly increasing order; and its
-/// lines. A line's thread can be any `u32`. A schedule of version 1 can be written only if it has no opening keys and
-/// begins no `ceiling`, since that version has no lines for them.
+/// A schedule of at most 1,000,000 events: the version of its format; the kind of list; the number of threads, 1 to
+/// 64; the quota (the most successful adds of a thread), 0 to 16,384; the opening keys (the keys at the start), at
+/// most 1,048,576 and in strictly increasing order; and its lines. A line's thread can be any `u32`. A schedule of
+/// version 1 can be written only if it has no opening keys and begins no `ceiling`, since that version has no lines
+/// for them.
 #[derive(Debug, Drop)]
 pub struct Schedule {
     pub version: Version,

@@ -26,7 +26,8 @@ fn count_changes(calls: &[Made]) -> usize {
         .count()
 }
 
-/// Returns `true` if the calls on two keys are linearizable when taken as calls on one key.
+/// Returns `true` if two keys open in the same state, each has at least `LEAST_CHANGES` changes, and their calls are
+/// linearizable when taken as calls on one key. The final states are ignored.
 fn are_one(alloc: Global, runs: &Runs<'_>, one: u32, two: u32) -> Result<bool, AllocError> {
     let opening = runs.recorded.opens(one);
     if opening != runs.recorded.opens(two) {

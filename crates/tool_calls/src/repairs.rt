@@ -149,8 +149,8 @@ fn add(calls: &mut Vec<Made>, call: Made) -> Result<(), AllocError> {
     Ok(())
 }
 
-/// Returns the calls to try with the opposite reply: the contradicting calls, and the calls that returned false during
-/// the contradiction.
+/// Returns the calls to try with the opposite reply: the contradicting calls, and at most 8 calls that could have
+/// changed the key during the contradiction but returned false.
 fn candidates(alloc: Global, key: &KeyCalls, clash: &Clash) -> Result<Vec<Made>, AllocError> {
     let mut found = Vec::new(alloc);
     for call in [clash.first, clash.second].into_iter().flatten() {

@@ -22,7 +22,7 @@ pub enum Symptom {
     Lost,
     /// An absent key became present without an add that returned true.
     CameBack,
-    /// No single repair makes the calls linearizable.
+    /// None of the other symptoms: no repair was found, or several replies can be the wrong one.
     Unclear,
 }
 
@@ -36,7 +36,7 @@ pub struct Place {
     pub wrong: Option<Made>,
     /// An add or remove that returned false. If it had returned true, the surrounding calls would be linearizable.
     pub silent: Option<Made>,
-    /// Whether the surrounding calls are linearizable with the opposite reply of one call.
+    /// Whether the surrounding calls are linearizable with the opposite reply of one call. Always true for `BothTrue`.
     pub is_turned: bool,
     /// How many calls on the key had begun by the end of the contradiction.
     pub begun: usize,

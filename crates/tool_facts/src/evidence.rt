@@ -32,7 +32,7 @@ pub struct Evidence {
     pub span: u32,
 }
 
-/// The maximum number of contradictions that are kept for all keys in total.
+/// If at least this many contradictions were found, the remaining refused keys are left out.
 const MOST_PLACES: usize = 20_000;
 
 /// The contradictions of a recording (`places`). Also the operation that alone is wrong or, if there is none, the
@@ -53,7 +53,7 @@ pub struct Found {
 /// loss, a remove of another key can run by chance.
 const MOST_MOMENTS: u64 = 200;
 
-/// The minimum number of losses of keys that are compared with the number of keys present.
+/// If a recording has fewer losses than this, the losses are not compared with the number of keys present.
 const LEAST_LOST: u64 = 10;
 
 /// Returns the losses and returns of keys that a call shows, ordered by time.
@@ -79,7 +79,7 @@ fn of_symptom(alloc: Global, places: &[Place], symptom: Symptom) -> Result<Vec<P
     Ok(found)
 }
 
-/// Returns the contradictions that the opposite reply of one call would repair, ordered by time.
+/// Returns the contradictions that a call shows and that one wrong reply explains, ordered by time.
 fn replies_of(alloc: Global, places: &[Place]) -> Result<Vec<Place>, AllocError> {
     let mut found = Vec::new(alloc);
     for place in places {

@@ -461,8 +461,8 @@ fn next_call(sound: &KeyCalls, calls: &[Made], answer: Made) -> Option<Made> {
     None
 }
 
-/// Counts a wrong answer by the calls that overlap it, and by whether the next answer is wrong too. `wrong` has the
-/// begins of all wrong answers in increasing order.
+/// Counts a wrong answer in `own` if it agrees with the last call on the key by its own thread, and in `then_wrong` or
+/// `then_right` by the next call of the operation. `wrong` has the begins of all wrong answers in increasing order.
 fn count_around(sound: &KeyCalls, calls: &[Made], call: Made, odd: &mut Odd, wrong: &[u64]) {
     if was_left_so(calls, call) {
         more(&mut odd.own);
@@ -515,7 +515,7 @@ fn is_largest(runs: &Runs<'_>, call: Made) -> bool {
 }
 
 /// Returns the percentage of sampled `contains` calls that found their key present and began while no larger key was
-/// known to be present.
+/// known to be present. Returns 100 if no such call was sampled.
 fn usually_largest(runs: &Runs<'_>) -> u64 {
     let calls = &runs.recorded.calls;
     let step = calls.len().checked_div(SAMPLED).unwrap_or(0);

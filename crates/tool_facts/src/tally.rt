@@ -76,8 +76,9 @@ pub struct Tally {
     pub usually_together: u64,
     /// The number of losses and returns of keys that a call shows, and that undo a known earlier change of the key.
     pub made: u64,
-    /// The part of `made` with a change of another key that overlapped the undone change. The change of the other key
-    /// can have read the set before the undone change, and written the set afterwards.
+    /// The part of `made` with a change of another key that overlapped the undone change, and began after the key's
+    /// previous opposite change had begun. The change of the other key can have read the set before the undone change,
+    /// and written the set afterwards.
     pub fits: u64,
     /// The part of `made` with another successful add or remove of the same key that overlapped the undone change.
     pub own: u64,
@@ -547,7 +548,8 @@ fn has_beside(key: u32, since: u64, until: u64, places: &[Place]) -> bool {
 /// contradiction.
 const LATER: [u64; 2] = [1_501, 3_001];
 
-/// The maximum number of contradictions that are compared with later periods.
+/// The maximum number of contradictions that `usual_share` compares with later periods, and the size of a sample of
+/// calls.
 const MOST_COMPARED: usize = 400;
 
 /// Returns the percentage of comparison periods that overlap a change of another key. A comparison period is as long as
