@@ -16,7 +16,7 @@ import { examples, openTask } from "../page/work.js";
 import { wayBack } from "../story/assignment.js";
 import { Figure, STILL } from "../story/figure.js";
 import { linesOf, ShownRun } from "../story/live_run.js";
-import { titleOfScene } from "../story/scene.js";
+import { LIST_WORDS, titleOfScene } from "../story/scene.js";
 
 const bench = { key: "", figure: null };
 
@@ -29,7 +29,7 @@ function figureOfTask(run) {
   const box = document.createElement("div");
   byId("run-figure").replaceChildren(box);
   const sentence = (moment) => sentenceOf(moment, hiddenOutcomes());
-  bench.figure = new Figure(box, { ...STILL, list: kind, run, sentence, codeTitle: LISTS[kind].name, slots: 5 });
+  bench.figure = new Figure(box, { ...STILL, list: kind, run, sentence, codeTitle: LIST_WORDS[kind], slots: 5 });
   return bench.figure;
 }
 

@@ -6,7 +6,6 @@ import { now } from "../page/now.js";
 import { linkTo } from "../page/visit.js";
 import { addressOf, readAddress } from "../run/address.js";
 import { chipOf, escaped, listOptions, tag } from "../run/markup.js";
-import { sentenceOf } from "../run/sentences.js";
 import { Figure, STILL } from "../story/figure.js";
 import { RunFault, ShownRun } from "../story/live_run.js";
 import { copyText, head, part, setScene, threadOfKey } from "../story/scene.js";
@@ -103,7 +102,7 @@ function figuresOf(sides) {
   end();
   sidesPart("pictures").innerHTML = sides.map(({ run }) => tag("section", { "aria-label": LISTS[run.trace.kind].name }, PICTURE)).join("");
   const boxes = sidesPart("pictures").querySelectorAll(".pair");
-  const specOf = ({ run: { trace, state } }) => ({ ...STILL, list: trace.kind, run: new ShownRun(trace, state), code: false, sentence: sentenceOf, slots: 4 });
+  const specOf = ({ run: { trace, state } }) => ({ ...STILL, list: trace.kind, run: new ShownRun(trace, state), code: false, names: false, slots: 4 });
   figures.push(...sides.map((side, at) => new Figure(boxes[at], specOf(side))));
   return figures;
 }

@@ -9,7 +9,7 @@ import { askNow, dispatch, exampleShown, isJudging, isLecture, now, say } from "
 import { linkTo } from "../page/visit.js";
 import { addressOf, partsOfSeed, warningOf } from "../run/address.js";
 import { exerciseOf, LEVELS, MOST_JUDGED, OwnAnswer, repliesOf, verdictOn, wordOfAnswer } from "../run/judged.js";
-import { callText, chipOf, escaped } from "../run/markup.js";
+import { callText, chipOf, escaped, letterOf } from "../run/markup.js";
 import { itemOf } from "../story/ask_branches.js";
 import { homeworkOf } from "../story/assignment.js";
 import { isNarrow } from "../story/figure_parts.js";
@@ -119,7 +119,8 @@ class Judging {
       this.changed();
     };
     const box = document.createElement("label");
-    box.innerHTML = `${chipOf(call.thread)} ${callText(call)} returns `;
+    choice.setAttribute("aria-label", `${letterOf(call.thread)} ${callText(call)} returns`);
+    box.innerHTML = `${chipOf(call.thread)} ${callText(call)}: `;
     box.append(choice);
     return box;
   }

@@ -10,7 +10,7 @@ export const BREAK_LEVELS = {
     lacks: "It continues although another thread holds the lock.",
     others: { "It releases the lock before it writes the arrow.": "it releases the lock only after that",
       "It writes the arrow of pred before that of its own node.": "it writes the arrow of its own node first" },
-    start: [["add", 5], ["add", 4]], shortest: [20, 2], missing: [{ row: 1, part: "lock the list" }],
+    start: [["add", 5], ["add", 4]], shortest: [20, 2], missing: [{ row: 1, part: "wait while it is held" }],
   },
   "mark-in-remove": {
     story: "Two threads remove one key. One of them should find that it came too late.",

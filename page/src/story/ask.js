@@ -8,7 +8,7 @@ export const QUESTIONS = [
     options: [
       { text: "Both", says: "Then 5 would have been added twice, but a set contains it only once." },
       { text: "Only A", right: true, says: "" },
-      { text: "Only B", says: "B gets the lock only when A is done. What does it find then?" },
+      { text: "Only B", says: "B gets the lock only when A is done, and then it finds 5." },
     ],
     why: "<b>Only A.</b> The thread that holds the lock comes first. B’s try fails and changes nothing. When B gets the lock it walks, finds 5, and returns false. The ring marks the earliest moment when false was correct: when A’s 5 was added.",
     lacks: "lock", without: { lines: ["begin 0 add 5", "go 0 to 5", "begin 1 add 5", "go 1 out", "go 0 out"] },

@@ -6,7 +6,7 @@ import { QUESTIONS } from "./ask.js";
 import { APPENDIX } from "./ask_more.js";
 import { Figure } from "./figure.js";
 import { LiveRun } from "./live_run.js";
-import { drawLedger, isOddRun, LIST_WORDS, part, scene, setScene, takeFigure } from "./scene.js";
+import { drawLedger, isOddRun, LIST_WORDS, part, partsOfQuestion, scene, setScene, takeFigure } from "./scene.js";
 
 export const ALL = [...QUESTIONS, ...APPENDIX];
 export const itemOf = ({ id }) => ALL.find(({ name }) => name === id);
@@ -135,7 +135,7 @@ export function drawBranches({ branches, at }) {
   const { isFixed = false } = branches[at];
   const { question, without } = itemOf(now.place);
   part("#what-if-mark").hidden = at === 0 || isFixed;
-  const [, story, asked] = /^(.*[.!] )?(.*)$/.exec((isFixed && without?.question) || question);
+  const [story, asked] = partsOfQuestion((isFixed && without?.question) || question);
   part("#asked").textContent = asked; // the title is the question alone
   part("#story-of").textContent = story ?? "";
   const button = ({ name }, index) =>

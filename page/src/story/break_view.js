@@ -1,6 +1,5 @@
 // Break it: step the threads until no order of the calls explains their replies, then name the missing check.
 import { LACKING } from "../../made/classics.js";
-import { LISTS } from "../../made/rows.js";
 import { BREAK_LEVELS, TEN, levelOfNumber, numberOfLevel, whyWrong } from "../data/levels.js";
 import { askNow, now } from "../page/now.js";
 import { addressOf } from "../run/address.js";
@@ -10,7 +9,7 @@ import { wayBack, wayOn } from "./assignment.js";
 import { isNarrow } from "./figure_parts.js";
 import { isBrokenOnce, isNamed, keepBrokenLine, keepNamed } from "./progress.js";
 import { runOfText } from "./live_run.js";
-import { backLink, drawHintAndOn, drawLedger, onStage, foot, head, hintAndOn, isOddRun, LACKS_ONE, numberOfKey, optionButtons, pressThread, scene, setScene, takeFreeFigure, showPrompt } from "./scene.js";
+import { backLink, drawHintAndOn, drawLedger, onStage, foot, head, hintAndOn, isOddRun, LACKS_ONE, LIST_WORDS, numberOfKey, optionButtons, pressThread, scene, setScene, takeFreeFigure, showPrompt } from "./scene.js";
 
 const HINTS = 3;
 const LATE = 1000; // milliseconds: a click soon after the verdict was meant for a thread's button, which was at the place of the answers
@@ -21,7 +20,7 @@ function html(place) {
   const name = levelOf(place);
   const at = TEN.indexOf(name);
   const next = TEN[(at + 1) % TEN.length];
-  const kicker = `<a href="#break">Break it</a> · ${LISTS[LACKING[name]].name} without one check · #break=${numberOfLevel(name)}`;
+  const kicker = `<a href="#break">Break it</a> · ${LIST_WORDS[LACKING[name]]}, without one check · #break=${numberOfLevel(name)}`;
   return `${onStage(head(kicker, BREAK_LEVELS[name].story))}
     ${foot(backLink(wayBack(place, { href: "#break", words: "All lists" })), hintAndOn(wayOn(place, { href: `#break=${numberOfLevel(next)}`, words: "Next list →" })))}`;
 }
@@ -95,8 +94,8 @@ function wonHtml({ note, wrong }) {
   const asked = `<p class="ask">What does this list do wrong?</p>${optionButtons(optionsOf(name), wrong)}<p role="status">${reply}</p>`;
   const { total } = run.trace;
   const known = total > shortest[0] ? ` A run with ${shortest[0]} steps is known.` : "";
-  const named = `<p><b class="yes">✓ ${lacks}</b> In the code, the missing part is struck out. Your run is shown again from the step where the correct list differs. <span class="small">Your run has ${total} steps (one press can make several).${known}</span></p>
-    <p class="line"><button data-do="replay">See your run again</button> <button data-do="afresh" class="quiet">Break it in another way</button></p>`;
+  const named = `<p><b class="yes">✓ ${lacks}</b> In the code, the missing part is struck out. <span class="small">Your run has ${total} steps (one press can make several).${known}</span></p>
+    <p class="line"><button data-do="replay">See where your run goes wrong</button> <button data-do="afresh" class="quiet">Break it in another way</button></p>`;
   const ledger = isOddRun(run) ? drawLedger(run) : "";
   return `<div class="reveal won">${ledger}<div><p class="why"><b>Broken.</b> ${note}</p>${isDone ? named : asked}</div></div>`;
 }
@@ -126,7 +125,6 @@ function answer(index) {
   if (sentence !== BREAK_LEVELS[name].lacks) return setScene({ wrong: [...new Set([...now.scene.wrong, sentence])] });
   keepNamed(name);
   setScene({ wrong: [] });
-  replay();
 }
 
 // Replays the winning run, from two steps before the first step that the correct list would not execute.

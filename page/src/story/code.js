@@ -1,7 +1,7 @@
 // Draws the algorithm beside the list. Each line is a button that steps a thread. `plain` leaves out the lines about the lock.
 import { chipOf, colourOf, escaped, letterOf, tag } from "../run/markup.js";
 
-const WORDS = /\b(while|if|else|return|start again|loop|until|unlock|lock|find|validate|CAS|new)\b/g;
+const WORDS = /\b(while|if|else|return|start again|loop|until|release|lock|find|validate|CAS|new)\b/g;
 
 /**
  * The code to show: the lines of the calls `operations`. A line executes rows of the list's step table. Lines of the rows in `hides` are left out, and
@@ -88,24 +88,24 @@ const READS = [
 
 export const BOOK_CODE = {
   coarse: [
-    { text: "lock the list", rows: [1] },
+    { text: "take the lock; wait while it is held", rows: [1] },
     { text: "pred = head; curr = pred.next", rows: [2] },
     { text: "while curr.key < key:", rows: [3] },
     { text: "    pred = curr; curr = curr.next", rows: [4] },
     ...writes([5, 6], [7], [8, 9]),
     LOOKS,
-    { text: "unlock the list; return", rows: [10] },
+    { text: "release the lock; return", rows: [10] },
   ],
   fine: [
     { text: "lock head; pred = head", rows: [1] },
     { text: "curr = pred.next", rows: [2] },
-    { text: "loop: lock curr, pred still locked", rows: [3] },
+    { text: "loop: lock curr, pred still locked", rows: [3, 14] }, // (only a broken list has row 14)
     { text: "    if curr.key ≥ key: leave the loop", rows: [4] },
-    { text: "    unlock pred", rows: [5] },
+    { text: "    release pred", rows: [5] },
     { text: "    pred = curr; curr = curr.next", rows: [6] },
     ...writes([7, 8], [9], [10, 11]),
     LOOKS,
-    { text: "unlock curr; unlock pred; return", rows: [12, 13] },
+    { text: "release curr; release pred; return", rows: [12, 13] },
   ],
   optimistic: [
     { text: "pred = head; curr = pred.next", rows: [1] },
@@ -117,7 +117,7 @@ export const BOOK_CODE = {
     { text: "    pred.next == curr, else not valid", rows: [8] },
     ...writes([9, 10], [11], [12, 13]),
     LOOKS,
-    { text: "unlock pred; unlock curr", rows: [14, 15] },
+    { text: "release pred; release curr", rows: [14, 15] },
     { text: "if not valid: start again; return", isPlain: true },
   ],
   lazy: [
@@ -128,7 +128,7 @@ export const BOOK_CODE = {
     { of: CHANGES, text: "validate: pred unmarked, leads to curr", rows: [6] },
     { of: CHANGES, text: "    and curr unmarked", rows: [7] },
     ...writes([8, 9], [10], [12], [11]),
-    { of: CHANGES, text: "unlock curr; unlock pred", rows: [13, 14] },
+    { of: CHANGES, text: "release curr; release pred", rows: [13, 14] },
     { of: CHANGES, text: "if not valid: start again; return", isPlain: true },
     ...READS,
   ],

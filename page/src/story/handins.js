@@ -21,6 +21,7 @@ function studentOf(text, file) {
 
 // Returns the title and the tasks of the assignment in a link. If the link has no assignment, returns the reason as `fault`.
 export function assignmentOfLink(link) {
+  if (link.split("assignment=").length > 2) return { fault: "Here is more than one link. Paste the link of one assignment, once." };
   const { assignment: title, ...given } = Object.fromEntries(new URLSearchParams(link.replaceAll("&amp;", "&").replace(/^[^#]*#?/, "")));
   const { tasks, unknown } = tasksOf(given);
   if (title === undefined) return { fault: "This is not the link of an assignment: “#assignment=” is missing." };

@@ -2,7 +2,7 @@
 import { isLecture } from "../page/now.js";
 import { tag } from "../run/markup.js";
 import { LISTS_AT_END, SCREENS } from "./path.js";
-import { drawLedger, drawOn, optionButtons, part, replyTo } from "./scene.js";
+import { drawLedger, drawOn, optionButtons, part, partsOfQuestion, replyTo } from "./scene.js";
 
 export const HERO = `<div class="hero"><p class="kicker">Concurrent lists, from nothing</p><p class="title">Why not just one lock?</p>
   <p class="lead">Two threads share one list. Each press makes one thread take a step. <span class="roomy">In twenty minutes you break it, mend it, and meet
@@ -33,15 +33,21 @@ export function welcome(done) {
 
 const asked = (text, note = "") => `<p class="ask">${text}</p>${note === "" ? "" : `<p class="again">${note}</p>`}`;
 
+// Returns the question of a screen with the reply. A screen with a second task has replied before it.
+function askedBefore({ ask, then }, reply) {
+  if (ask === undefined || then !== undefined) return "";
+  return (reply || '<p class="you"></p>').replace(">", `><span class="was">${partsOfQuestion(ask)[1]}</span> `);
+}
+
 export function promptOf(screen, { stage, chosen, note }, figure) {
-  const reply = replyTo(screen.options, chosen, stage !== "done");
+  const reply = replyTo(screen.options, chosen, stage !== "done" && stage !== "moment");
   if (stage === "guess") return asked(screen.ask) + optionButtons(screen.options.map(({ text }) => text));
   const ledger = screen.ledger ? drawLedger(figure.run) : "";
   if (stage === "task" || stage === "again") return `<div class="doing">${ledger}<div>${reply}${asked(screen.task ?? screen.playTask, note)}</div></div>`;
   if (stage === "moment") return reply + asked(screen.then.task, note);
   if (stage === "playing") return isLecture() ? asked(screen.ask) + (reply || '<p class="you"></p>').replace("</p>", " Press → for the next step.</p>") : reply;
   const isOther = screen.options !== undefined && !screen.options[chosen]?.right;
-  return `<div class="reveal${isOther ? " other" : ""}">${ledger}<div>${reply}<p class="why">${screen.reveal(figure)}</p></div></div>`;
+  return `<div class="reveal${isOther ? " other" : ""}">${ledger}<div>${askedBefore(screen, reply)}<p class="why">${screen.reveal(figure)}</p></div></div>`;
 }
 
 const SHOW = { guess: "Show me", again: "Start over", moment: "Show me", task: "Show a step", playing: "Show me" };

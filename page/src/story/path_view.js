@@ -1,13 +1,14 @@
 // Shows the path, one screen at a time. Each screen has a task or a question. "Show me" presses the next button of a
 // solution.
 import { byId } from "../page/dom.js";
+import { letterOf } from "../run/markup.js";
 import { isLecture, now } from "../page/now.js";
 import { Figure } from "./figure.js";
 import { keepStory, keptStory, startAfresh } from "./progress.js";
 import { waysOn } from "./live_run.js";
 import { SCREENS } from "./path.js";
 import { barHtml, dots, drawBar, endHtml, GONE, HERO, LAST, openContents, promptOf, welcome } from "./path_parts.js";
-import { drawLedger, head, numberOfKey, onStage, openScene, part, pressThread, scene, setScene, takeFigure, showPrompt, threadOfKey } from "./scene.js";
+import { drawLedger, head, isOddRun, numberOfKey, onStage, openScene, part, pressThread, scene, setScene, takeFigure, showPrompt, threadOfKey } from "./scene.js";
 import { toSlide } from "./slide.js";
 
 // The address names a screen and a part of it: #story=4 is the first part of screen 4, #story=4.2 the second.
@@ -24,7 +25,6 @@ const screenOf = (place) => {
   return partsOf(number)[at - 1];
 };
 const here = () => screenOf(now.place);
-const isLastPart = ({ number, at }) => at === partsOf(number).length;
 const PLACES = Array.from({ length: LAST }, (_, index) => partsOf(index + 1).map((_, at) => (at === 0 ? `${index + 1}` : `${index + 1}.${at + 1}`))).flat();
 
 function goBy(by) {
@@ -81,7 +81,13 @@ function looked() {
   if (met?.again !== undefined) startOver(met.again);
   else if (met !== null) done();
   else if (screen.ledger && waysFrom(scene.figure, FEW) === null) startOver(HOPELESS);
-  else setScene({ stage: "task", note: "" }); // a press was taken back
+  else setScene({ stage: "task", note: screen.ledger && isOddRun(scene.figure.run) ? noteAtFault(scene.figure) : "" }); // (also after Undo)
+}
+
+// Tells a reader who has reached the fault how to end the run.
+function noteAtFault(figure) {
+  const pending = figure.shown.filter((thread) => !figure.run.isIdle(thread) || figure.left(thread).length > 0).map(letterOf);
+  return `There is the fault: see the table. Now press ${pending.join(" and ")} until ${pending.length > 1 ? "both calls return" : "its call returns"}.`;
 }
 
 const FEW = 30; // states that are searched after each press, to report early that nothing can go wrong any more
@@ -136,9 +142,16 @@ function pressedMoment(contents, index) {
 function done() {
   const { figure } = scene;
   if (here().ledger) figure.set({ isLost: true });
-  if (isLastPart(placeIn(now.place))) keepStory({ done: { ...keptStory().done, [here().id]: true } });
+  keepPart(placeIn(now.place), here());
   setScene({ stage: "done" });
   focusOn();
+}
+
+// Stores that a part of a screen is finished. The screen is finished when all its parts are.
+function keepPart({ number, at }, { id }) {
+  const done = { ...keptStory().done, [`${id}.${at}`]: true };
+  if (partsOf(number).every((_, index) => done[`${id}.${index + 1}`])) done[id] = true;
+  keepStory({ done });
 }
 
 // Focuses the button Continue, unless another control has the focus.

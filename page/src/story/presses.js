@@ -7,7 +7,7 @@ const PHASES = {
   coarse: { 1: "lock", ...walkers(2, 3, 4), 5: "make", 6: "make", 7: "link", 8: "unlink", 9: "unlink", 10: "unlock" },
   fine: {
     1: "first", 2: "next", 3: "next", 4: "next", 5: "letgo", 6: "next", 7: "make", 8: "make", 9: "link", 10: "unlink", 11: "unlink",
-    12: "unlock", 13: "unlock",
+    12: "unlock", 13: "unlock", 14: "letgo",
   },
   optimistic: {
     ...walkers(1, 2, 3), 4: "locks", 5: "locks", 6: "again", 7: "again", 8: "again", 9: "make", 10: "make", 11: "link", 12: "unlink",

@@ -19,7 +19,7 @@ import { NARROW } from "./figure_parts.js";
 
 /** The views, by activity. The view with the key `ACTIVITY map` is the overview of an activity. @type {Record<string, View>} */
 export const VIEWS = {};
-export const scene = { key: "", view: null, figure: null, isFirst: true };
+export const scene = { key: "", view: null, figure: null, isFirst: true, begun: -Infinity };
 export const part = (selector) => byId("scene").querySelector(selector);
 const viewOf = ({ activity, id }) => (id === "" ? VIEWS[`${activity} map`] : undefined) ?? VIEWS[activity];
 export const titleOfScene = (place) => viewOf(place).title(place);
@@ -62,8 +62,13 @@ export function renderScene({ place, scene: state }) {
   view.begin?.(place);
   view.draw?.(now.scene);
   if (!scene.isFirst && ["BODY", "MAIN"].includes(document.activeElement.tagName)) box.querySelector("h1")?.focus({ preventScroll: true });
+  if (!scene.isFirst) scene.begun = performance.now();
   scene.isFirst = false; // the focus moves to the title of the opened place
 }
+
+// Decides whether a click on the button at the right was meant for the place before: that button was at the same position.
+const isSecondClick = (target) => performance.now() - scene.begun < JUST_OPENED && target.closest("#go-on:not(.ready)") !== null;
+const JUST_OPENED = 700; // milliseconds
 
 export function openScene({ activity, id = "", given = {}, view = null, slide = 0 }) {
   scene.key = ""; // so that a place that is shown already begins again
@@ -75,7 +80,8 @@ export function listenToScene() {
   matchMedia(NARROW).onchange = ({ matches }) => matches && document.querySelectorAll("details.codebox").forEach((box) => box.removeAttribute("open"));
   byId("scene").addEventListener("click", (event) => {
     const target = event.target.closest("[data-do]");
-    if (target !== null && byId("scene").contains(target)) scene.view?.deeds?.[target.dataset.do]?.(target);
+    if (isSecondClick(event.target)) event.preventDefault();
+    else if (target !== null && byId("scene").contains(target)) scene.view?.deeds?.[target.dataset.do]?.(target);
   });
 }
 
@@ -120,20 +126,25 @@ export const optionButtons = (texts, wrong = []) => {
 
 const lowered = (text) => text[0].toLowerCase() + text.slice(1);
 
+// Returns the reply to a guess. While the answer is still to come (`isToCome`), the reply does not reveal whether the guess is right.
 export function replyTo(options, chosen, isToCome) {
   const option = options?.[chosen];
   if (option === undefined) return "";
   const { text, says, right = false } = option;
-  const said = right && !isToCome ? "Right." : `You said: ${lowered(text)}${text.endsWith("?") ? "" : "."}`;
-  return `<p class="you ${right ? "right" : "wrong"}"><b>${said}</b> ${right ? (isToCome ? says || "Let us see." : "") : says}</p>`;
+  const guess = `<b>You said: ${lowered(text)}${text.endsWith("?") ? "" : "."}</b>`;
+  if (isToCome) return `<p class="you">${guess} Let us see.</p>`;
+  return right ? '<p class="you right"><b>Right.</b></p>' : `<p class="you wrong">${guess} ${says}</p>`;
 }
+
+// Splits the text of a question into the story before it and the question itself.
+export const partsOfQuestion = (text) => /^(.*[.!] )?(.*)$/.exec(text).slice(1);
 
 export function drawLedger(run, count = run.trace.total) {
   const [promised, has] = [run.promised(count), run.has()];
   const all = [...new Set([...promised, ...has])].sort((one, other) => one - other);
   const cell = (keys, others) => (key) => {
     const isIn = keys.includes(key);
-    return tag("td", { class: isIn ? (others.includes(key) ? "" : "odd") : "gap" }, isIn ? key : "");
+    return tag("td", { class: isIn ? (others.includes(key) ? "" : "odd") : "gap" }, isIn ? key : `no ${key}`);
   };
   const row = (name, keys, others) => tag("tr", {}, tag("th", { scope: "row" }, name), ...all.map(cell(keys, others)));
   return tag("table", { class: "ledger" }, row("should have", promised, has), row("list has", has, promised));

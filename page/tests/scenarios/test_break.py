@@ -63,7 +63,7 @@ def test_a_wrong_answer_gets_a_reply_and_the_right_one_strikes_out_the_line(visi
     assert not visitor.is_seen(".steps del")
     visitor.click("[data-option]", "continues")
     visitor.idle()
-    assert visitor.text(".steps del").endswith("lock the list") and visitor.is_seen("[data-do=replay]")
+    assert visitor.text(".steps del").endswith("wait while it is held") and visitor.is_seen("[data-do=replay]")
     visitor.click("[data-do=replay]")
     visitor.press("a")
     visitor.idle()

@@ -1,5 +1,7 @@
 """Tests the path: a first-time visitor follows it with clicks, guesses and keys, and finds the way back."""
 
+import time
+
 import pytest
 
 
@@ -15,7 +17,7 @@ def test_a_first_visit_opens_the_path(visitor):
     assert visitor.title.startswith("How does a thread add 5")
 
 
-@pytest.mark.parametrize("number", ["1", "2", "3", "4", "4.2", "4.3", "4.4", "5", "6", "7", "7.2", "8", "9", "9.2"])
+@pytest.mark.parametrize("number", ["1", "2", "3", "4", "4.2", "4.3", "4.4", "4.5", "5", "6", "7", "7.2", "8", "9", "9.2"])
 def test_pressing_show_me_leads_through_each_story(visitor, number):
     visitor.open(f"#story={number}")
     for _ in range(60):
@@ -144,9 +146,65 @@ def test_the_story_shows_why_two_locks_are_needed(visitor):
     guess(visitor, "2")
     assert "B wants the lock of 3, but A holds it." in visitor.text(".said") and "one lock is enough for an add" in visitor.text(".why")
     visitor.click("#go-on")
+    visitor.wait("return location.hash === '#story=4.5'")
+    visitor.step("abbbaa")
+    assert "Now press A and B until both calls return." in visitor.text("#prompt") and visitor.text(".ledger .gap") == "no 5"
+    visitor.step("ab")
+    visitor.revealed()
+    assert visitor.text(".why b").startswith("5 is lost") and visitor.is_seen(".list .lost")
+    visitor.click("#go-on")
     visitor.wait("return location.hash === '#story=5'")
     visitor.press("Left")
-    visitor.wait("return location.hash === '#story=4.4'")
+    visitor.wait("return location.hash === '#story=4.5'")
+
+
+def test_a_screen_is_finished_when_all_its_parts_are(visitor):
+    finished = "return [...document.querySelectorAll('.dots .done')].map((it) => it.innerText)"
+    visitor.open("#story=7.2")
+    visitor.step("aaaaaaaa")
+    visitor.revealed()
+    visitor.open("#story=8")
+    assert visitor.script(finished) == []
+    visitor.open("#story=7")
+    visitor.step("ba")
+    visitor.revealed()
+    visitor.open("#story=8")
+    assert [text.split(",")[0].strip() for text in visitor.script(finished)] == ["A mark"]
+
+
+def test_the_second_press_of_a_double_press_skips_nothing(visitor):
+    visitor.open("#story=1")
+    while not visitor.is_seen(".reveal"):
+        visitor.step("a")
+    visitor.script("for (const _ of [1, 2]) document.getElementById('go-on').click()")
+    visitor.wait("return location.hash === '#story=2'")
+    visitor.script("document.getElementById('go-on').click()")
+    visitor.settle()
+    assert visitor.hash == "#story=2" and visitor.text("#go-on") == "Skip →"
+    time.sleep(0.7)
+    visitor.click("#go-on")
+    visitor.wait("return location.hash === '#story=3'")
+
+
+def test_a_reply_does_not_reveal_the_answer_before_it_is_seen(visitor):
+    for number, key in ((3, "1"), (3, "3"), (9, "2")):
+        visitor.open(f"#story={number}")
+        visitor.press(key)
+        assert visitor.text(".you").endswith("Let us see.") and not visitor.is_seen(":is(.right, .wrong)"), (number, key)
+    visitor.open("#story=3")
+    guess(visitor, "1")
+    assert visitor.text(".you").startswith("How far does B get? You said: to its answer.")
+
+
+def test_a_reader_at_the_fault_learns_what_to_press(visitor):
+    for address, keys, threads in (("#story=4.2", "bbbaaab", "A and B"), ("#story=4.3", "bbbaaab", "A and B"), ("#story=5", "abbba", "A")):
+        visitor.open(address)
+        said = ""
+        for key in keys + "ab":
+            if not visitor.is_seen(".reveal"):
+                visitor.step(key)
+                said += visitor.text("#prompt")
+        assert "There is the fault: see the table. Now press" in said, address
 
 
 def test_the_sentence_about_a_change_stays_until_the_next_press(visitor):

@@ -116,7 +116,7 @@ def walk(visitor, request):
 
 
 def test_the_path_is_readable(walk):
-    for number in (1, 2, 3, 4, 4.2, 4.3, 4.4, 5, 6, 7, 7.2, 8, 9, 9.2):
+    for number in (1, 2, 3, 4, 4.2, 4.3, 4.4, 4.5, 5, 6, 7, 7.2, 8, 9, 9.2):
         walk.go(f"#story={number}")
         stage = walk.visitor.inside("return listsets.now.scene.stage")
         if stage == "guess":
