@@ -197,7 +197,7 @@ def test_a_reply_does_not_reveal_the_answer_before_it_is_seen(visitor):
 
 
 def test_a_reader_at_the_fault_learns_what_to_press(visitor):
-    for address, keys, threads in (("#story=4.2", "bbbaaab", "A and B"), ("#story=4.3", "bbbaaab", "A and B"), ("#story=5", "abbba", "A")):
+    for address, keys, threads in (("#story=4.2", "bbbaaab", "A and B"), ("#story=4.3", "bbbaaab", "A and B"), ("#story=5", "abbbbaa", "A")):
         visitor.open(address)
         said = ""
         for key in keys + "ab":
