@@ -72,7 +72,6 @@ function beginSides(turns = []) {
 
 const takeTurns = () => setScene({ text: addressOfSides(), at: shown.sides.turns.length });
 
-// Removes the turns after the current one, and adds a turn of this thread.
 function turnOf(thread) {
   const { turns } = shown.sides;
   if (now.scene.at < turns.length) beginSides(turns.slice(0, now.scene.at));

@@ -59,8 +59,7 @@ function openLink({ text, event, lacks = null, view = null }) {
   openTask(OWN_TASK, text, event);
 }
 
-// Returns the number of the slide that an address opens: #lecture=N, or the address that slide N shows. Returns 0 for any other address. Throws if the
-// lecture has no slide N.
+// Returns the number of the slide that an address opens or shows, or 0 for any other address. Throws if the lecture has no such slide.
 export function slideOf(hash) {
   const [, number = "1"] = /^#lecture(?:=(.*))?$/.exec(hash) ?? [null, `${1 + LECTURE.findIndex(([, , address]) => address === hash)}`];
   if (number === "0" || LECTURE[Number(number) - 1] !== undefined) return Number(number);

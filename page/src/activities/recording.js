@@ -36,14 +36,12 @@ function threadsInWords(calls) {
   return threads.length === 0 ? [] : [`Threads: ${threads.map((thread) => `${letterOf(thread)} is thread ${thread}`).join(", ")} of the recording.`];
 }
 
-// Returns a remark if a refused recording adds keys but has no `key` line. Without such a line, the recording states
-// that the final set is empty.
+// Returns a remark if a refused recording adds keys but has no `key` line: such a recording states that the final set is empty.
 function keysInWords(text, { kind }) {
   const isEmptied = kind === "none" && !/^key /m.test(text) && /^call \d+ add \S+ \S+ \S+ true/m.test(text) && /^end$/m.test(text);
   return isEmptied ? ["The recording has no line <code>key</code>, so it says that the set is empty at the end. Add a line <code>key K</code> for each key K of the final set."] : [];
 }
 
-// Replaces the judge's reasons by the diagnosis, if there is one.
 async function withDiagnosis(verdict, text) {
   const why = verdict.kind === "none" ? diagnosisIn((await askSoon("listset_why_record", text)).text) : null;
   if (why === null) return verdict;
@@ -76,7 +74,6 @@ function showVerdict({ kind, says, reasons, calls }) {
 
 const nothing = { kind: "", says: "", reasons: [], calls: [] };
 
-// Judges the recording that was pasted or read from a file.
 async function judgeCalls() {
   const text = withNewline(recordedPart("text").value);
   recorded.text = text;

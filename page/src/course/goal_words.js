@@ -154,8 +154,7 @@ export class Run {
     return this.moments[call.ended - 1];
   }
 
-  // Returns the pauses of a thread. A pause begins at a step of the thread (`step`) and ends at its next step. `others` are the steps of other threads in
-  // between.
+  // Returns the pauses of a thread: the step before each (`step`), and the steps of other threads until its next step (`others`).
   restsOf(thread) {
     const steps = this.moments.filter(({ event }) => event.thread === thread);
     return steps.map((step, at) => {

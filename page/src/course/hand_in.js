@@ -121,8 +121,7 @@ export function readSchedule(link) {
   }
 }
 
-// Judges a solution. If later lines of the mail were joined to `line` by mistake, `shorter` has the same part with fewer joined lines. The first of
-// these texts that solves its task counts.
+// Judges a solution. `shorter` has the same part with fewer joined lines of the mail. The first of these texts that solves its task counts.
 export function judgedSolution(ask, lessons, { line, shorter }) {
   const lines = [line, ...shorter];
   /** @type {any[]} */

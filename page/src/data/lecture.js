@@ -1,5 +1,4 @@
-// The slides of the lecture. The addresses #lecture=1, #lecture=2 and so on open them. A slide has its duration in minutes, a title, the address that it
-// shows, a question for the class, and the answer.
+// The slides, #lecture=1 and so on: minutes, title, the address that the slide shows, a question for the class, the answer.
 /** @type {[number, string, string, string, string][]} */
 export const LECTURE = [
   [4, "Lose a number", "#story=2&view=lecture", "No lock. Let the class call out A or B until a number is lost.",

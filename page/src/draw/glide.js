@@ -29,7 +29,6 @@ function glideArrow(part, before) {
 const SLOW = 1200; // milliseconds in which a lost node falls out of the chain
 export const fallTime = () => (wantsStill() || document.hidden ? 0 : SLOW);
 
-// Animates the loss of a node: first the arrow turns from the lost node to the new node, then the lost node moves out of the chain.
 function fall(box, before, fallen) {
   const timing = { duration: SLOW, easing: "ease-in-out" };
   const shift = (was, { dataset }) => `${was.x - Number(dataset.x)}px ${was.y - Number(dataset.y)}px`;

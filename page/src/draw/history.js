@@ -19,8 +19,7 @@ function windowOf(total, count, room) {
 
 const shownIn = ({ calls }, first, last) => calls.filter(({ begun, ended }) => begun <= last && (ended === null || ended >= first));
 
-// Returns the height of a bar (`bar`), the space below it, and the maximum number of rows of labels. If there is little height
-// (`isLow`), the labels are inside the bars.
+// Returns a bar's height, the space below it, and the most rows of labels. With little height (`isLow`), the labels are inside the bars.
 function formOf(threads, isLow) {
   if (isLow && threads <= 6) return { bar: 19, below: 4, mostRows: 1 };
   if (threads > 12) return { bar: 9, below: 1, mostRows: 1 };
@@ -152,8 +151,7 @@ export const [GROWN, WIDE_GROWN, SMALL_GROWN] = [1.25, 1.34, 1.09]; // factors b
 export const ROW_HEIGHT = 15;
 export const widthOf = (text, reply = "") => LETTER * text.length + (reply === "" ? 0 : LETTER + BOLD * reply.length);
 
-// Returns the place { x, row } of each label { left, right, wide }, or null if no row has space. The labels must be sorted by their left ends. A label
-// begins at the left end of its bar, in the first free row (row 0 is next to the bar), or else ends at the right end of the bar.
+// Returns the place { x, row } of each label, or null if no row has room. The labels are sorted by their left ends, and lie at an end of their bars.
 function placeLabels(items, { start, edge, mostRows }) {
   const taken = Array.from({ length: mostRows }, () => start);
   return items.map(({ left, right, wide }) => {

@@ -62,8 +62,7 @@ function foldedChain(chain, important, most) {
   return items.map((item) => (item.names.length === 1 ? { name: item.names[0], names: item.names } : item));
 }
 
-// Returns the largest unit and heights that fit the stage. Unit and heights depend on the run and not on the current step, so that nothing jumps
-// between two steps.
+// Returns the largest unit and heights that fit the stage. They depend on the run and not on the current step, so that nothing jumps.
 function unitsOf(state, room, slots, isFlat) {
   const form = formOf(room);
   const least = Math.max(form.least, room.least ?? 0);
@@ -77,8 +76,7 @@ function unitsOf(state, room, slots, isFlat) {
   const fits = (at) => heightsOf(form.below[at], lanesAt(least)).height * least <= room.high;
   const first = form.below.findIndex((_, at) => at >= (room.tight ?? 0) && fits(at));
   const tight = first === -1 ? form.below.length - 1 : first;
-  // A larger unit leaves less room for the threads' hands side by side. Chooses the number of rows of hands that allows the
-  // largest unit.
+  // A larger unit leaves less room for hands side by side. Chooses the number of rows of hands that allows the largest unit.
   const sizeWith = (lanes) => {
     const high = room.high / heightsOf(form.below[tight], lanes).height;
     const own = form === SMALL ? Math.min(1, high, room.wide / (slots * form.slot)) : Math.min(room.wide / 880, high, room.wide / (slots * 128));
@@ -118,8 +116,7 @@ function placesOfChain(items, room, units, slots) {
   return places;
 }
 
-// Chooses which nodes outside the chain are drawn (`shown`): first the important nodes, then those that only their thread sees, then unlinked ones.
-// `more` is the number of the others.
+// Chooses the nodes outside the chain to draw: first important ones, then those that only their thread sees. `more` is the number of the others.
 function nodesAside(state, chain, important, most) {
   const inChain = new Set(chain);
   const aside = Object.keys(state.nodes).filter((name) => !inChain.has(name) && isWritten(state.nodes[name]));

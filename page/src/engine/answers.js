@@ -58,8 +58,7 @@ export function readVerdict({ text }) {
   const why = {
     key: key === null ? null : Number(key),
     moment, // the calls until this moment have no order; null: the calls have one, but no order leaves the key as recorded
-    // Two calls that contradict each other, and whether the first one leaves the key present. Null stands for the opening keys in place of the first call,
-    // and for the final keys in place of the second.
+    // Two calls that contradict each other; `isPresent`: the first leaves the key present. Null stands for the opening keys, or for the final keys.
     clash: was === null ? null : { isPresent: was === "true", first: callBehind("first"), second: callBehind("second") },
     noSuchReply: reply === null ? null : Number(reply), // the number of a call with a reply that no set can return, or null
   };

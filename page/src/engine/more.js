@@ -5,7 +5,6 @@ import { loadScript } from "./engine.js";
 export const more = { CODE: null, CODE_OF: {} };
 const loading = { begun: null };
 
-// Loads more.js if it is not loaded yet. Rejects if the file is missing.
 export async function loadMore() {
   if (typeof MORE === "undefined") await (loading.begun ??= loadScript("more.js"));
   Object.assign(more, MORE);

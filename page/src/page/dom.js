@@ -3,8 +3,7 @@
 /** @type {(id: string) => any} */
 export const byId = (id) => document.getElementById(id);
 
-// Redraws a box. If the focused element is drawn again, it keeps the focus. Otherwise the first button gets the focus (no field, and not Undo or Start
-// over).
+// Redraws a box. If the focused element is drawn again, it keeps the focus. Otherwise the first button gets it (no field, Undo or Start over).
 export function redraw(box, html) {
   /** @type {any} */
   const before = box.contains(document.activeElement) ? document.activeElement : null;

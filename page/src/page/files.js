@@ -46,7 +46,6 @@ export function traceIn(text) {
   }
 }
 
-// Compares the trace of a file with the engine's trace of the same schedule, and puts the result into words.
 export function comparedTrace(given, own) {
   const [theirs, ours] = [given, own].map((text) => text.split("\n").filter((line) => !/^(chain|refused|end)\b/.test(line)));
   const line = theirs.findIndex((one, index) => one !== ours[index]);

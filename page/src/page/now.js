@@ -9,7 +9,6 @@ export const now = stateAtFirst();
 /** @type {{ engine: any, render: () => void }} */
 export const held = { engine: null, render: () => {} };
 
-// Applies an action without drawing.
 export function change(type, given = {}) {
   Object.assign(now, reduce(now, { ...given, type }));
 }

@@ -142,8 +142,7 @@ export function scheduleOfSeed(ask, seed) {
   return joined(text);
 }
 
-// Decides whether a run is interesting, that is, a key is added, a key is removed, and a contains or a call with the reply false overlaps a call of
-// another thread.
+// Decides whether a run is interesting: a key is added, a key is removed, and a contains or a call with the reply false overlaps another thread's.
 function isWorthIt({ calls, changes, total }) {
   const puts = changes.some(({ put }) => put !== undefined) && changes.some(({ took }) => took !== undefined);
   const isBeside = (one, other) => one.thread !== other.thread && one.begun < other.ended && other.begun < one.ended;

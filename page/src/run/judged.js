@@ -112,12 +112,10 @@ function faultInWords(answer, { fault, call, place, reply, set, answer: due, beg
   return `This is not an order of the calls of this run (${fault}).`;
 }
 
-// Returns an answer as the last word of a line to hand in, such as `judge read-in-anothers-step replies 0-true,2-true,1-false,3-true`. Returns "" if no
-// call is placed.
+// Returns an answer as the last word of a line to hand in, such as 0-true,2-true,1-false,3-true. Returns "" if no call is placed.
 export const wordOfAnswer = (answer) => answer.order().map(({ call, reply }) => `${call.id}-${reply}`).join();
 
-// Reads an answer that `wordOfAnswer` has written. Each call is placed at the earliest moment of its bar that keeps the order. Returns null for any other
-// text.
+// Reads such a word. Each call is placed at the earliest moment of its bar that keeps the order. Returns null for any other text.
 export function answerOfWord(exercise, word) {
   const answer = new OwnAnswer(exercise);
   let at = 0;

@@ -1,8 +1,7 @@
 // The memory words, the threads and the chain after a number of events, as recorded in the trace.
 import { firstOpeningNode } from "./trace.js";
 
-// The values of a thread whose call has just begun. `came` is the last executed row of the step table (0 before the first step); the others are the thread's
-// registers.
+// The values of a thread whose call has just begun. `came` is the last executed row (0 before the first step); the others are registers.
 const BEGUN = { came: 0, pred: "head", curr: "head", succ: "head", node: "head", pkey: "-inf", ckey: "-inf", reply: "none" };
 const AT_REST = { pc: 0, used: 0, call: null, ...BEGUN };
 export const linkTarget = (link) => link.replace("*", "");
@@ -93,8 +92,7 @@ const newNode = () => ({ key: "-inf", link: "head", lock: "free", reached: false
 export const isWritten = (node) => node.key !== "-inf" || node.link !== "head" || node.lock !== "free";
 export const ownerOf = (trace, name) => Math.floor((Number(name.slice(1)) - 2) / trace.quota);
 
-// Returns what the set contains from event `first` to event `last`, as a list of parts. A part has the keys in increasing order, and the events
-// between which the set has exactly these keys (`from`, `to`).
+// Returns the contents of the set from event `first` to event `last` as parts { from, to, keys }. Within a part, the contents do not change.
 export function contentsIn(trace, first, last) {
   const keys = new Set(trace.opening);
   const part = (from) => ({ from, to: last + 1, keys: [...keys].sort((one, other) => one - other) });
@@ -111,8 +109,7 @@ export function contentsIn(trace, first, last) {
   return parts;
 }
 
-// `promisedKeys` returns the keys in the set after `count` events according to the linearization points; `keysInChain` returns the keys of the unmarked
-// nodes in the chain of a state.
+// `promisedKeys` returns the keys in the set by the linearization points, `keysInChain` the keys of the unmarked nodes in the chain.
 export const promisedKeys = (trace, count = trace.total) => contentsIn(trace, count + 1, count + 1)[0].keys;
 
 export function keysInChain(state) {

@@ -1,5 +1,4 @@
-// Eleven questions. The `lines` of the schedule are run before the question, `rest` after it. `lacks` names the broken list without the check that the
-// question is about.
+// Eleven questions. The `lines` of the schedule are run before the question, `rest` after it. `lacks` names the list without the check in question.
 export const QUESTIONS = [
   {
     name: "failed-tries", list: "coarse", title: "Two adds of one number", opening: [3, 8],

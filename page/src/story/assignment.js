@@ -48,8 +48,7 @@ function seedTask(seed) {
   return { id: `judge ${seed}`, kind: "Judge", title: `Run ${number}, ${LISTS[kind].name}`, says, href: `#seed=${seed}&judge`, seed };
 }
 
-// Returns the last opened assignment if this activity with this id is one of its tasks, otherwise null. On the bench, the run to judge must be one of its
-// tasks.
+// Returns the last opened assignment if this activity with this id (on the bench: the run to judge) is one of its tasks, otherwise null.
 export function homeworkOf({ activity, id }, task = { kind: "", id: "" }) {
   const { homework } = keptStory();
   const isRun = activity === "judge" && task.kind === "seed";

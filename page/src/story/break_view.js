@@ -55,8 +55,7 @@ function looked() {
   setScene({ stage: "done", note: whyOf(verdict, wasShown) });
 }
 
-// Returns a hint about a run that is not broken. While calls are pending, the hint names the keys that are missing in the list.
-// Otherwise it states why the run is not broken.
+// Returns a hint about a run that is not broken: which keys are missing while calls are pending, otherwise why the run is not broken.
 function notYet(run, { kind, isExplained }) {
   const lost = run.promised().filter((key) => !run.has().includes(key));
   const pending = run.trace.calls.filter(({ ended }) => ended === null);

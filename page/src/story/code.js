@@ -63,8 +63,7 @@ export const drawOwnCode = (spec) => tag("ol", { class: "steps" }, ...linesShown
 
 const CHANGES = ["add", "remove"];
 
-// Returns the lines of add and remove that write, for a list with locks. The arguments are rows of the step table. The rows of `mark` are executed
-// before `unlink`.
+// Returns the lines of add and remove that write, for a list with locks. The arguments are rows of the step table; `mark` precedes `unlink`.
 const writes = (make, link, unlink, mark = []) => [
   { of: ["add"], text: "add, if curr.key ≠ key:" },
   { of: ["add"], text: "    node = new Node(key, next = curr)", rows: make },

@@ -52,8 +52,7 @@ function takeList({ dataset }) {
   location.hash = addressOfCode(dataset.list, openingOf(now.place), [...first.values()], setOfPlace(now.place));
 }
 
-// Handles the Step button: steps the active thread or, if it is idle, another thread that is in a call. If all threads are idle, the active thread begins the
-// chosen call.
+// Steps the active thread or, if it is idle, another thread in a call. If all threads are idle, the active thread begins the chosen call.
 function stepOn() {
   const { figure } = scene;
   const thread = figure.run.isIdle(figure.active) ? (figure.shown.find((one) => !figure.run.isIdle(one)) ?? figure.active) : figure.active;

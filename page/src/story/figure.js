@@ -88,14 +88,12 @@ export class Figure {
     return own.slice(this.run.trace.calls.filter((call) => call.thread === thread).length);
   }
 
-  // Stores the lines of the schedule before a change, for Undo.
   leaves() {
     this.onFork?.(this);
     this.past.push([...this.run.lines]);
   }
 
-  // Executes the next steps of a thread. An idle thread begins its call first. If earlier steps are still being shown, waits until all of them have been
-  // shown.
+  // Executes the next steps of a thread; an idle thread begins its call first. Waits until all earlier steps have been shown.
   async step(thread) {
     while (this.isOpen && this.isBusy && !this.isEnded) await this.hurry();
     if (!this.isOpen || this.isEnded) return;
@@ -108,8 +106,7 @@ export class Figure {
     await this.play(thread, next.steps, before);
   }
 
-  // Handles a thread's key or button: the thread takes its next steps, or begins the call that is entered in its
-  // fields.
+  // Handles a thread's key: the thread takes its next steps, or begins the call that is entered in its fields.
   press(thread) {
     if (!this.canStep || !this.shown.includes(thread)) return;
     const isFree = this.run.isIdle(thread) && this.left(thread).length === 0 && this.spec.free;
@@ -197,8 +194,7 @@ export class Figure {
     this.onStep?.(this);
   }
 
-  // Shows a run that was created outside of this figure. A move by one event is animated if both runs are on the same
-  // list.
+  // Shows a run that was created outside of this figure. A move by one event on the same list is animated.
   showRun(run, moment = momentAt(run.state, run.count), hides = true) {
     const isNear = run.trace.kind === this.run.trace.kind && Math.abs(run.count - this.run.count) === 1;
     Object.assign(this, { run, hides });

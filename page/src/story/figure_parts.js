@@ -47,7 +47,6 @@ export function drawFigure(figure, moment, isNear) {
   scrollSoon(figure, moment.event?.thread ?? figure.active);
 }
 
-// After the next layout, scrolls the changed node, line and bar into view.
 function scrollSoon(figure, moved) {
   cancelAnimationFrame(figure.scroll);
   figure.scroll = requestAnimationFrame(() => {

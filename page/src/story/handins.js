@@ -155,7 +155,6 @@ const namesOf = (rows) => rows.map(({ name, number }) => (number === "" ? name :
 
 export const sumsOf = ({ rows, columns }) => columns.map(({ id }) => rows.filter(({ solved }) => solved.has(id)).length);
 
-// Describes the schedules that many students have, for each task.
 export function commonText(common) {
   const titles = [...new Set(common.map(({ title }) => title))];
   return titles.map((title) => {
@@ -165,8 +164,7 @@ export function commonText(common) {
   }).join(" ");
 }
 
-// Returns a table for a spreadsheet. `parted` separates the cells: German and French spreadsheets need semicolons. A cell that a spreadsheet would
-// read as a formula becomes plain text.
+// Returns a table for a spreadsheet. German and French ones need semicolons (`parted`). A cell that would be read as a formula becomes plain text.
 export function csvOf({ rows, columns }, parted = ",") {
   const cell = (value) => {
     const text = String(value).replace(/^[=+\-@\t\r]/, "'$&");

@@ -51,8 +51,7 @@ class Learning {
     return this.course.lessons.find(({ name }) => !this.isSolved(name));
   }
 
-  // Judges the reader's attempt at the lesson, and stores it. It does not count as a solution if the reader has looked at the lesson's answer and the attempt
-  // equals this answer.
+  // Judges and stores the reader's attempt. It is no solution if it equals the lesson's answer and the reader has looked at that answer.
   judge(text, isBegun) {
     const { lesson, own } = this;
     const { name, solution } = lesson;

@@ -97,8 +97,7 @@ export class LiveRun extends ShownRun {
     this.state.moveTo(this.count);
   }
 
-  // Returns what the next press of a thread's button does after the shown event: the number of steps, their phase, and the holder of the lock if the
-  // thread waits for a lock. A thread waits once it has tried to take the lock and failed.
+  // Returns what a thread's next press does: the steps, their phase, and the holder of the lock that the thread has tried to take in vain.
   nextOf(thread, call = null) {
     return (this.nexts[[this.count, thread, call].join()] ??= this.newNextOf(thread, call));
   }

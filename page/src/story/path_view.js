@@ -1,5 +1,4 @@
-// Shows the path, one screen at a time. Each screen has a task or a question. "Show me" presses the next button of a
-// solution.
+// Shows the path, one screen at a time. Each screen has a task or a question. "Show me" presses the next button of a solution.
 import { byId } from "../page/dom.js";
 import { letterOf } from "../run/markup.js";
 import { isLecture, now } from "../page/now.js";
@@ -109,8 +108,7 @@ async function guessed(index) {
   return playOn();
 }
 
-// Plays a screen after the guess. [thread] presses a thread's button once; [thread, "out"] presses it until the thread's call returns. On a slide,
-// each press waits for a key.
+// Plays a screen after the guess: [thread] presses once, [thread, "out"] until the thread's call returns. On a slide, each press waits for a key.
 async function playOn() {
   const { figure } = scene;
   const { play, then } = here();
@@ -154,7 +152,6 @@ function keepPart({ number, at }, { id }) {
   keepStory({ done });
 }
 
-// Focuses the button Continue, unless another control has the focus.
 function focusOn() {
   if (!isLecture() && document.activeElement.closest("button, a, input, [tabindex='0']") === null) part("#go-on").focus({ preventScroll: true });
 }

@@ -42,7 +42,6 @@ export function startAfresh(button) {
   location.reload();
 }
 
-// ---- Opened courses, solutions of lessons, and lessons whose answer the reader has looked at.
 const LESSONS_KEPT = "listset-lessons-2";
 const textsKept = (kept) => Object.entries(kept ?? {}).filter(([, text]) => isText(text));
 const namesKept = (kept) => (Array.isArray(kept) ? kept.filter(isText) : []);

@@ -94,8 +94,7 @@ function linkSaid(moment, owner, who, phase) {
   return owner === "head" ? `starts at the head: curr is at ${to}.` : `moves on: curr is at ${to}.`;
 }
 
-// Writes the sentence about the last read of a contains or ceiling. Only in a broken list can the reply be true at a marked node, or can a removed node
-// have no mark.
+// Describes the last read of a contains or ceiling. Only in a broken list, the reply is true at a marked node, or a removed node has no mark.
 function lookSaid(state, { answer }, owner, who, isMarked) {
   if (isMarked && /^(true|at-)/.test(answer ?? "")) return `takes ${who} to be in the set: ${bold("it does not look at the mark.")}`;
   if (isMarked) return `sees the mark: ${bold(`this ${who} has been removed.`)}`;

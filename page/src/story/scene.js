@@ -88,7 +88,6 @@ export function listenToScene() {
 export const head = (kicker, title, more = "", kind = "") =>
   `<div class="head">${kicker === "" ? "" : `<p class="kicker">${kicker}</p>`}<h1 class="${kind}" tabindex="-1">${title}</h1>${more}</div>`;
 
-// Returns a screen with a figure that fills the remaining height.
 export const onStage = (head, kind = "") => `<section class="screen on-stage ${kind}">${head}<div id="figure"></div></section>`;
 
 export const backLink = ({ href, words }) => tag("a", { class: "button quiet back", href }, escaped(words));

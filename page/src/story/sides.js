@@ -35,8 +35,7 @@ export class Sides {
     this.sides = kinds.map((list) => ({ run: new LiveRun({ list, threads: program.length, quota, opening }), counts: [0] }));
   }
 
-  // Returns an array: the schedule line that a turn of the thread adds in each list, or null for a list in which the thread waits. If the thread has no
-  // more calls, returns null instead of the array.
+  // Returns the thread's next schedule line in each list (null in a list where the thread waits), or null if the thread has no more calls.
   linesOf(thread) {
     if (thread >= this.program.length) return null;
     const isIdle = this.sides.map(({ run }) => run.isIdle(thread));
