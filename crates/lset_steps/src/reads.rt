@@ -1,3 +1,5 @@
+//! Rows 20 to 25 of a step table: `contains` and `ceiling` on lists with reads that take no locks (`OpenReads`).
+
 ghost use Rattle.std.specs.Prelude.{◌≡◌};
 ghost use Rattle.lset_steps.specs.Rows.{IsSmall};
 ghost use Rattle.lset_steps.specs.ReadRows.{begun_reading, continued, leaves_with, ceiling_key, ceiling_mark, read_action, read_fed};

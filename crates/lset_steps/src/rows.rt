@@ -1,3 +1,5 @@
+//! Steps that the step tables of several lists share: locks, slots, and the decision after a walk.
+
 ghost use Rattle.std.specs.Prelude.{◌≡◌, ◌+◌, ◌^◌, ◌<◌, ◌≤◌};
 ghost use Rattle.lset_words.specs.Words.{lock_index};
 ghost use Rattle.lset_steps.specs.Rows.{own_slot, begun, ceiling_at, decided_on, IsSmall};

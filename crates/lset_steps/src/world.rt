@@ -1,3 +1,5 @@
+//! Worlds: a list and its threads at one moment of a run, executed event by event.
+
 ghost use Rattle.std.specs.Prelude.{◌≡◌, ◌≢◌, ◌+◌, ◌*◌, ◌/◌, ◌%◌, ◌^◌, ◌<◌, ◌≤◌, IfOk, MatchOption, IsTrue, ◌↔◌, length, slice_index, map};
 ghost use Rattle.std.specs.Prelude.{All};
 ghost use Rattle.std.specs.List.{range_with_len};

@@ -1,3 +1,5 @@
+//! The records of a history: calls, entries of an order, and linearization points.
+
 use crate::{Call, Reply};
 
 /// A call of a history (Herlihy and Wing): its thread, the call, the moment when it begins, and the moment when it

@@ -1,3 +1,5 @@
+//! The layout of a list in memory: the index of each node's key word, link word and lock word.
+
 ghost use Rattle.std.specs.Prelude.{◌≡◌, ◌+◌, ◌*◌, ◌^◌, ◌<◌, ◌≤◌};
 ghost use Rattle.lset_words.specs.Words.{Sizes, IsWithin, node_count, word_count, slot_node, key_index, link_index, lock_index, WordsApart};
 ghost use Rattle.lset_words.specs.Words.{SlotsApart};

@@ -1,3 +1,5 @@
+//! The result of a command (its output and exit status), and the error line on stderr.
+
 ghost use Rattle.std.specs.Prelude.{◌≡◌, ◌+◌, ◌<◌, ◌++◌, codes, length, Result};
 ghost use Rattle.tool_base.specs.Tools.{Delivers, IsDelivered, view};
 ghost use Rattle.tool_base.specs.Trouble.{trouble_text};

@@ -8,8 +8,7 @@ use crate::trouble::ValueName;
 use lset_text::{long_number, number, read_kind};
 use lset_words::{Kind, MOST_QUOTA, MOST_THREADS};
 
-/// The maximum value of the argument CALLS of `gen` (calls in all threads together) and of `run` (calls in each
-/// thread).
+/// The maximum value of the argument CALLS: of `gen` for all threads together, of `run` for each thread.
 pub const MOST_CALLS_ASKED: u32 = 10_000;
 
 /// The maximum value of the argument LIVES of `run`, the number of rounds.

@@ -1,3 +1,5 @@
+//! The errors that end the program, with the exit status of each.
+
 ghost use Rattle.std.specs.Prelude.{◌≡◌, ◌≤◌, length};
 ghost use Rattle.tool_base.specs.Trouble.{of_generator, of_line_fault, status_of, system_name, value_word};
 ghost use Rattle.tool_base.specs.declared.trouble.Trouble.TheVariants.{Bad, Memory};

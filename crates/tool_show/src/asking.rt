@@ -1,3 +1,5 @@
+//! Reads the options of the command `show`: the format, the moments to draw, and the width.
+
 use crate::show_command::Show;
 use lset_picture::Window;
 use lset_text::number;
