@@ -191,8 +191,9 @@ impl Recorder {
         Ok(())
     }
 
-    /// Records the next event and its effect. Can allocate. Returns the error `Memory` if an allocation fails. On a
-    /// broken list, returns the error `Lost` if the effect is not possible after the run so far.
+    /// Records the next event and its effect. Can allocate. Returns the error `Memory` if an allocation fails, or if
+    /// the run has 4,294,967,295 events already. On a broken list, returns the error `Lost` if the effect is not
+    /// possible after the run so far.
     #[inline(always)]
     pub fn follow(&mut self, event: Event, told: Told) -> Result<(), Cause>
         ensures trace { OnOk result (MayRecord self.old (self.old.last + 1) event told

@@ -26,7 +26,7 @@ pub enum Cause {
     /// The field is not a number, or is out of range: `begin 0 add 05`, `go 0 10001`, `place 01 true`.
     Number,
     /// With this line, the file has too many events, opening keys, calls, `place` lines or `key` lines: the hundredth
-    /// line `go 0 10000`.
+    /// line `go 0 10000` below a `begin`.
     TooMany,
     /// The key is not above the opening key before it: `opening 9` twice.
     Opening,

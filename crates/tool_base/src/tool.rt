@@ -36,8 +36,9 @@ fn answer_input<T: Tool, R: Read>(alloc: Global, tool: &T, input: &mut R) -> Res
 /// Runs a command: reads all of `input`, then writes the answer to `output`. If an error occurs, writes one line about
 /// the error to `stderr` instead, and nothing to `output`.
 ///
-/// Returns the exit status: the answer's status, 2 if an option is wrong, 3 if an allocation failed, 1 for any other
-/// error. A failed write to `stderr` does not change the exit status. Allocates. Blocks while reading and writing.
+/// Returns the exit status: the answer's status, 2 if an argument or option is wrong, 3 if an allocation failed, 1 for
+/// any other error. A failed write to `stderr` does not change the exit status. Allocates. Blocks while reading and
+/// writing.
 pub fn run_tool<T: Tool, R: Read, W: Write, E: Write>(
     alloc: Global,
     tool: &T,

@@ -203,7 +203,7 @@ impl KeyCalls {
     }
 }
 
-/// The maximum number of calls among which the last change is searched.
+/// The maximum number of earlier calls that are searched for the last change.
 const MOST_CHANGED: usize = 1_000;
 
 /// The maximum number of earlier calls that are checked for an overlap.

@@ -26,7 +26,7 @@ impl Pending {
         })
     }
 
-    /// Adds a call if it has an end.
+    /// Adds a call, unless it is pending or its reply is unknown.
     pub fn push(&mut self, call: Made) -> Result<(), AllocError> {
         if call.reply.is_some() {
             self.calls.push(call)?;

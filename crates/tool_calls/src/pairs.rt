@@ -1,5 +1,5 @@
-//! Finds pairs of keys that undo each other's changes: before a key is lost or returns, a change of its partner
-//! overlapped the undone change, more often than changes of any third key did.
+//! Finds pairs of keys that undo each other's changes. If a change of a key is undone (the key is lost or returns
+//! afterwards), it nearly always overlaps a change of the key's partner, and less often a change of any third key.
 
 use crate::key_calls::KeyCalls;
 use crate::made_calls::Made;

@@ -51,7 +51,7 @@ impl Split {
         }
     }
 
-    /// Counts a call that changes nothing by its answer.
+    /// Counts the answer of a call that changed nothing: whether the call found the key present or absent.
     fn count(&mut self, call: Made) {
         let Some(found) = call.needs() else {
             return;

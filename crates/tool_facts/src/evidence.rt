@@ -35,9 +35,9 @@ pub struct Evidence {
 /// If at least this many contradictions were found, the remaining refused keys are left out.
 const MOST_PLACES: usize = 20_000;
 
-/// The contradictions of a recording (`places`). Also the operation that alone is wrong or, if there is none, the
-/// counts of the contradictions. Also the longest split: no change of a key runs for a while, but calls disagree about
-/// the key.
+/// The results of the search in a recording: the contradictions (`places`), and the operation that alone is wrong. If
+/// there is no such operation, also the counts of the contradictions, and the longest split (a period without a change
+/// of a key, although calls disagree about the key).
 #[derive(Drop)]
 pub struct Found {
     pub places: Vec<Place>,

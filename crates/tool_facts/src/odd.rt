@@ -7,7 +7,7 @@ use lset_words::{Presence, increases};
 use std::alloc::{AllocError, Global};
 use tool_calls::{KeyState, Made, NEVER, Operation, Pending, Recorded, has_order};
 
-/// Returns `true` if a call is an answer of this operation, that is, changes nothing.
+/// Returns `true` if a call is an answer of this operation: it has ended and changed nothing.
 pub fn is_answer(call: Made, operation: Operation) -> bool {
     call.operation == operation && call.reads()
 }

@@ -4,7 +4,7 @@ use std::alloc::{AllocError, Global};
 use std::io::Read;
 use tool_calls::Recorded;
 
-/// Reads a recording and keeps all of its calls. Checks the form of each line. Does not check that keys increase, or
+/// A reader of a recording that keeps all calls. Checks the form of each line. Does not check that keys increase, or
 /// that each call can follow the calls before it: the judge checks that.
 #[derive(Drop)]
 pub struct RunReader {
