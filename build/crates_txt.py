@@ -29,6 +29,13 @@ def tests():
     return [it for it in lines_of() if TESTS.fullmatch(it)]
 
 
+def static_libraries():
+    """Returns the names of the crates that are static libraries. foreign/build and page/build prove these crates while they
+    build them.
+    """
+    return [it for it, line in lines_of().items() if line.partition(":")[0].split()[1:] == ["staticlib"]]
+
+
 def below(names, root=TOP, lines=None):
     """Returns these crates and all their dependencies, dependencies first. (crates.txt lists each crate after its
     dependencies.)
