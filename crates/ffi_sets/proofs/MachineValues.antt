@@ -1,5 +1,5 @@
--- Definitions for proofs at machine level: the machine values of a handle that C code keeps (`CSeat`), and of a box (its
--- pointer). The proofs assume `Logic`, the program logic of the toolchain.
+-- Definitions for proofs at machine level: the machine values of a handle that C code keeps (`CSeat`), and of a box
+-- (its pointer). The proofs assume `Logic`, the program logic of the toolchain.
 pub use Rattle.std.proofs.Common.{◌≡◌, List, [], ◌∷◌, ◌++◌, refl, sym, ap, ◌∙◌, subst, ℕ, zero, suc, lit<}
 pub use mathlib.Core.Bool.{Bool, true, false, ◌&&◌}
 pub use mir.Syntax.{Fn, a_type, dcons, dnil, Ty, ty_ptr, ty_bool, ty_struct, impl, tcons, tnil}

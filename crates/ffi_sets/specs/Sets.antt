@@ -30,8 +30,8 @@ receipt_in (LazyReceipt o) = Some o.receipt
 receipt_in (LockFreeReceipt o) = Some o.receipt
 receipt_in h = None
 
--- `set_in` returns the set of a seat or a receipt, else None. `number_in` returns the number that the C caller chose for this
--- set.
+-- `set_in` returns the set of a seat or a receipt, else None. `number_in` returns the number that the C caller chose
+-- for this set.
 abbrev pub set_in : Held → Option SetValue
 set_in (Coarse o) = Some (arc_value o.set)
 set_in (Fine o) = Some (arc_value o.set)

@@ -188,8 +188,8 @@ impl RecordingReader {
     /// # Errors
     ///
     /// Returns the first error of the text, which does not depend on later pieces, or `Cause::Memory` if an allocation
-    /// fails. The error names a line that ends in `piece`. After an error, each later call of `feed` or `finish` returns
-    /// the same error.
+    /// fails. The error names a line that ends in `piece`. After an error, each later call of `feed` or `finish`
+    /// returns the same error.
     #[tactic(auto, using(crate::proofs::ReadLaws::none_failed, crate::proofs::ReadLaws::one_failed))]
     pub fn feed(&mut self, piece: &[u8]) -> Result<(), LineFault>
         ensures taken { OnOk result ((bytes : List ℕ) → IsRead bytes self.old → IsRead (bytes ++ piece.now) self.new) }

@@ -72,8 +72,8 @@ pub fn line_of(trouble: Trouble) -> ArrayString<LONGEST_LINE>
 /// Finishes a command: writes the answer's text to `output`, or the one-line error message to `stderr`. Returns the
 /// exit status.
 ///
-/// A write that fails or writes no byte is not retried. If `output` fails in this way, the error becomes `CannotWrite`. If
-/// `stderr` fails, the exit status does not change.
+/// A write that fails or writes no byte is not retried. If `output` fails in this way, the error becomes
+/// `CannotWrite`. If `stderr` fails, the exit status does not change.
 pub fn deliver<W: Write, E: Write>(
     made: Result<Answer, Trouble>,
     output: &mut W,

@@ -37,8 +37,8 @@ pub enum ValueName {
 /// `Trouble::Memory` instead.
 #[derive(Clone, Copy)]
 pub enum SystemCause {
-    /// The number of programs (the calls of one thread each) differs from the number of seats, or some seats of the set are
-    /// missing. (A seat is the right to call the set as one thread.)
+    /// The number of programs (the calls of one thread each) differs from the number of seats, or some seats of the
+    /// set are missing. (A seat is the right to call the set as one thread.)
     Programs,
     /// The gate, which decides before each call whether the call is made, refused a call.
     Gate,

@@ -63,8 +63,9 @@ fn maker(count: &Count, state: Presence) -> Call {
     }
 }
 
-/// Writes the calls of a contradiction by counting. These calls need the key in the same state. If there are many,
-/// writes only the first and last calls, with the number of calls between them.
+/// Writes the calls of a contradiction by counting, with the key's first or final state if it takes part. These calls
+/// need the key in the same state. If there are many, writes only the first and last calls, with the number of calls
+/// between them.
 fn put_calls(out: &mut String, count: &Count) -> Result<(), AllocError> {
     let (key, all) = (count.key.0, count.calls.len());
     let mut is_first = true;

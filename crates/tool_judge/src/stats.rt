@@ -59,8 +59,9 @@ const NO_SPAN: Span = Span {
 };
 
 impl Span {
-    /// Adds the next call. Returns how many calls are now known to overlap another call, and were not before: this call and
-    /// the call that began last. An earlier call that overlaps this call also overlaps the call that began after it.
+    /// Adds the next call. Returns how many calls are now known to overlap another call, and were not before: of this
+    /// call and the call that began last. An earlier call that overlaps this call also overlaps the call that began
+    /// after it.
     fn add(&mut self, begun: u64, end: u64) -> u64 {
         let overlaps = self.end > begun;
         let last_overlaps = self.last_end > begun && !self.is_counted;
@@ -224,8 +225,8 @@ impl Counter {
     }
 }
 
-/// Counts the calls of a recording: by operation and reply, the pending calls, the threads and keys, the calls that overlap
-/// another call, and the most calls that are pending at one moment. Allocates. Blocks while reading the input.
+/// Counts the calls of a recording: by operation and reply, the pending calls, the threads and keys, the calls that
+/// overlap another call, and the most calls that are pending at one moment. Allocates. Blocks while reading the input.
 ///
 /// # Errors
 ///

@@ -52,7 +52,8 @@ abbrev pub IsFirstFault : Result ReportValue LineFault → Trouble → Type 0
 IsFirstFault (Err fault) t = t ≡ of_line_fault fault
 IsFirstFault (Ok r) t = ⊥
 
--- The contract of `check` for a text: the answer for the text's report, the first error of the text, or a failed allocation.
+-- The contract of `check` for a text: the answer for the text's report, the first error of the text, or a failed
+-- allocation.
 abbrev pub ChecksText : List ℕ → Made → Type 0
 ChecksText bytes (Ok answer) = (r : ReportValue) × IsReport r × (bytes ≡ report_text r) × IsAnswerOn r answer
 ChecksText bytes (Err t) = (t ≡ trouble.Memory) ⊎ IsFirstFault (reading bytes) t

@@ -19,8 +19,8 @@ pub record IsRequested (T : Table) (request : RandomRequest) (p : Plan) : Type 0
   pub threads_are : p.threads ≡ request.threads
   pub quota_is : p.quota ≡ request.quota
   pub schedule : IsSchedule p
-  -- Each event is enabled: it can occur after the events before it. The numbers of calls and keys do not exceed the requested
-  -- numbers.
+  -- Each event is enabled: it can occur after the events before it. The numbers of calls and keys do not exceed the
+  -- requested numbers.
   pub generated : IsGenerated T request.threads request.quota request.calls request.keys p.lines
   -- The random seed determines the lines of the schedule.
   pub drawn : AreOfSeed T request.threads request.quota request.calls request.keys request.seed p.lines
