@@ -106,8 +106,9 @@ pub extern "C" fn listset_most_reads(seats: u32, quota: u32, opening: u32) -> u6
     ffi_sets::most_reads(seats, quota, opening)
 }
 
-/// Stores a receipt in `out`, which must be empty. The receipt covers everything that `seat` has seen: its own calls,
-/// and everything seen by the seats merged into it and by the receipts that it accepted. `seat` does not change.
+/// Stores a receipt in `out`, which must be empty. The receipt covers everything that `seat` (the right to call as one
+/// thread) has seen: its own calls, and everything seen by the seats merged into it and by the receipts that it
+/// accepted. `seat` does not change.
 ///
 /// Returns `DONE`. On an error, changes nothing and returns the first that applies: `IS_SEAT` if `out` is not empty,
 /// `NO_SEAT` if `seat` is empty, a receipt or a closed set, `OUT_OF_MEMORY` if an allocation failed. Does not block.
@@ -118,9 +119,9 @@ pub extern "C" fn listset_receipt_of(alloc: Global, seat: &mut CSeat, out: &mut 
     ffi_sets::give_receipt(alloc, seat, out)
 }
 
-/// Passes the receipt `given` to `seat`. In the order of all calls, later calls of `seat` follow every call that the receipt
-/// covers. `given` is empty afterwards. The caller must ensure that a seat and a receipt with the same list and number belong
-/// to the same set.
+/// Passes the receipt `given` to `seat` (the right to call as one thread). In the order of all calls, later calls of
+/// `seat` follow every call that the receipt covers. `given` is empty afterwards. The caller must ensure that a seat
+/// and a receipt with the same list and number belong to the same set.
 ///
 /// Returns `DONE`. On an error, changes nothing and returns `NO_SEAT` if `seat` or `given` is empty, or `NO_GATHER` if
 /// they are not a seat and a receipt with the same list and number. Does not block or allocate.
@@ -139,8 +140,8 @@ pub extern "C" fn listset_seats_within(alloc: Global, seat: &mut CSeat, all: &mu
     ffi_sets::count_seats(alloc, seat, all)
 }
 
-/// Merges the seat `from`, including all seats that it contains, into `into`. `from` is empty afterwards. The caller
-/// must ensure that two seats with the same list and number belong to the same set.
+/// Merges the seat `from` (the right to call as one thread), including all seats that it contains, into `into`. `from`
+/// is empty afterwards. The caller must ensure that two seats with the same list and number belong to the same set.
 ///
 /// Returns `DONE`. On an error, changes nothing and returns `NO_SEAT` if `into` or `from` is empty, or `NO_GATHER` if
 /// they are not two seats with the same list and number. Does not block or allocate.
@@ -167,8 +168,8 @@ pub extern "C" fn listset_keys(alloc: Global, closed: &mut CSeat, room: &mut [u3
     ffi_sets::give_keys(alloc, closed, room)
 }
 
-/// Drops the contents of `seat`, which is empty afterwards. A set cannot be closed once one of its seats has been
-/// dropped. Does not block.
+/// Drops the contents of `seat`, which is empty afterwards. A set cannot be closed once one of its seats (rights to
+/// call as one thread) has been dropped. Does not block.
 #[unsafe(no_mangle)]
 pub extern "C" fn listset_drop(alloc: Global, seat: &mut CSeat) {
     ffi_sets::let_go(alloc, seat);

@@ -4,7 +4,7 @@
 /// The function succeeded.
 pub const DONE: u8 = 0;
 
-/// The number of seats is not between 1 and 64.
+/// The number of seats (of threads that can call) is not between 1 and 64.
 pub const BAD_SEATS: u8 = 10;
 
 /// The quota is greater than 16,384.
@@ -22,17 +22,18 @@ pub const BAD_KIND: u8 = 14;
 /// A `CSeat` that must be empty is not.
 pub const IS_SEAT: u8 = 15;
 
-/// The seat does not contain all seats of its set.
+/// The seat (the right to call as one thread) does not contain all seats of its set.
 pub const SEATS_OUT: u8 = 16;
 
-/// No seat can be split off this seat.
+/// No seat (the right to call as one thread) can be split off this seat.
 pub const NO_MORE: u8 = 17;
 
-/// The arguments are neither two seats nor a seat and a receipt with the same list and number.
+/// The arguments are neither two seats (rights to call as one thread) nor a seat and a receipt with the same list and
+/// number.
 pub const NO_GATHER: u8 = 18;
 
 /// A `contains` on this list can block.
 pub const MAY_BLOCK: u8 = 254;
 
-/// The `CSeat` contains no seat: it is empty, a receipt or a closed set.
+/// The `CSeat` contains no seat (the right to call as one thread): it is empty, a receipt or a closed set.
 pub const NO_SEAT: u8 = 255;

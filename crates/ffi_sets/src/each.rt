@@ -32,8 +32,8 @@ pub fn open_held(
     }))
 }
 
-/// Makes a call from the seat in `held`. Returns `None` if `held` has no seat, or if the call stops after 2^64 - 1 rounds of
-/// a loop without a reply. In this case the seat is lost.
+/// Makes a call from the seat (the right to call as one thread) in `held`. Returns `None` if `held` has no seat, or if
+/// the call stops after 2^64 - 1 rounds of a loop without a reply. In this case the seat is lost.
 pub fn call_held(held: &mut Held, call: Call) -> Option<Reply>
     ensures { HasCalledHeld held.old call result held.new }
 {
@@ -63,7 +63,8 @@ pub fn read_held(held: &mut Held, key: Key) -> Result<Reply, u8>
     reply.ok_or(NO_SEAT)
 }
 
-/// Returns a receipt, which contains all events that the seat in `held` has seen. Returns `None` if `held` has no seat.
+/// Returns a receipt, which contains all events that the seat (the right to call as one thread) in `held` has seen.
+/// Returns `None` if `held` has no seat.
 pub fn receipt_held(held: &mut Held) -> Option<Held>
     ensures { IfSome result (λ given. HasNotedHeld held.old given held.new) }
 {
@@ -77,8 +78,8 @@ pub fn receipt_held(held: &mut Held) -> Option<Held>
     })
 }
 
-/// Passes the receipt `given` to the seat in `into`. Returns `None` on success. If the two are not a seat and a receipt
-/// with the same list and number, changes nothing and returns `given`.
+/// Passes the receipt `given` to the seat (the right to call as one thread) in `into`. Returns `None` on success. If
+/// the two are not a seat and a receipt with the same list and number, changes nothing and returns `given`.
 pub fn heed_held(into: &mut Held, given: Held) -> Option<Held>
     requires { Gathers into.old given }
     ensures { IfNone result (HasHeededHeld into.old given into.new) }
@@ -95,8 +96,8 @@ pub fn heed_held(into: &mut Held, given: Held) -> Option<Held>
     })
 }
 
-/// Returns the number of seats that `held` contains, and the number of all seats of its set. Returns 0 and 0 if `held` has no
-/// seat.
+/// Returns the number of seats (rights to call as one thread) that `held` contains, and the number of all seats of its
+/// set. Returns 0 and 0 if `held` has no seat.
 pub fn counts_held(held: &Held) -> (u64, u32) {
     match held {
         Held::Coarse(of) => of.counts(),
@@ -108,7 +109,7 @@ pub fn counts_held(held: &Held) -> (u64, u32) {
     }
 }
 
-/// Returns whether a seat can be split off the seat in `held`.
+/// Returns whether a seat (the right to call as one thread) can be split off the seat in `held`.
 pub fn has_spare(held: &Held) -> bool {
     match held {
         Held::Coarse(of) => !of.spare.is_empty(),
@@ -133,8 +134,8 @@ pub fn split_held(held: &mut Held, alloc: Global) -> Result<Held, u8> {
     })
 }
 
-/// Merges the seat in `from` into the seat in `into`. Returns `None` on success. If the two are not seats with the same
-/// list and number, changes nothing and returns `from`.
+/// Merges the seat (the right to call as one thread) in `from` into the seat in `into`. Returns `None` on success. If
+/// the two are not seats with the same list and number, changes nothing and returns `from`.
 pub fn gather_held(alloc: Global, into: &mut Held, from: Held) -> Option<Held>
     requires { Gathers into.old from }
 {

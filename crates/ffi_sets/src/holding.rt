@@ -39,7 +39,8 @@ pub fn open_of<M: Bounded>(
     })
 }
 
-/// Merges all seats in `spare` into `seat`, and returns `seat`. All must belong to `set`.
+/// Merges all seats (rights to call as one thread) in `spare` into `seat`, and returns `seat`. All must belong to
+/// `set`.
 fn gathered<M: Bounded>(set: &LiveSet<M>, seat: Seat<M>, spare: Vec<Seat<M>>) -> Seat<M>
     requires seat { seat.set ≡ set.now }
     requires spare { AreOf set.now spare.items }
@@ -70,8 +71,8 @@ fn keys_left<M: Bounded>(
 }
 
 impl<M: Bounded> SeatOfSet<M> {
-    /// Makes a call from this seat. Returns `None` if the seat was already lost, or if the call stops after 2^64 - 1 rounds
-    /// of a loop without a reply. In this case the seat is lost.
+    /// Makes a call from this seat (the right to call as one thread). Returns `None` if the seat was already lost, or
+    /// if the call stops after 2^64 - 1 rounds of a loop without a reply. In this case the seat is lost.
     pub fn call(&mut self, call: Call) -> Option<Reply>
         ensures set { arc_value self.new.set ≡ arc_value self.old.set }
         ensures number { self.new.number ≡ self.old.number }
@@ -86,8 +87,8 @@ impl<M: Bounded> SeatOfSet<M> {
         Some(reply)
     }
 
-    /// Splits a seat off this one. Returns the error `NO_MORE` if no seat can be split off, or `OUT_OF_MEMORY` if the
-    /// set's counter of owners is full.
+    /// Splits a seat (the right to call as one thread) off this one. Returns the error `NO_MORE` if no seat can be
+    /// split off, or `OUT_OF_MEMORY` if the set's counter of owners is full.
     pub fn split(&mut self, alloc: Global) -> Result<SeatOfSet<M>, u8> {
         if self.spare.is_empty() {
             return Err(NO_MORE);
@@ -131,7 +132,8 @@ impl<M: Bounded> SeatOfSet<M> {
         None
     }
 
-    /// Returns a receipt, which contains all events that this seat has seen. Returns `None` if the seat was lost.
+    /// Returns a receipt, which contains all events that this seat (the right to call as one thread) has seen. Returns
+    /// `None` if the seat was lost.
     pub fn receipt(&mut self) -> Option<ReceiptOfSet<M>>
         ensures set { arc_value self.new.set ≡ arc_value self.old.set }
         ensures number { self.new.number ≡ self.old.number }
@@ -148,8 +150,9 @@ impl<M: Bounded> SeatOfSet<M> {
         })
     }
 
-    /// Passes a receipt to this seat, which has then seen everything that the receipt covers. Returns `None` on
-    /// success. If the numbers differ, or the seat was lost, changes nothing and returns `given`.
+    /// Passes a receipt to this seat (the right to call as one thread), which has then seen everything that the receipt
+    /// covers. Returns `None` on success. If the numbers differ, or the seat was lost, changes nothing and returns
+    /// `given`.
     pub fn after(&mut self, given: ReceiptOfSet<M>) -> Option<ReceiptOfSet<M>>
         requires { self.old.number ≡ given.number → arc_value self.old.set ≡ given.receipt.set }
         ensures set { arc_value self.new.set ≡ arc_value self.old.set }

@@ -176,8 +176,9 @@ pub fn most_reads(seats: u32, quota: u32, opening: u32) -> u64
     }
 }
 
-/// Stores a receipt in `out`, which must be empty. The receipt covers everything that `seat` has seen: its own calls,
-/// and everything seen by the seats merged into it and by the receipts that it accepted. `seat` does not change.
+/// Stores a receipt in `out`, which must be empty. The receipt covers everything that `seat` (the right to call as one
+/// thread) has seen: its own calls, and everything seen by the seats merged into it and by the receipts that it
+/// accepted. `seat` does not change.
 ///
 /// Returns `DONE`. On an error, changes nothing and returns the first that applies: `IS_SEAT` if `out` is not empty,
 /// `NO_SEAT` if `seat` is empty or contains a receipt or a closed set, `OUT_OF_MEMORY` if an allocation failed. Does
@@ -200,9 +201,9 @@ pub fn give_receipt(alloc: Global, seat: &mut CSeat, out: &mut CSeat) -> u8
     }
 }
 
-/// Passes the receipt `given` to `seat`. In the order of all calls, later calls of `seat` follow every call that the receipt
-/// covers. `given` is empty afterwards. The caller must ensure that a seat and a receipt with the same list and number belong
-/// to the same set.
+/// Passes the receipt `given` to `seat` (the right to call as one thread). In the order of all calls, later calls of
+/// `seat` follow every call that the receipt covers. `given` is empty afterwards. The caller must ensure that a seat
+/// and a receipt with the same list and number belong to the same set.
 ///
 /// Returns `DONE`. On an error, changes nothing and returns `NO_SEAT` if `seat` or `given` is empty, or `NO_GATHER` if
 /// they are not a seat and a receipt with the same list and number. Does not block or allocate.
@@ -242,8 +243,8 @@ pub fn count_seats(alloc: Global, seat: &mut CSeat, all: &mut u32) -> u64 {
     within
 }
 
-/// Merges the seat `from`, including all seats that it contains, into `into`. `from` is empty afterwards. The caller
-/// must ensure that two seats with the same list and number belong to the same set.
+/// Merges the seat `from` (the right to call as one thread), including all seats that it contains, into `into`. `from`
+/// is empty afterwards. The caller must ensure that two seats with the same list and number belong to the same set.
 ///
 /// Returns `DONE`. On an error, changes nothing and returns `NO_SEAT` if `into` or `from` is empty, or `NO_GATHER` if
 /// they are not two seats with the same list and number. Does not block or allocate.
@@ -300,8 +301,8 @@ pub fn give_keys(alloc: Global, closed: &mut CSeat, room: &mut [u32]) -> usize {
     count
 }
 
-/// Drops the contents of `seat`, which is empty afterwards. A set cannot be closed once one of its seats has been
-/// dropped. Does not block.
+/// Drops the contents of `seat`, which is empty afterwards. A set cannot be closed once one of its seats (rights to
+/// call as one thread) has been dropped. Does not block.
 pub fn let_go(alloc: Global, seat: &mut CSeat) {
     let _held = take(alloc, seat);
 }

@@ -26,8 +26,8 @@ impl<M: Machine> LiveSet<M> {
         total == most
     }
 
-    /// Merges `from` into `into` and returns the merged seat. Returns `from` if `into` is `None`. Both seats must
-    /// belong to this set.
+    /// Merges `from` into `into` and returns the merged seat (the right to call as one thread). Returns `from` if
+    /// `into` is `None`. Both seats must belong to this set.
     pub fn gather_onto(&self, into: Option<Seat<M>>, from: Seat<M>) -> Seat<M>
         requires into { IfSome into (λ s. s.set ≡ self.now) }
         requires from { from.set ≡ self.now }

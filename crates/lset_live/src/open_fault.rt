@@ -4,7 +4,7 @@ use thiserror::Error;
 /// An error of `open` or `open_with`.
 #[derive(Clone, Copy, Debug, PartialEq, Eq, Error)]
 pub enum OpenFault {
-    /// The number of seats is outside 1 to `MOST_THREADS`.
+    /// The number of seats (of threads that can call) is outside 1 to `MOST_THREADS`.
     #[error("the number of seats is outside 1 to {MOST_THREADS}")]
     Seats,
     /// The quota is above `MOST_QUOTA`.

@@ -74,7 +74,7 @@ impl<M: Machine> fmt::Debug for SeatsOut<M> {
 }
 
 impl<M: Machine> LiveSet<M> {
-    /// Returns the number of seats that the set was opened with.
+    /// Returns the number of seats that the set was opened with, that is, of threads that can call it.
     pub fn seats(&self) -> u32
         ensures seats { result ≡ self.now.shape.threads }
         ensures range { (0 < result) × (result ≤ MOST_THREADS) }
@@ -169,9 +169,10 @@ impl<M: Running> LiveSet<M> {
 }
 
 impl<M: Bounded> LiveSet<M> {
-    /// Executes the call from `seat`, which must belong to this set, with at most `N::MOST` rounds in each loop of the
-    /// call. Needs no runtime. In LazyList and LockFreeList, a `contains` walks without blocking and makes as many
-    /// rounds as it needs. Returns the seat and the reply, which satisfy the postcondition of `call`.
+    /// Executes the call from `seat` (the right to call as one thread), which must belong to this set, with at most
+    /// `N::MOST` rounds in each loop of the call. Needs no runtime. In LazyList and LockFreeList, a `contains` walks
+    /// without blocking and makes as many rounds as it needs. Returns the seat and the reply, which satisfy the
+    /// postcondition of `call`.
     ///
     /// Returns `None` if a loop has made all its rounds, for example while it waits for a lock. The call is then still
     /// pending and holds its locks. The seat is consumed, and the set can never be closed. With [`Countless`] rounds,
@@ -210,9 +211,9 @@ impl<M: Bounded> LiveSet<M> {
 }
 
 impl<M: Machine> LiveSet<M> {
-    /// Merges the seat `from` into the seat `into`: its record, the seats that it holds, and the events that it has
-    /// seen. Both seats must belong to this set. In each order that agrees with the record of `into`, the calls of
-    /// `from` precede the later calls of `into`.
+    /// Merges the seat `from` (the right to call as one thread) into the seat `into`: its record, the seats that it
+    /// holds, and the events that it has seen. Both seats must belong to this set. In each order that agrees with the
+    /// record of `into`, the calls of `from` precede the later calls of `into`.
     pub fn gather(&self, into: &mut Seat<M>, from: Seat<M>)
         requires into { into.old.set ≡ self.now }
         requires from { from.set ≡ self.now }

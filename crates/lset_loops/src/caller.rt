@@ -47,7 +47,8 @@ pub(crate) struct Caller<'a, M: Machine, P: Pause> {
 }
 
 impl<'a, M: Machine, P: Pause> Caller<'a, M, P> {
-    /// Creates the caller of `call` from the idle seat `place`. The call starts later, with its first step.
+    /// Creates the caller of `call` from the idle seat `place` (the right to call as one thread). The call starts
+    /// later, with its first step.
     pub fn new(
         table: &'a Words<M>,
         place: &TableSeat,

@@ -37,7 +37,7 @@ impl Opened {
     }
 }
 
-/// A completed call in a seat's record.
+/// A completed call in the record of a seat (the right to call as one thread).
 pub struct OwnCall {
     pub call: Call,
     pub reply: Reply,
@@ -56,13 +56,15 @@ pub struct PendingCall {
     pub steps: u64,
 }
 
-/// The record of a seat: its completed calls, and the records of the seats merged into it (gathered), oldest first.
+/// The record of a seat (the right to call as one thread): its completed calls, and the records of the seats merged
+/// into it (gathered), oldest first.
 pub enum Past {
     /// The record of the thread with this number, which has completed no calls yet.
     Fresh(u32),
     /// An earlier record of a seat, and the call that the seat's own thread completed next.
     Called(&'static Past, OwnCall),
-    /// An earlier record of a seat, and the record of another seat that was then merged into this seat.
+    /// An earlier record of a seat (the right to call as one thread), and the record of another seat that was then
+    /// merged into this seat.
     Gathered(&'static Past, &'static Past),
 }
 

@@ -58,8 +58,8 @@ pub struct Served {
     pass: Token<TcpStream>,
 }
 
-/// The error of `serve`. After `Seats`, no connection was accepted, and `back` contains the set and the seats. After
-/// the other causes, `back` is `None`.
+/// The error of `serve`. After `Seats`, no connection was accepted, and `back` contains the set and the seats (rights
+/// to call as one thread). After the other causes, `back` is `None`.
 #[derive(Drop, Error)]
 #[error("{cause}")]
 pub struct ServeFault<M: Running> {

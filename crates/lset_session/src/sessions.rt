@@ -209,8 +209,8 @@ fn bytes_in<R: Wait, W: Sink, S: SetCalls>(
     None
 }
 
-/// Serves one client: reads lines from `reader`, makes their calls from `seat`, which must belong to `set`, and writes
-/// an answer for each line to `writer`. `reader` and `writer` must not have failed.
+/// Serves one client: reads lines from `reader`, makes their calls from `seat` (the right to call as one thread), which
+/// must belong to `set`, and writes an answer for each line to `writer`. `reader` and `writer` must not have failed.
 ///
 /// Each line ends with a newline. A line `ADD k`, `REMOVE k`, `CONTAINS k` or `CEILING k` is answered with `TRUE`,
 /// `FALSE`, `FULL`, `AT x` (the key x) or `NONE` (no key). `QUIT` is answered with `BYE`, and any other line with

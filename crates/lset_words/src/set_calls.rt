@@ -10,13 +10,14 @@ use std::sync::Wait;
 pub trait SetCalls {
     type Seat;
 
-    /// States that the seat belongs to this set.
+    /// States that the seat (the right to call as one thread) belongs to this set.
     ghost is_of: { Self → Self.Seat → Type 0 };
 
-    /// Returns the record of a seat: its calls with their replies.
+    /// Returns the record of a seat (the right to call as one thread): its calls with their replies.
     ghost record_of: { Self.Seat → Record };
 
-    /// Returns the number of seats that this seat contains: itself, and the seats that were merged into it.
+    /// Returns the number of seats (rights to call as one thread) that this seat contains: itself, and the seats that
+    /// were merged into it.
     ghost held_by: { Self.Seat → ℕ };
 
     /// Executes `call` for the thread of `seat`, which must belong to this set, and returns the reply. Appends the call

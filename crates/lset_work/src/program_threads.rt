@@ -162,7 +162,7 @@ impl<'s, R: Wait + Sync, M: Running + Send + Sync, G: Gate + Sync> Shared<'s, R,
     }
 }
 
-/// The replies of all programs, and the seat that results from merging all seats.
+/// The replies of all programs, and the seat (the right to call as one thread) that results from merging all seats.
 #[derive(Drop)]
 pub(crate) struct Gathered<M: Running> {
     pub seat: Option<Seat<M>>,

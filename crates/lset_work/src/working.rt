@@ -18,7 +18,7 @@ use std::thread::{Scope, Threads};
 /// The outcome of `work`.
 #[derive(Drop)]
 pub struct Outcome {
-    /// The replies to the calls of each program, in the order of the seats.
+    /// The replies to the calls of each program, in the order of the seats (rights to call as one thread).
     pub replies: Vec<Vec<Reply>>,
     /// The final keys of the set, in increasing order.
     pub keys: Vec<u32>,

@@ -85,7 +85,7 @@ fn ceiling_returns_a_key_or_none(rt: HostRuntime) {
     at_each_list!(tells_the_smallest_key, rt);
 }
 
-/// Adds the key 9. Returns the seat, and whether the key was new.
+/// Adds the key 9. Returns the seat (the right to call as one thread), and whether the key was new.
 fn claim<M: Running, R: Wait>(rt: &R, set: &LiveSet<M>, mut seat: Seat<M>) -> (Seat<M>, Added) {
     let added = seat.add(rt, set, Key(9));
     (seat, added)
