@@ -112,7 +112,7 @@ inline said gen(const std::string &kind, uint32_t threads, uint32_t quota, uint3
 /// The five lists.
 enum class list : uint8_t { coarse, fine, optimistic, lazy, lock_free };
 
-/// The reply of `add`. `is_full` means that the key is absent but the seat has used up its quota. A reply cannot be
+/// The reply of `add`. `is_full` means that the key is absent but the seat has used up its quota of adds. A reply cannot be
 /// used as a condition; compare it.
 enum class [[nodiscard]] added : uint8_t { is_false, is_true, is_full };
 
@@ -177,8 +177,8 @@ public:
     return made;
   }
 
-  /// Adds a key. Returns `is_true` if the key was absent, `is_false` if it was present, and `is_full` if it is absent
-  /// but the seat has used up its quota.
+  /// Adds a key. Returns `is_true` if the key was absent, `is_false` if it was present, and `is_full` if it is absent but the
+  /// seat has used up its quota of adds.
   added add(uint32_t key) { return static_cast<added>(by(listset_add, key)); }
 
   /// Removes a key. Returns whether the key was present.
@@ -279,7 +279,8 @@ inline uint64_t next_number() {
   return sets++;
 }
 
-/// Opens a set with keys in strictly increasing order. Returns a seat that contains all other seats.
+/// Opens a set with keys in strictly increasing order. Returns a seat (the right to call as one thread) that contains all
+/// other seats.
 inline seat open(list kind, uint32_t seats, uint32_t quota, const std::vector<uint32_t> &keys = {}) {
   seat made;
   uint32_t none = 0;
@@ -288,9 +289,9 @@ inline seat open(list kind, uint32_t seats, uint32_t quota, const std::vector<ui
   return made;
 }
 
-/// Closes a set, and opens a set of the list `kind` with the same keys. `seats` must contain all seats of the old set.
-/// Afterwards, `seats` contains the `count` seats of the new set, each with this quota. If this function throws, nothing is
-/// lost: `seats` contains all seats or the closed set, and the call can be repeated.
+/// Closes a set, and opens a set of the list `kind` with the same keys. `seats` must contain all seats (rights to call as one
+/// thread) of the old set. Afterwards, `seats` contains the `count` seats of the new set, each with this quota. If this
+/// function throws, nothing is lost: `seats` contains all seats or the closed set, and the call can be repeated.
 inline void renew(std::vector<seat> &seats, list kind, uint32_t count, uint32_t quota) {
   if (count > 64) throw fault(LISTSET_BAD_SEATS);
   seats.resize(std::max<size_t>(seats.size(), count));
@@ -302,7 +303,8 @@ inline void renew(std::vector<seat> &seats, list kind, uint32_t count, uint32_t 
   seats.resize(count);
 }
 
-/// A set that renews itself: when a seat has used up its quota, the set is closed, and a new set is opened with the same keys.
+/// A set that renews itself: when a seat has used up its quota of adds, the set is closed, and a new set is opened with the
+/// same keys.
 ///
 /// A thread gets its own seat from `split`; the seat's destructor returns it. Calls wait during a renewal. The renewal
 /// waits for pending calls, but not for threads that are between two calls. A call waits for another call for at most
@@ -334,8 +336,8 @@ class renewed_set {
   static constexpr std::chrono::milliseconds LONG{5};
 
   // Locks `lock`. On a lock-free list, the holder of `lock` can be in a `ceiling`, which can retry until another call unlinks
-  // a marked node. If the seat in `helper` has used up its quota, the waiting thread therefore calls `add` with this seat: the
-  // `add` unlinks the node, but cannot add a key.
+  // a marked node. If the seat in `helper` has used up its quota of adds, the waiting thread therefore calls `add` with this
+  // seat: the `add` unlinks the node, but cannot add a key.
   //
   // `helper` is the caller's own place (its seat with the seat's lock) if the caller is locking all places, otherwise
   // null. After a caller with a `helper` has waited for 5 ms, new calls of other threads wait too, unless one of these
@@ -458,8 +460,8 @@ public:
       if (mine != nullptr) mine->is_taken = false;
     }
 
-    /// Adds a key, and renews the set if the seat has used up its quota. Returns `is_full` only if the quota is 0, or if the
-    /// set has more than 1,048,576 keys: no set can be opened with so many keys.
+    /// Adds a key, and renews the set if the seat has used up its quota of adds. Returns `is_full` only if the quota is 0, or
+    /// if the set has more than 1,048,576 keys: no set can be opened with so many keys.
     added add(uint32_t key) {
       const auto call = [&](place &it) { return add_from(it, key); };
       added answer = by(call);
@@ -493,8 +495,8 @@ public:
     }
   };
 
-  /// Opens a set with 1 to 64 seats and with keys in strictly increasing order. A seat can add `quota` keys before the set is
-  /// renewed.
+  /// Opens a set with 1 to 64 seats (rights to call as one thread) and with keys in strictly increasing order. A seat can add
+  /// `quota` keys before the set is renewed.
   renewed_set(list kind, uint32_t seats, uint32_t quota, const std::vector<uint32_t> &keys = {},
               std::chrono::nanoseconds patience = std::chrono::nanoseconds::max())
       : kind(kind), quota(quota), patience(patience), opened_with(keys.size()) {
@@ -557,7 +559,8 @@ class shared {
     return places.front();
   }
 
-  // Calls `call` with a free seat. Threads begin their search for a free seat at different seats, if there are enough seats.
+  // Calls `call` with a free seat (the right to call as one thread). Threads begin their search for a free seat at different
+  // seats, if there are enough seats.
   template <typename Call> auto by(Call call) {
     first();
     static std::atomic<size_t> threads{0};
@@ -578,7 +581,7 @@ public:
     while (places.size() < seats) places.emplace_back().mine = places.front().mine.split();
   }
 
-  /// Adds a key. Returns `is_full` if the key is absent but every seat has used up its quota.
+  /// Adds a key. Returns `is_full` if the key is absent but every seat has used up its quota of adds.
   added add(uint32_t key) {
     added answer = by([&](seat &it) { return it.add(key); });
     for (auto at = places.begin(); answer == added::is_full && at != places.end(); ++at) {

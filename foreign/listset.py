@@ -217,7 +217,9 @@ class Fault(Exception):
 
 
 class Full(Fault):
-    """Raised by an add if the key is absent but the seat has used up its quota. `renew` returns seats with a new quota."""
+    """Raised by an add if the key is absent but the seat has used up its quota of adds. `renew` returns seats with a new
+    quota.
+    """
 
     def __init__(self, key):
         super().__init__(FULL, f"{key} is not in the set, and the seat has used its quota of adds")
@@ -231,8 +233,8 @@ class TimedOut(Fault, TimeoutError):
 
 
 class Added(enum.Enum):
-    """The reply of `try_add`. FULL means that the key is absent but the seat has used up its quota. A reply cannot be used
-    as a condition; compare it.
+    """The reply of `try_add`. FULL means that the key is absent but the seat has used up its quota of adds. A reply cannot
+    be used as a condition; compare it.
     """
 
     FALSE, TRUE, FULL = 0, 1, 2
@@ -354,7 +356,7 @@ class Seat:
 
     def add(self, key):
         """Adds a key. Returns True if the key was absent, False if it was present. Raises `Full` if the key is absent but
-        the seat has used up its quota.
+        the seat has used up its quota of adds.
         """
         reply = self._reply(_ADD, key)
         if reply == FULL:
@@ -362,8 +364,8 @@ class Seat:
         return bool(reply)
 
     def try_add(self, key):
-        """Adds a key. Returns `Added.TRUE` if the key was absent, `Added.FALSE` if it was present, and `Added.FULL` if it
-        is absent but the seat has used up its quota.
+        """Adds a key. Returns `Added.TRUE` if the key was absent, `Added.FALSE` if it was present, and `Added.FULL` if it is
+        absent but the seat has used up its quota of adds.
         """
         return Added(self._reply(_ADD, key))
 
@@ -443,7 +445,9 @@ def most_reads(seats, quota, keys=0):
 
 
 def open_set(kind, seats, quota, keys=()):
-    """Opens a set with keys in strictly increasing order. Returns a seat that contains all other seats."""
+    """Opens a set with keys in strictly increasing order. Returns a seat (the right to call as one thread) that contains all
+    other seats.
+    """
     made, keys, index = Seat(), list(keys), LISTS.index(_list(kind))
     sizes = _number(seats, "number of seats"), _number(quota, "quota"), next(_NUMBERS)
     _told(_OPEN(index, *sizes, _keys(keys), len(keys), made.raw))
@@ -454,7 +458,7 @@ open = open_set  # listset.open. It is not in __all__: `from listset import *` k
 
 
 def _of_all(seats, call):
-    """Calls `call` with an array of these seats."""
+    """Calls `call` with an array of these seats (rights to call as one thread)."""
     raws = (_Raw * max(len(seats), 1))(*(it.raw for it in seats))
     code = call(raws)
     for seat, raw in zip(seats, raws):
@@ -508,8 +512,8 @@ class Shared:
             self._locks[place].release()
 
     def try_add(self, key):
-        """Adds a key. Returns `Added.TRUE` if the key was absent, `Added.FALSE` if it was present, and `Added.FULL` if it
-        is absent but every seat has used up its quota.
+        """Adds a key. Returns `Added.TRUE` if the key was absent, `Added.FALSE` if it was present, and `Added.FULL` if it is
+        absent but every seat has used up its quota of adds.
         """
         added = self._by(lambda it: it.try_add(key))
         for seat, lock in zip(self._seats, self._locks):
@@ -520,7 +524,7 @@ class Shared:
 
     def add(self, key):
         """Adds a key. Returns True if the key was absent, False if it was present. Raises `Full` if the key is absent but
-        every seat has used up its quota.
+        every seat has used up its quota of adds.
         """
         added = self.try_add(key)
         if added is Added.FULL:
@@ -570,13 +574,13 @@ class _Place:
 
 
 class RenewedSet:
-    """A set that renews itself: when a seat has used up its quota, the set is closed, and a new set is opened with the same
-    keys.
+    """A set that renews itself: when a seat has used up its quota of adds, the set is closed, and a new set is opened with
+    the same keys.
 
-    A thread gets its own seat from `split`, and returns it with `drop` or at the end of a `with` block. Calls wait
-    during a renewal. The renewal waits for pending calls, but not for threads that are between two calls. A call waits
-    for another call for at most `patience` seconds (forever if it is None); after that it raises `TimedOut` and has no
-    effect. docs/FOREIGN.md states the promises about the order of calls.
+    A thread gets its own seat from `split`, and returns it with `drop` or at the end of a `with` block. Calls wait during a
+    renewal. The renewal waits for pending calls, but not for threads that are between two calls. A call waits for another
+    call for at most `patience` seconds (forever if it is None); after that it raises `TimedOut` and has no effect.
+    docs/FOREIGN.md states the promises about the order of calls.
     """
 
     def __init__(self, kind, seats, quota, keys=(), *, patience=None):
@@ -618,8 +622,8 @@ class RenewedSet:
 
     def _lock(self, lock, helper=None):
         """Locks `lock`. On a lock-free list, the holder of `lock` can be in a `ceiling`, which can retry until another call
-        unlinks a marked node. If the seat in `helper` has used up its quota, the waiting thread therefore calls `add` with
-        this seat: the `add` unlinks the node, but cannot add a key.
+        unlinks a marked node. If the seat in `helper` has used up its quota of adds, the waiting thread therefore calls
+        `add` with this seat: the `add` unlinks the node, but cannot add a key.
 
         `helper` is the caller's own place (its seat with the seat's lock) if the caller is locking all places, otherwise
         None. After a caller with a `helper` has waited for 5 ms, new calls of other threads wait too, unless one of these
@@ -719,8 +723,8 @@ class RenewedSet:
 
 
 class OwnSeat:
-    """A thread's seat in a `RenewedSet`, as returned by `RenewedSet.split`. An `add` renews the set if the seat has
-    used up its quota. A call can raise `TimedOut` if the set has a `patience`.
+    """A thread's seat in a `RenewedSet`, as returned by `RenewedSet.split`. An `add` renews the set if the seat has used up
+    its quota of adds. A call can raise `TimedOut` if the set has a `patience`.
     """
 
     def __init__(self, of, place):
@@ -732,8 +736,8 @@ class OwnSeat:
         return self._of._by(self._place, call)
 
     def try_add(self, key):
-        """Adds a key, and renews the set if the seat has used up its quota. Returns `Added.FULL` only if the quota is 0, or
-        if the set has more than 1,048,576 keys: no set can be opened with so many keys.
+        """Adds a key, and renews the set if the seat has used up its quota of adds. Returns `Added.FULL` only if the quota
+        is 0, or if the set has more than 1,048,576 keys: no set can be opened with so many keys.
         """
         added = self._by(lambda it: it.try_add(key))
         if added is Added.FULL:
@@ -742,9 +746,9 @@ class OwnSeat:
         return self._of._add_renewed(self._place, key) if added is Added.FULL else added
 
     def add(self, key):
-        """Adds a key, and renews the set if the seat has used up its quota. Returns True if the key was absent, False if
-        it was present. Raises `Full` only if the quota is 0, or if the set has more than 1,048,576 keys: no set can be opened
-        with so many keys.
+        """Adds a key, and renews the set if the seat has used up its quota of adds. Returns True if the key was absent,
+        False if it was present. Raises `Full` only if the quota is 0, or if the set has more than 1,048,576 keys: no set can
+        be opened with so many keys.
         """
         added = self.try_add(key)
         if added is Added.FULL:

@@ -124,7 +124,9 @@ def numbers():
 
 
 def apart():
-    """Checks that a seat never gathers a seat of another set, among more sets than 16 bits can number."""
+    """Checks that a seat (the right to call as one thread) never gathers a seat of another set, among more sets than 16 bits
+    can number.
+    """
     mine, found = listset.open_set("lazy", 1, 0), set()
 
     def run():

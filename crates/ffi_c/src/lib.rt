@@ -46,8 +46,8 @@ pub extern "C" fn listset_split(alloc: Global, seat: &mut CSeat, out: &mut CSeat
 }
 
 /// Adds `key` to the set. Returns 1 if the key was absent, 0 if it was present, and 2 if it is absent but the seat has
-/// used up its quota. Returns 255 if `seat` is empty, a receipt or a closed set. Blocks while another thread holds a
-/// lock that the call needs. Does not allocate.
+/// used up its quota of adds. Returns 255 if `seat` is empty, a receipt or a closed set. Blocks while another thread
+/// holds a lock that the call needs. Does not allocate.
 #[unsafe(no_mangle)]
 pub extern "C" fn listset_add(alloc: Global, seat: &mut CSeat, key: u32) -> u8
     ensures { HasMade seat.old.full seat.old.held (Add (record { 0 = key })) result seat.new.full seat.new.held }

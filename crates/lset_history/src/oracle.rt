@@ -87,8 +87,8 @@ impl Oracle {
 
     /// Applies `call` of thread `thread`, which must be below the number of threads, to the set. Returns the reply.
     ///
-    /// - `Add` replies `False` if the key is present; otherwise `Full` if the thread has used up its quota, and `True`
-    ///   if not.
+    /// - `Add` replies `False` if the key is present; otherwise `Full` if the thread has used up its quota of adds, and
+    ///   `True` if not.
     /// - `Remove` and `Contains` reply `True` if the key is present, and otherwise `False`.
     /// - `Ceiling` replies `At` with the smallest key at or above its argument, or `Nothing` if no key is.
     ///

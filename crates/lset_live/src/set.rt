@@ -131,8 +131,8 @@ impl<M: Running> LiveSet<M> {
     }
 
     /// Adds `key`. Returns `True` if the key was absent and has been added, `False` if it was already present, and
-    /// `Full` if it was absent and the thread has used up its quota. `seat` must belong to this set. Can block while
-    /// another thread holds a lock that the call needs. Does not allocate.
+    /// `Full` if it was absent and the thread has used up its quota of adds. `seat` must belong to this set. Can block
+    /// while another thread holds a lock that the call needs. Does not allocate.
     pub fn add<R: Wait>(&self, rt: &R, seat: &mut Seat<M>, key: Key) -> Reply
         requires { seat.old.set ≡ self.now }
         ensures { HasAnswered M.table self.now seat.old (Add key) result seat.new }

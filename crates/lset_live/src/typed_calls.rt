@@ -20,7 +20,7 @@ pub enum Added {
     New,
     /// The key was already present. Nothing changed. The reply is `False`.
     Already,
-    /// The key was absent, but the seat's thread has used up its quota. Nothing changed. The reply is `Full`.
+    /// The key was absent, but the seat's thread has used up its quota of adds. Nothing changed. The reply is `Full`.
     Full,
 }
 
@@ -36,7 +36,7 @@ impl<M: Running> Seat<M> {
     ///     match seat.add(rt, &set, Key(5)) {
     ///         Added::New => println!(rt; "5 is in the set now")?,
     ///         Added::Already => println!(rt; "5 was in the set already")?,
-    ///         Added::Full => println!(rt; "this seat has used up its quota")?,
+    ///         Added::Full => println!(rt; "this seat has used up its quota of adds")?,
     ///     }
     pub fn add<R: Wait>(&mut self, rt: &R, set: &LiveSet<M>, key: Key) -> Added
         requires { self.old.set ≡ set.now }

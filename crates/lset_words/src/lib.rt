@@ -99,8 +99,8 @@ impl Call {
 }
 
 /// The reply of a completed call. `add`, `remove` and `contains` reply `True` or `False`; `add` replies `Full` if the
-/// key is absent and the thread has used up its quota. `ceiling` replies `At` with the key that it found, or `Nothing`
-/// if it found no key.
+/// key is absent and the thread has used up its quota of adds. `ceiling` replies `At` with the key that it found, or
+/// `Nothing` if it found no key.
 #[derive(Clone, Copy, Debug, PartialEq, Eq)]
 pub enum Reply {
     True,

@@ -1,4 +1,4 @@
-//! A set that renews itself: when a seat has used up its quota, a new set with the same keys replaces the old one.
+//! A set that renews itself: when a seat has used up its quota of adds, a new set with the same keys replaces the old one.
 
 use std::sync::atomic::{AtomicBool, Ordering};
 use std::sync::{Mutex, MutexGuard, TryLockError};
@@ -12,8 +12,8 @@ const POLL: Duration = Duration::from_micros(50);
 const LONG: Duration = Duration::from_millis(5);
 const MOST_OPENING: u64 = 1 << 20;
 
-/// A set that renews itself: when a seat has used up its quota, the set is closed, and a new set is opened with the same
-/// keys.
+/// A set that renews itself: when a seat has used up its quota of adds, the set is closed, and a new set is opened with the
+/// same keys.
 ///
 /// A thread gets its own seat from [`RenewedSet::split`], and returns it by dropping it. Calls wait during a renewal.
 /// The renewal waits for pending calls, but not for threads that are between two calls. A call waits for another call
@@ -59,9 +59,9 @@ struct Part {
     stage: Stage,
     /// The number of keys that the set had when it was last opened. Only the number in the first place is used.
     opened_with: u64,
-    /// The number of keys that this seat has added since the set was last opened.
+    /// The number of keys that this seat (the right to call as one thread) has added since the set was last opened.
     adds: u64,
-    /// The number of keys that this seat has removed since the set was last opened.
+    /// The number of keys that this seat (the right to call as one thread) has removed since the set was last opened.
     removes: u64,
 }
 
@@ -119,7 +119,8 @@ impl All<'_> {
             - self.parts.iter().map(|it| it.removes).sum::<u64>()
     }
 
-    /// Sets the stage to `ToBeRenewed`, and calls `call` with all seats. If `call` succeeds, the caller sets the next stage.
+    /// Sets the stage to `ToBeRenewed`, and calls `call` with all seats (rights to call as one thread). If `call` succeeds,
+    /// the caller sets the next stage.
     fn by_all(&mut self, call: impl FnOnce(&mut [Seat]) -> Result<(), Fault>) -> Result<(), Fault> {
         self.set_stage(Stage::ToBeRenewed);
         let taken = |it: &mut MutexGuard<Part>| std::mem::replace(&mut it.seat, Seat { raw: NONE });
@@ -145,8 +146,8 @@ impl All<'_> {
 }
 
 impl RenewedSet {
-    /// Opens a set with 1 to 64 seats and with keys in strictly increasing order. A seat can add `quota` keys before the set
-    /// is renewed.
+    /// Opens a set with 1 to 64 seats (rights to call as one thread) and with keys in strictly increasing order. A seat can
+    /// add `quota` keys before the set is renewed.
     pub fn open(list: List, seats: u32, quota: u32, keys: &[u32]) -> Result<RenewedSet, Fault> {
         let mut all = vec![open(list, seats, quota, keys)?];
         while all.len() < seats as usize {
@@ -197,8 +198,8 @@ impl RenewedSet {
     }
 
     /// Locks `lock`. On a lock-free list, the holder of `lock` can be in a `ceiling`, which can retry until another call
-    /// unlinks a marked node. If the seat in `helper` has used up its quota, the waiting thread therefore calls `add` with
-    /// this seat: the `add` unlinks the node, but cannot add a key.
+    /// unlinks a marked node. If the seat in `helper` has used up its quota of adds, the waiting thread therefore calls `add`
+    /// with this seat: the `add` unlinks the node, but cannot add a key.
     ///
     /// `helper` is the caller's own place (its seat with the seat's lock) if the caller is locking all places,
     /// otherwise `None`. After a caller with a `helper` has waited for 5 ms, new calls of other threads wait too,
@@ -284,8 +285,8 @@ pub struct OwnSeat<'a> {
 }
 
 impl OwnSeat<'_> {
-    /// Adds a key, and renews the set if the seat has used up its quota. Returns [`Added::Full`] only if the quota is 0, or
-    /// if the set has more than 1,048,576 keys, because no set can be opened with so many.
+    /// Adds a key, and renews the set if the seat has used up its quota of adds. Returns [`Added::Full`] only if the quota is
+    /// 0, or if the set has more than 1,048,576 keys, because no set can be opened with so many.
     pub fn add(&mut self, key: u32) -> Result<Added, Fault> {
         let mut added = self.set.by(self.place, |it| it.add(key))?;
         if added == Added::Full {

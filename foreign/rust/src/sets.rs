@@ -64,7 +64,7 @@ pub enum Added {
     True,
     /// The key was present.
     False,
-    /// The key is absent, but the seat has used up its quota.
+    /// The key is absent, but the seat has used up its quota of adds.
     Full,
 }
 
@@ -72,7 +72,7 @@ pub enum Added {
 #[derive(Clone, Copy, Debug, PartialEq, Eq)]
 #[repr(u8)]
 pub enum Fault {
-    /// The number of seats is not between 1 and 64.
+    /// The number of seats (of threads that can call) is not between 1 and 64.
     Seats = 10,
     /// The quota is greater than 16,384.
     Quota,
@@ -80,11 +80,11 @@ pub enum Fault {
     Keys,
     /// An allocation failed.
     Memory,
-    /// Some seats of the set have not been gathered.
+    /// Some seats (rights to call as one thread) of the set have not been gathered.
     SeatsOut = 16,
-    /// No seat can be split off.
+    /// No seat (the right to call as one thread) can be split off.
     NoMore,
-    /// The seats, or the seat and the receipt, belong to different sets.
+    /// The seats (rights to call as one thread), or the seat and the receipt, belong to different sets.
     OtherSet,
     /// `contains_now` requires a lazy or lock-free list.
     ReadsBlock,
@@ -194,8 +194,8 @@ pub(crate) fn next_number() -> u64 {
     SETS.fetch_add(1, Ordering::Relaxed)
 }
 
-/// Opens a set with `seats` seats and with keys in strictly increasing order. Each seat may add `quota` keys. Returns a seat
-/// that contains all other seats.
+/// Opens a set with `seats` seats (rights to call as one thread) and with keys in strictly increasing order. Each seat may add
+/// `quota` keys. Returns a seat that contains all other seats.
 pub fn open(list: List, seats: u32, quota: u32, keys: &[u32]) -> Result<Seat, Fault> {
     let mut made = Seat { raw: NONE };
     // SAFETY: the pointers point to a slice and to an empty seat. No other set in this program has this number.
@@ -212,8 +212,8 @@ pub enum Left {
     Keys(Vec<u32>),
 }
 
-/// Closes a set, and opens a set of the list `list` with the same keys. `seats` must contain all seats of the old set.
-/// Returns the `count` seats of the new set, each with this quota.
+/// Closes a set, and opens a set of the list `list` with the same keys. `seats` must contain all seats (rights to call as one
+/// thread) of the old set. Returns the `count` seats of the new set, each with this quota.
 ///
 /// ```
 /// use listset::{open, renew, Added, List};
@@ -261,7 +261,7 @@ pub(crate) fn close_in(places: &mut [Seat]) -> Result<(), Fault> {
     by_all(places, |raws, many| unsafe { listset_close_all(raws, many) })
 }
 
-/// Calls `call` with an array of the seats in `places`.
+/// Calls `call` with an array of the seats (rights to call as one thread) in `places`.
 fn by_all(places: &mut [Seat], call: impl FnOnce(*mut Raw, usize) -> u8) -> Result<(), Fault> {
     let mut raws: Vec<Raw> = places.iter_mut().map(|it| replace(&mut it.raw, NONE)).collect();
     let code = call(raws.as_mut_ptr(), raws.len());
@@ -292,8 +292,8 @@ impl Seat {
         Ok(made)
     }
 
-    /// Adds a key. Returns [`Added::Full`] if the key is absent but the seat has used up its quota; [`renew`] returns seats
-    /// with a new quota.
+    /// Adds a key. Returns [`Added::Full`] if the key is absent but the seat has used up its quota of adds; [`renew`] returns
+    /// seats with a new quota.
     pub fn add(&mut self, key: u32) -> Added {
         match replied(unsafe { listset_add(&mut self.raw, key) }) {
             TRUE => Added::True,

@@ -27,8 +27,8 @@ pub struct Shared {
 }
 
 impl Shared {
-    /// Opens a set with `seats` seats and with keys in strictly increasing order. Each seat may add `quota` keys. Up to
-    /// `seats` calls can run at the same time.
+    /// Opens a set with `seats` seats (rights to call as one thread) and with keys in strictly increasing order. Each seat
+    /// may add `quota` keys. Up to `seats` calls can run at the same time.
     pub fn open(list: List, seats: u32, quota: u32, keys: &[u32]) -> Result<Shared, Fault> {
         let mut first = open(list, seats, quota, keys)?;
         let mut all: Vec<Seat> = (1..seats).map(|_| first.split()).collect::<Result<_, _>>()?;
@@ -36,7 +36,7 @@ impl Shared {
         Ok(Shared { seats: all.into_iter().map(Mutex::new).collect() })
     }
 
-    /// Adds a key. Returns [`Added::Full`] if the key is absent but every seat has used up its quota.
+    /// Adds a key. Returns [`Added::Full`] if the key is absent but every seat has used up its quota of adds.
     pub fn add(&self, key: u32) -> Added {
         match self.by(|seat| seat.add(key)) {
             Added::Full => self.seats.iter().map(|it| taken(it).add(key)).find(|it| *it != Added::Full).unwrap_or(Added::Full),
@@ -70,8 +70,8 @@ impl Shared {
         all.close()
     }
 
-    /// Calls `call` with a free seat. Threads begin their search for a free seat at different seats, if there are enough
-    /// seats.
+    /// Calls `call` with a free seat (the right to call as one thread). Threads begin their search for a free seat at
+    /// different seats, if there are enough seats.
     fn by<T>(&self, call: impl FnOnce(&mut Seat) -> T) -> T {
         static THREADS: AtomicUsize = AtomicUsize::new(0);
         thread_local!(static MINE: usize = THREADS.fetch_add(1, Ordering::Relaxed));
