@@ -1,43 +1,19 @@
 -- Lemmas about the rows of the table of commands: each row adds one argument or one subcommand, and a search by name
 -- returns the command of the first row with this name.
-use Rattle.std.proofs.Common.{◌≡◌, ◌+◌, ◌<◌, ◌∙◌, ℕ, zero, suc, Bool, true, false, List, [], ◌∷◌, map, take, drop, get_or, length, refl, subst, ap, sym, arith}
-use Rattle.std.proofs.lemmas.List.{at_drop_more}
+use Rattle.std.proofs.Common.{◌≡◌, ◌+◌, ◌<◌, ◌∙◌, ℕ, Bool, true, false, List, map, take, drop, get_or, length, ap, sym}
+use Rattle.std.proofs.lemmas.List.{at_drop_more, map_more}
+use Rattle.std.proofs.lemmas.List.Sums.{fold_push}
 use Rattle.std.specs.Prelude.{if◌then◌else◌}
+use Rattle.std.specs.List.{fold}
 use Rattle.std.specs.Str.{bytes_eq}
-use Rattle.clap.specs.Words.{App, Text, with_rule, with_subcommand}
-use Rattle.lset_command.specs.CommandLine.{ArgumentRow, CommandRow, app_in, argument_of, command_in, row_of, rule_by, with_arguments, with_commands}
+use Rattle.clap.specs.Words.{App, Text}
+use Rattle.lset_command.specs.CommandLine.{CommandRow, command_in, row_of}
 
-next_argument : (a : App) (rows : List ArgumentRow) (i : ℕ) (d : ArgumentRow) → i < length rows
-    → with_arguments a (map argument_of (take (suc i) rows))
-    ≡ with_rule (with_arguments a (map argument_of (take i rows))) (rule_by (get_or rows i d).0.now (get_or rows i d).1)
-next_argument a [] i d inside = absurd (omega arith)
-next_argument a (row ∷ rows) zero d inside = refl
-next_argument a (row ∷ rows) (suc i) d inside = next_argument (with_rule a (rule_by row.0.now row.1)) rows i d (omega arith)
-
-next_command : (a : App) (rows : List CommandRow) (i : ℕ) (d : CommandRow) → i < length rows
-    → with_commands a (map row_of (take (suc i) rows))
-    ≡ with_subcommand (with_commands a (map row_of (take i rows))) (app_in (row_of (get_or rows i d))).top
-next_command a [] i d inside = absurd (omega arith)
-next_command a (row ∷ rows) zero d inside = refl
-next_command a (row ∷ rows) (suc i) d inside = next_command (with_subcommand a (app_in (row_of row)).top) rows i d (omega arith)
-
-pub one_more_argument : (a : App) (rows : List ArgumentRow) (i : ℕ) (d : ArgumentRow) → i < length rows
-    → with_arguments a (map argument_of (take (i + 1) rows))
-    ≡ with_rule (with_arguments a (map argument_of (take i rows))) (rule_by (get_or rows i d).0.now (get_or rows i d).1)
-one_more_argument a rows i d inside =
-    let next : suc i ≡ i + 1 = omega arith in
-    subst (λ n. with_arguments a (map argument_of (take n rows))
-    ≡ with_rule (with_arguments a (map argument_of (take i rows))) (rule_by (get_or rows i d).0.now (get_or rows i d).1))
-    next (next_argument a rows i d inside)
-
-pub one_more_command : (a : App) (rows : List CommandRow) (i : ℕ) (d : CommandRow) → i < length rows
-    → with_commands a (map row_of (take (i + 1) rows))
-    ≡ with_subcommand (with_commands a (map row_of (take i rows))) (app_in (row_of (get_or rows i d))).top
-one_more_command a rows i d inside =
-    let next : suc i ≡ i + 1 = omega arith in
-    subst (λ n. with_commands a (map row_of (take n rows))
-    ≡ with_subcommand (with_commands a (map row_of (take i rows))) (app_in (row_of (get_or rows i d))).top)
-    next (next_command a rows i d inside)
+-- Loop step: adding one more row to the command.
+pub one_more : {A R : Type 0} (f : App → A → App) (g : R → A) (a : App) (rows : List R) (i : ℕ) (d : R) → i < length rows
+    → f (fold f a (map g (take i rows))) (g (get_or rows i d)) ≡ fold f a (map g (take (i + 1) rows))
+one_more f g a rows i d inside =
+    sym (ap (fold f a) (map_more g rows i d inside) ∙ fold_push f a (map g (take i rows)) (g (get_or rows i d)))
 
 next_row : (name : Text) (rows : List CommandRow) (i : ℕ) (d : CommandRow) (same : Bool) → i < length rows
     → bytes_eq (get_or rows i d).1.now name ≡ same

@@ -1,8 +1,8 @@
 -- The program's command line, as clap's definitions describe it: the subcommands, their arguments, flags and options.
 use Rattle.std.specs.Prelude.{◌≡◌, Result, IfOk, List, [], ◌∷◌, map, codes, Bool, true, false, ◌||◌, Option, Some, None, option_map, unwrap_or}
-use Rattle.std.specs.Prelude.{string_bytes, if◌then◌else◌, option_and_then}
+use Rattle.std.specs.Prelude.{◌++◌, ⊤, string_bytes, if◌then◌else◌, option_and_then}
 use Rattle.std.specs.Borrow.{Bor}
-use Rattle.std.specs.List.{flat_map}
+use Rattle.std.specs.List.{flat_map, fold}
 use Rattle.std.specs.Option.{option_map_or}
 use Rattle.std.specs.Str.{bytes_eq}
 use Rattle.clap.specs.Words.{App, Row, Rule, Text, all_of, app_of, first_of, new_app, new_rule, rule_of, with_rule, with_subcommand}
@@ -13,7 +13,7 @@ use Rattle.clap.specs.declared.Arg.{Arg}
 use Rattle.clap.specs.declared.Command as clap
 use Rattle.clap.specs.declared.Command.TheViews.{out-Command}
 use Rattle.lset_command.specs.declared.table.Command.{Command}
-use Rattle.lset_command.specs.declared.table.Command.TheVariants.{Replay, Judge, Check, Gen}
+use Rattle.lset_command.specs.declared.table.Command.TheVariants.{Replay, Judge, Stats, Check, Show, Trace, Draft, Example, Gen, Run, Serve, Faults, Explain}
 use Rattle.lset_command.specs.declared.command_line.Options.{Options}
 use Rattle.lset_command.specs.declared.command_line.Words.{Words}
 use Rattle.lset_command.specs.declared.table.Form.{Form}
@@ -42,19 +42,17 @@ Argument = Text × Form
 abbrev pub TableRow : Type 0
 TableRow = Command × Text × List Argument
 
--- Returns the command with a rule for each of these arguments added.
-abbrev pub with_arguments : App → List Argument → App
-with_arguments a [] = a
-with_arguments a (argument ∷ arguments) = with_arguments (with_rule a (rule_by argument.0 argument.1)) arguments
+-- Returns the command with a rule for this argument added.
+abbrev pub with_argument : App → Argument → App
+with_argument a argument = with_rule a (rule_by argument.0 argument.1)
 
 -- Returns the parser's rules for the command in this row.
 abbrev pub app_in : TableRow → App
-app_in row = with_arguments (new_app row.1) row.2
+app_in row = fold with_argument (new_app row.1) row.2
 
--- Returns the command with a subcommand for each of these rows added.
-abbrev pub with_commands : App → List TableRow → App
-with_commands a [] = a
-with_commands a (row ∷ rows) = with_commands (with_subcommand a (app_in row).top) rows
+-- Returns the command with a subcommand for this row added.
+abbrev pub with_command : App → TableRow → App
+with_command a row = with_subcommand a (app_in row).top
 
 -- The table of the program's commands. The constant `COMMANDS` has the same rows with help texts.
 abbrev pub table : List TableRow
@@ -63,7 +61,7 @@ table = map (λ row. (row.0, row.1.now, map (λ argument. (argument.0.now, argum
 -- The rules of the whole program: it has a version and all subcommands. The words that it parses do not start with the
 -- program's name.
 abbrev pub listset : App
-listset = with_commands (on_top (λ s. record s { no_binary_name = true; has_version = true }) (new_app (codes "listset"))) table
+listset = fold with_command (on_top (λ s. record s { no_binary_name = true; has_version = true }) (new_app (codes "listset"))) table
 
 -- ---- Rows of the table as values of the program
 
@@ -162,14 +160,45 @@ row_named name (row ∷ rows) = if bytes_eq row.1 name then Some row else row_na
 abbrev pub IsNamed : Text → Command → List Argument → Type 0
 IsNamed name command arguments = row_named name table ≡ Some (command, name, arguments)
 
--- The names and arguments of the commands with a proved output: `replay`, `judge`, `check` and `gen`.
-abbrev pub NamesOfProved : Type 0
-NamesOfProved =
-    IsNamed (codes "replay") Replay ((codes "FILE", Value) ∷ (codes "lacks", ValueOption) ∷ [])
-    × IsNamed (codes "judge") Judge ((codes "FILE", Value) ∷ (codes "brief", Flag) ∷ (codes "only", ValueOption) ∷ [])
-    × IsNamed (codes "check") Check ((codes "FILE", Value) ∷ [])
-    × IsNamed (codes "gen") Gen ((codes "KIND", Value) ∷ (codes "THREADS", Value) ∷ (codes "QUOTA", Value)
-    ∷ (codes "CALLS", Value) ∷ (codes "KEYS", Value) ∷ (codes "SEED", Value) ∷ [])
+abbrev pub kind : Argument
+kind = (codes "KIND", Value)
+
+abbrev pub file : Argument
+file = (codes "FILE", Value)
+
+abbrev pub lacks : Argument
+lacks = (codes "lacks", ValueOption)
+
+-- The arguments of `gen`, which are also the first arguments of `run`.
+abbrev pub random : List Argument
+random = kind ∷ (codes "THREADS", Value) ∷ (codes "QUOTA", Value) ∷ (codes "CALLS", Value) ∷ (codes "KEYS", Value)
+    ∷ (codes "SEED", Value) ∷ []
+
+-- The commands have these names, arguments and forms of arguments.
+pub record CommandsAreNamed : Type 0 where
+  pub replay : IsNamed (codes "replay") Replay (file ∷ lacks ∷ [])
+  pub judge : IsNamed (codes "judge") Judge (file ∷ (codes "brief", Flag) ∷ (codes "only", ValueOption) ∷ [])
+  pub stats : IsNamed (codes "stats") Stats (file ∷ [])
+  pub check : IsNamed (codes "check") Check (file ∷ [])
+  pub show : IsNamed (codes "show") Show (file ∷ (codes "svg", Flag) ∷ (codes "from", ValueOption) ∷ (codes "to", ValueOption)
+      ∷ (codes "width", ValueOption) ∷ lacks ∷ [])
+  pub trace : IsNamed (codes "trace") Trace (file ∷ (codes "chain", Flag) ∷ lacks ∷ [])
+  pub draft : IsNamed (codes "draft") Draft (file ∷ [])
+  pub example : IsNamed (codes "example") Example ((codes "NAME", Value) ∷ (codes "broken", Flag) ∷ [])
+  pub gen : IsNamed (codes "gen") Gen random
+  pub run : IsNamed (codes "run") Run (random ++ (codes "LIVES", Value) ∷ [])
+  pub serve : IsNamed (codes "serve") Serve (kind ∷ (codes "SEATS", Value) ∷ (codes "QUOTA", Value) ∷ (codes "PORT", Value)
+      ∷ (codes "SESSIONS", Value) ∷ file ∷ [])
+  pub faults : IsNamed (codes "faults") Faults ((codes "CAUSE", Value) ∷ [])
+  pub explain : IsNamed (codes "explain") Explain (file ∷ [])
+
+-- No two of these rows have the same name.
+abbrev pub AreApart : List TableRow → Type 0
+AreApart [] = ⊤
+AreApart (row ∷ rows) = (row_named row.1 rows ≡ None) × AreApart rows
+
+abbrev pub NamesDiffer : Type 0
+NamesDiffer = AreApart table
 
 -- A command with its arguments, flags and options.
 pub record Choice : Type 0 where

@@ -1,9 +1,9 @@
-ghost use Rattle.std.specs.Prelude.{◌≡◌, ◌++◌, ◌↔◌, [], IfOk, IsTrue, OnOk, codes, false, map, option_map, string_bytes};
+ghost use Rattle.std.specs.Prelude.{◌≡◌, ◌++◌, ◌↔◌, [], IfOk, IsTrue, OnOk, codes, false, fold, map, option_map, string_bytes};
 ghost use Rattle.clap.specs.Words.{App, FailsBy, app_of, fault_of, found_of, kind_of, new_app, new_rule, rows_of, rule_of, subcommand_of};
 ghost use Rattle.clap.specs.Walk.{first_of, texts};
 ghost use Rattle.clap.specs.declared.error.kind.ErrorKind.TheVariants.{OutOfMemory};
 ghost use Rattle.lset_command.specs.CommandLine.{app_in, argument_of, choice_in, choice_of, command_in, flag_rule, is_on, is_option, listset, option_rule, options_in, options_of, path_of, row_of, rule_by};
-ghost use Rattle.lset_command.specs.CommandLine.{IsApp, Makes, MakesWithArg, MakesWithSubcommand, NamesOfProved, values_by, values_in, with_arguments, with_commands};
+ghost use Rattle.lset_command.specs.CommandLine.{IsApp, Makes, MakesWithArg, CommandsAreNamed, MakesWithSubcommand, NamesDiffer, values_by, values_in, with_argument, with_command};
 
 use crate::table::{ArgumentRow, COMMANDS, Command, CommandRow, Form};
 use clap::error::ErrorKind;
@@ -140,7 +140,7 @@ fn with_arguments<'a>(
     rows: &'a [ArgumentRow],
     helps: Helps<'a>,
 ) -> Result<clap::Command<'a>, AllocError>
-    ensures { (a : App) → Makes command.entry a → Makes result (with_arguments a (map argument_of rows.entry.now)) }
+    ensures { (a : App) → Makes command.entry a → Makes result (fold with_argument a (map argument_of rows.entry.now)) }
 {
     let mut command = command;
     for row in rows {
@@ -201,7 +201,7 @@ fn with_commands<'a>(
     rows: &'a [CommandRow],
     helps: Helps<'a>,
 ) -> Result<clap::Command<'a>, AllocError>
-    ensures { (a : App) → Makes program.entry a → Makes result (with_commands a (map row_of rows.entry.now)) }
+    ensures { (a : App) → Makes program.entry a → Makes result (fold with_command a (map row_of rows.entry.now)) }
 {
     let mut program = program;
     for row in rows {
@@ -337,9 +337,10 @@ fn command_in(name: &str, rows: &[CommandRow]) -> Command
     Command::Replay
 }
 
-/// Lemma: the commands about whose output something is proved have their names and arguments in the table.
-pub fn proved_commands_are_named()
-    ensures { NamesOfProved }
+/// Lemma: the table has each command with its name and its arguments, and no two commands have the same name.
+pub fn commands_are_named()
+    ensures named { CommandsAreNamed }
+    ensures differ { NamesDiffer }
 {}
 
 /// Parses the command line, without the program's name, with `clap`.

@@ -5,6 +5,6 @@ mod command_line;
 mod table;
 
 pub use command_line::{
-    Helps, Options, VERSION, Words, is_out_of_memory, proved_commands_are_named, words_given,
+    Helps, Options, VERSION, Words, commands_are_named, is_out_of_memory, words_given,
 };
 pub use table::{ArgumentRow, COMMANDS, Command, CommandRow, Form, LACKS_HELP};
