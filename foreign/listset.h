@@ -287,7 +287,7 @@ LISTSET_USED listset_fault listset_renew(listset_seat *seats, size_t places, lis
 /// one thread) has been dropped.
 void listset_drop(listset_seat *seat);
 
-/// Drops a receipt; `receipt` is empty afterwards.
+/// Drops a receipt (a record of the calls that a seat has seen). `receipt` is empty afterwards.
 static inline void listset_drop_receipt(listset_receipt *receipt) { listset_drop((listset_seat *)receipt); }
 
 // The type of `listset_show` and `listset_show_svg`, and a function that calls either of them with a `listset_window`.

@@ -311,7 +311,7 @@ class Receipt:
         self.raw = _Raw()
 
     def drop(self):
-        """Drops the receipt, which is empty afterwards."""
+        """Drops the receipt (a record of the calls that a seat has seen). It is empty afterwards."""
         _DROP(self.raw)
 
     __del__ = drop

@@ -111,7 +111,7 @@ static void refused_calls(uint8_t kind) {
   calls_without_a_seat("a dropped seat", &a);
 }
 
-// Tests receipts, and `contains_now`, on a list.
+// Tests receipts (records of the calls that a seat has seen), and `contains_now`, on a list.
 static void reads_and_receipts(uint8_t kind) {
   const bool blocks = kind < LISTSET_LAZY;
   listset_seat a = LISTSET_NONE, b = LISTSET_NONE, other = LISTSET_NONE;
@@ -202,7 +202,8 @@ static void one_renewal(uint8_t kind, size_t refused) {
   asked = asked_by_renew;
 }
 
-// Requests a receipt while its allocation fails. A second call must return the receipt.
+// Requests a receipt (a record of the calls that a seat has seen) while its allocation fails. A second call must return
+// the receipt.
 static void one_receipt(uint8_t kind) {
   listset_seat seat = LISTSET_NONE;
   listset_receipt receipt = LISTSET_NONE;

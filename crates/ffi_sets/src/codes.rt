@@ -28,8 +28,8 @@ pub const SEATS_OUT: u8 = 16;
 /// No seat (the right to call as one thread) can be split off this seat.
 pub const NO_MORE: u8 = 17;
 
-/// The arguments are neither two seats (rights to call as one thread) nor a seat and a receipt with the same list and
-/// number.
+/// The arguments are neither two seats (rights to call as one thread) nor a seat and a receipt (the events that a seat
+/// has seen) with the same list and number.
 pub const NO_GATHER: u8 = 18;
 
 /// A `contains` on this list can block.

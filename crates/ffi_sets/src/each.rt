@@ -78,8 +78,9 @@ pub fn receipt_held(held: &mut Held) -> Option<Held>
     })
 }
 
-/// Passes the receipt `given` to the seat (the right to call as one thread) in `into`. Returns `None` on success. If
-/// the two are not a seat and a receipt with the same list and number, changes nothing and returns `given`.
+/// Passes the receipt `given` (the events that a seat has seen) to the seat (the right to call as one thread) in
+/// `into`. Returns `None` on success. If the two are not a seat and a receipt with the same list and number, changes
+/// nothing and returns `given`.
 pub fn heed_held(into: &mut Held, given: Held) -> Option<Held>
     requires { Gathers into.old given }
     ensures { IfNone result (HasHeededHeld into.old given into.new) }

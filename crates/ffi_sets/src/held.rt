@@ -1,4 +1,5 @@
-//! The value that a C handle owns: a seat (the right to call as one thread), a receipt, or the keys of a closed set.
+//! The value that a C handle owns: a seat (the right to call as one thread), a receipt (the events that a seat has
+//! seen), or the keys of a closed set.
 ghost use Rattle.std.specs.Prelude.{◌≡◌, IfSome};
 ghost use Rattle.std.specs.Arc.{arc_value};
 ghost use Rattle.ffi_sets.specs.Facts.{AreOf, seat_of_prop, spare_of_prop};
@@ -34,8 +35,8 @@ pub struct ReceiptOfSet<M: Machine> {
 }
 
 /// The value of a full C handle: a seat (the right to call as one thread) of a set of one of the five lists, a receipt
-/// from such a set, or the keys of a closed set. It is `Nothing` only while a function has taken the value out to work
-/// with it.
+/// (the events that a seat has seen) from such a set, or the keys of a closed set. It is `Nothing` only while a
+/// function has taken the value out to work with it.
 #[derive(Drop)]
 pub enum Held {
     Coarse(SeatOfSet<CoarseList>),

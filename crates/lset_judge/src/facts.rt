@@ -117,7 +117,7 @@ impl KeyState {
     }
 
     /// Returns whether `second` starts after `first` has ended, or the stored facts show that the two calls also clash
-    /// in the opposite order. Returns true if `first` is `None`.
+    /// (rule out every order) in the opposite order. Returns true if `first` is `None`.
     fn comes_after(&self, first: Option<StreamCall>, second: StreamCall) -> bool
         ensures { IsTrue result ↔ ComesAfter (facts_of self.now) first second }
     {
@@ -138,8 +138,9 @@ impl KeyState {
             && ends_by(first, second)
     }
 
-    /// Returns the clash of the stored call on the key with the call `second`, which ends now. If no call is stored,
-    /// the key's opening state replaces the stored call. Returns `None` exactly if the stored facts show no clash.
+    /// Returns the clash (two calls that rule out every order) of the stored call on the key with the call `second`,
+    /// which ends now. If no call is stored, the key's opening state replaces the stored call. Returns `None` exactly
+    /// if the stored facts show no clash.
     pub(crate) fn clash_of(&self, second: StreamCall) -> Option<Clash>
         ensures { MatchOption result (IsClashing (facts_of self.now) second → ⊥) (IsFound (facts_of self.now) second) }
     {
@@ -166,8 +167,9 @@ impl KeyState {
         *clash = self.clash_of(second);
     }
 
-    /// Returns the clash of the stored call on the key with the key's final state `left`. If no call is stored, the
-    /// key's opening state replaces the stored call. Returns `None` exactly if the stored facts show no clash.
+    /// Returns the clash of the stored call on the key with the key's final state `left`: together, they rule out every
+    /// order. If no call is stored, the key's opening state replaces the stored call. Returns `None` exactly if the
+    /// stored facts show no clash.
     pub(crate) fn clash_left(&self, key: Key, left: Presence) -> Option<Clash>
         ensures { MatchOption result (left ≡ other self.now.was → IsStanding key.0 (facts_of self.now) → ⊥) (IsFoundLeft key.0 (facts_of self.now) left) }
     {

@@ -32,7 +32,7 @@ pub(crate) enum Kept {
 }
 
 /// The state of a key: whether it is present and since when, its changes, and one completed call (the kept call). The
-/// judge compares later calls with the kept call to find a clash. (64 bytes.)
+/// judge compares later calls with the kept call to find a clash (two calls that rule out every order). (64 bytes.)
 #[derive(Drop)]
 pub(crate) struct KeyState {
     pub(crate) changes: KeyChanges,

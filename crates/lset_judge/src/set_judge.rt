@@ -20,9 +20,9 @@ pub enum Verdict {
     /// Some order explains the calls: starting from the opening keys, it has the same replies and leaves the final
     /// keys.
     Linearizable,
-    /// No order explains the calls and leaves the final keys. Contains the reason, and two clashing calls on the key
-    /// that the reason names. The clash is `None` only if no call on this key clashes with a call that starts after it
-    /// has ended.
+    /// No order explains the calls and leaves the final keys. Contains the reason, and two calls on the key that the
+    /// reason names. These calls clash: no order can explain both. The clash is `None` only if no call on this key
+    /// clashes with a call that starts after it has ended.
     NotLinearizable(Refusal, Option<Clash>),
 }
 
@@ -49,8 +49,8 @@ fn left_as(keys: &[u32], refusal: Refusal) -> Option<Presence>
     }
 }
 
-/// Returns two clashing calls on the key that `refusal` (the reason of the verdict) names. Returns `None` only if no
-/// call on this key clashes with a call that starts after it has ended.
+/// Returns two calls on the key that `refusal` (the reason of the verdict) names. These calls clash: no order can
+/// explain both. Returns `None` only if no call on this key clashes with a call that starts after it has ended.
 fn clash_for(stream: &Stream, refusal: Refusal, left: Option<Presence>) -> Option<Clash>
     requires told { IsToldBy stream.now.failed (NotLinearizable refusal) }
     requires left { IsSome left → refusal.moment ≡ None }

@@ -260,7 +260,7 @@ fn note_begin(
 }
 
 /// Records the end of a call on a key that has failed the judge's rule (the test of one key's calls). Returns a clash
-/// that involves this call, if the stored facts show one.
+/// (two calls that rule out every order) that involves this call, if the stored facts show one.
 fn note_end(
     states: &mut HashMap<u32, KeyState>,
     alloc: Global,
@@ -488,8 +488,8 @@ impl Stream {
         Ok(())
     }
 
-    /// Forgets the two clashing calls. This is a separate function so that processing the ends of calls needs no stack
-    /// space for a `Clash`.
+    /// Forgets the two clashing calls (no order can explain both). This is a separate function so that processing the
+    /// ends of calls needs no stack space for a `Clash`.
     fn forget_clash(&mut self)
         ensures { self.new ≡ record self.old { clash = None } }
     {
@@ -720,8 +720,9 @@ impl Stream {
         }
     }
 
-    /// Returns a call on `key` that clashes with the key's final state `left`, if the stored facts show one. Returns
-    /// `None` if the judge's rule (the test of one key's calls) has failed for any key.
+    /// Returns a call on `key` that clashes with the key's final state `left` (no order explains the call and leaves
+    /// this state), if the stored facts show one. Returns `None` if the judge's rule (the test of one key's calls) has
+    /// failed for any key.
     pub(crate) fn clash_left(&self, key: u32, left: Presence) -> Option<Clash>
         ensures found { IfSome result (λ c. (self.now.failed ≡ None) × IsFoundLeft key (facts_for self.now.states key) left c) }
         ensures missed { result ≡ None → self.now.failed ≡ None → left ≡ other (facts_for self.now.states key).was

@@ -52,7 +52,8 @@ impl<M: Machine> LiveSet<M> {
         }
     }
 
-    /// Returns a second receipt with the same events. `receipt` must belong to this set. Does not block or allocate.
+    /// Returns a second receipt with the same events (those that the issuing seat had seen). `receipt` must belong to
+    /// this set. Does not block or allocate.
     pub fn copied(&self, receipt: &mut Receipt<M>) -> Receipt<M>
         requires { receipt.old.set ≡ self.now }
         ensures same { receipt.new ≡ receipt.old }

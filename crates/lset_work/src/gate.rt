@@ -2,7 +2,7 @@ ghost use Rattle.std.specs.Prelude.{◌≡◌, Bool, true, false, IsTrue};
 
 /// A gate: decides before each call of a program whether this call is made. A gate cannot access the set.
 pub trait Gate {
-    /// States whether this gate can return false, that is, can stop a program.
+    /// States whether this gate can return false, that is, can stop a program (the calls of one thread).
     ghost may_shut: { Self → Bool } = { λ _. true };
 
     /// Returns whether to make call number `call` (from 0) of the program of thread `seat`.

@@ -12,8 +12,8 @@ pub enum WorkCause {
     /// The system refused to start a thread. The threads that had been started have ended.
     #[error("the system refused to start a thread")]
     Spawn,
-    /// The gate stopped a program: it returned false, and no further call of this program was made. All threads have
-    /// ended.
+    /// The gate (which decides before each call whether to make it) stopped a program: it returned false, and no
+    /// further call of this program was made. All threads have ended.
     #[error("the gate returned false")]
     Gate,
     /// An allocation failed. No thread was started.

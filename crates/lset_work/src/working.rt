@@ -121,7 +121,7 @@ pub fn work<R: Threads + Wait + Sync, M: Running + Send + Sync, G: Gate + Sync>(
     ensures fitting { IsOk result → Fit set seats.items (length programs.items) }
     ensures refused { IfErr result (λ f. f.cause ≡ WorkCause.Programs ↔ ¬ (Fit set seats.items (length programs.items))) }
     ensures back { IfErr result (λ f. GivesBack (set, seats) f.cause f.back) }
-    // If the gate never returns false, no program stops early.
+    // If the gate (which decides before each call whether to make it) never returns false, no program stops early.
     ensures gate { IfErr result (λ f. f.cause ≡ WorkCause.Gate → G.may_shut gate.now ≡ true) }
 {
     if programs.len() != seats.len() || !set.is_held_by(&seats) {

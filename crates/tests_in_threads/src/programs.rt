@@ -161,7 +161,8 @@ impl Shut {
         }
     }
 
-    /// Returns `true` if the gate was asked as often as `wanted` states.
+    /// Returns `true` if the gate (which decides before each call whether to make it) was asked as often as `wanted`
+    /// states.
     fn was_asked(&self, wanted: &[u32]) -> bool {
         self.counts
             .iter()
@@ -215,7 +216,8 @@ fn two_before_zero<M: Running, R: Abort>(rt: &R, alloc: Global) -> (LiveSet<M>, 
     (set, seats)
 }
 
-/// Tests that the gate receives the thread number of each seat, and that the replies are in the order of the seats.
+/// Tests that the gate (which decides before each call whether to make it) receives the thread number of each seat, and
+/// that the replies are in the order of the seats.
 #[test]
 fn seats_work_in_any_order(rt: HostRuntime) {
     let (set, seats) = two_before_zero::<LazyList, HostRuntime>(&rt, rt.alloc());

@@ -1,5 +1,5 @@
 //! Tests of seats (a seat is the right to call a set as one thread): seats call one after another or at the same time,
-//! are gathered, pass receipts, and close the set.
+//! are gathered, pass receipts (records of the events that they have seen), and close the set.
 
 use crate::meeting::{Meeting, calls};
 use crate::opened::{close_with, make_calls, two_seats, two_seats_on};
@@ -132,7 +132,7 @@ fn an_old_receipt_changes_nothing(rt: HostRuntime) {
     at_each_list!(may_be_old, rt);
 }
 
-/// A receipt adds no bytes to a message.
+/// A receipt (a record of the events that a seat has seen) adds no bytes to a message.
 #[test]
 fn a_receipt_has_no_bytes(rt: HostRuntime) {
     assert!(rt; size_of::<Receipt<LazyList>>() == 0);

@@ -84,7 +84,8 @@ pub enum Fault {
     SeatsOut = 16,
     /// No seat (the right to call as one thread) can be split off.
     NoMore,
-    /// The seats (rights to call as one thread), or the seat and the receipt, belong to different sets.
+    /// The seats (rights to call as one thread), or the seat and the receipt (a record of the calls that a seat has seen),
+    /// belong to different sets.
     OtherSet,
     /// `contains_now` requires a lazy or lock-free list.
     ReadsBlock,

@@ -233,7 +233,8 @@ fn reads_that_do_not_block() {
     assert_eq!([most_reads(0, 1, 1), most_reads(65, 1, 1), most_reads(1, 16_385, 1), most_reads(1, 1, (1 << 20) + 1)], [0; 4]);
 }
 
-/// Sends a receipt to another thread. Checks that only a seat of the same set accepts it.
+/// Sends a receipt (a record of the calls that a seat has seen) to another thread. Checks that only a seat of the same set
+/// accepts it.
 #[test]
 fn receipts() {
     for list in LISTS {
