@@ -49,7 +49,7 @@ __all__ = ["Added", "Fault", "Full", "LISTS", "OwnSeat", "Receipt", "RenewedSet"
 
 HERE = pathlib.Path(__file__).resolve().parent
 PLACES = [HERE, HERE / "out" / "lib", HERE.parent.parent / "lib", pathlib.Path("/usr/lib")]
-FIRST_ROOM = 1 << 16  # bytes
+FIRST_ROOM = 1 << 16  # the size of the first buffer for a text, in bytes
 
 
 class Wrong(Exception):
@@ -204,7 +204,7 @@ LISTS = ["coarse", "fine", "optimistic", "lazy", "lock-free"]
 FULL, AT, MAY_BLOCK, NO_SEAT = 2, 3, 254, 255  # the numbers of replies; 0 and 1 are False and True
 NO_MORE, NO_GATHER, SEATS_OUT, BAD_KEYS, READS_BLOCK, TIMED_OUT = 17, 18, 16, 12, 19, 20  # faults
 GREATEST, MOST_OPENING = 2**32 - 1, 2**20
-POLL, LONG = 50e-6, 5e-3  # seconds
+POLL, LONG = 50e-6, 5e-3  # seconds between two attempts to lock; seconds until other threads' new calls must wait
 _NUMBERS = itertools.count()
 
 

@@ -8,7 +8,7 @@
 
 template <listset::list KIND> static bool is_right() {
   listset::options how;
-  how.runs = 7;  // one run for each preset
+  how.runs = 7;  // one run for each preset of threads, calls and keys
   listset::verdict verdict = listset::judge<listset::shared>(how, [] { return std::make_unique<listset::shared>(KIND, 8, 16384); });
   std::cout << verdict << "\n";
   std::string version(listset::version()), proof = version.substr(version.find("\nproof ") + 1);

@@ -11,7 +11,7 @@ fn main() {
             |set, key| set.add(key) == Added::True,
             |set, key| set.remove(key),
             |set, key| set.contains(key),
-            Options { runs: 6, own_process: false, ..Options::default() }, // one run for each of the first six presets
+            Options { runs: 6, own_process: false, ..Options::default() }, // one run for each of six presets of threads, calls and keys
         );
         let verdict = verdict.unwrap();
         println!("{verdict}");

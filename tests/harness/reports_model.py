@@ -11,7 +11,7 @@ from harness.pictures_model import GREATEST, Picture, Place, Refusal, keys_text
 from harness.set_model import CHANGES, SetModel
 
 Report = collections.namedtuple("Report", "kind threads quota opening calls ends order keys")
-HEADER = 4  # lines
+HEADER = 4  # the number of lines in the header of a report
 
 # ---- Reads the text of a report
 

@@ -1,5 +1,5 @@
-//! The five lists: the machine for each kind of list, and the theorem that every run of each machine is linearizable.
-//! `on_list` runs a `Task` on a list if its kind is known only at run time.
+//! The five lists: the machine (a list as a table of steps) for each kind of list, and the theorem that every run of
+//! each machine is linearizable. `on_list` runs a `Task` on a list if its kind is known only at run time.
 #![tactic(auto)]
 
 mod theorem;

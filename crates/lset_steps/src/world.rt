@@ -19,10 +19,11 @@ use std::alloc::{AllocError, Global};
 use std::marker::{Model, PhantomData};
 use thiserror::Error;
 
-/// The error of `World::step`. If several apply, the first in this order is returned. The world is unchanged.
+/// The error of `World::step`. If several apply, the first in this order is returned. The world (a list with its
+/// threads) is unchanged.
 #[derive(Clone, Copy, Debug, PartialEq, Eq, Error)]
 pub enum StepFault {
-    /// The world has no thread with this number.
+    /// The world (a list with its threads) has no thread with this number.
     #[error("no such thread")]
     NoThread,
     /// The thread already has a pending call.
@@ -323,7 +324,8 @@ impl<M: Machine> World<M> {
         Ok(picked)
     }
 
-    /// Lemma: the state of a world satisfies the laws that hold in every state of every run. The function does nothing.
+    /// Lemma: the state of a world (a list with its threads) satisfies the laws that hold in every state of every run.
+    /// The function does nothing.
     fn keeps_its_laws(&self)
         ensures { StateLaws M.table.marks self.now.sizes self.now.state }
     {

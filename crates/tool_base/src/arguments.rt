@@ -38,7 +38,8 @@ pub struct RandomRequest {
     pub seed: u64,
 }
 
-/// The arguments of the command `run`: the arguments of `gen` for the first round, and the number of rounds.
+/// The arguments of the command `run`: the arguments of `gen` for the first round, and the number of rounds. In a
+/// round, the threads make their calls on one set.
 #[derive(Clone, Copy)]
 pub struct LivesRequest {
     /// The arguments of the first round.

@@ -42,7 +42,7 @@ pub enum SystemCause {
     Programs,
     /// The gate, which decides before each call whether the call is made, refused a call.
     Gate,
-    /// A round has more final keys than a set can open with.
+    /// A round (the calls on one set) has left more final keys than the next set can open with.
     Opening,
     /// Some seats of the set are missing. (A seat is the right to call the set as one thread.)
     Seats,

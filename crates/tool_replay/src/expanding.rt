@@ -13,8 +13,8 @@ use lset_words::layout_opening;
 use std::alloc::{AllocError, Global};
 use tool_base::Trouble;
 
-/// Executes the events of one line of a schedule in `world`. Returns the error `TooMany` if the line has more than
-/// `left` events.
+/// Executes the events of one line of a schedule in `world` (a list with its threads). Returns the error `TooMany` if
+/// the line has more than `left` events.
 fn make_plain<M: Machine>(world: &mut World<M>, line: Line, left: u32) -> Result<(), Cause> {
     if line.event_count() > left {
         return Err(Cause::TooMany);

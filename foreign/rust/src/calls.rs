@@ -3,7 +3,7 @@
 
 use crate::Wrong;
 
-const FIRST_ROOM: usize = 4096; // bytes
+const FIRST_ROOM: usize = 4096; // the size of the first buffer for a text, in bytes
 
 type OfRoom = unsafe extern "C" fn(*mut u8, usize, *mut u8) -> usize;
 type OfText = unsafe extern "C" fn(*const u8, usize, *mut u8, usize, *mut u8) -> usize;
