@@ -203,8 +203,8 @@ explain_refusal() {
   echo "$file has no 'key' lines, so it says that the set is empty at the end. If its final keys are not known, write 'cut' instead of 'end': sed -i '\$s/^end\$/cut/' $file"
 }
 
-# Explains the name of a missing file, if the name is `help`, an example or a URL, begins with ~, or lacks the ending of an
-# existing file. Prints nothing for other names.
+# Prints a hint about the name of a missing file, if the name is `help`, an example or a URL, begins with ~, or lacks only the
+# extension of an existing file. Prints nothing for other names.
 print_meant() {
   local command=$1 name=$2 found
   found=$(compgen -G "$(printf '%q' "$name").*" 2>/dev/null) || true

@@ -241,7 +241,7 @@ function briefly(verdict) {
   return { ...verdict, bytes: Buffer.from(lines.filter((line) => line === "" || BRIEF.test(line)).join("\n")) };
 }
 
-// Returns the verdict on a recording or, if `only` is set, the recorded calls of this key. If a recording in a file is refused, reads the file again
+// Returns the verdict on a recording or, if `only` is set, the recorded calls on this key. If a recording in a file is refused, reads the file again
 // and also returns a diagnosis.
 function judged(engine, isBrief, only, file = "-") {
   if (only !== undefined) return keyed(engine, only, file);
@@ -503,7 +503,8 @@ function tooLongHint(name) {
   return `Standard input has more than ${LONGEST} bytes, and only judge reads more. ${shortened}`;
 }
 
-// Returns a hint for the name of a missing file, if the name is `help`, an example, or the name of a single file without its ending.
+// Returns a hint about the name of a missing file, or an empty string. There are hints for `help`, a leading `~`, a URL, the name of an example, and a name that
+// lacks only its extension (if exactly one file fits).
 function meant(engine, name, file) {
   if (file === "help") return `To read about this command: listset help ${name}`;
   if (file.startsWith("~")) return "A shell replaces ~ by your folder only outside of quotes";
@@ -513,7 +514,7 @@ function meant(engine, name, file) {
   return ["replay", "show", "trace"].includes(name) && isExample(engine, file) ? `If you mean the example: listset example ${file} | listset ${name}` : "";
 }
 
-// Returns the file whose name is this name followed by an ending. Returns an empty string if there is no such file, or more than one.
+// Returns the file with this name and an extension. Returns an empty string if there is no such file, or more than one.
 function onlyWithEnding(file) {
   try {
     const found = fs.readdirSync(path.dirname(file)).filter((it) => it.startsWith(`${path.basename(file)}.`));

@@ -13,7 +13,8 @@ import pytest
 from explained import ADD, CALLS, RIGHT, RIGHT_CALLS, RIGHT_REPORT, SCHEDULE
 from harness.programs import SECONDS, TOP, ran, wants, well
 
-# Arguments of the script, the error line (also printed to a pipe), and the lines that only a terminal shows below it
+# For the arguments of a command: the error line, which is printed to terminals and pipes alike, and the lines that are printed
+# below it only on a terminal.
 AT_TERMINAL = {
     "replay no-such": ["listset: cannot read\n", "no-such: there is no such file"],
     "judge .": ["listset: cannot read\n", ".: this is a folder"],

@@ -170,7 +170,9 @@ class Reported:
         return (self.calls[number].reply or reply) != reply or self.answer_at(place) != reply
 
     def explains(self):
-        """Returns whether the report's order explains its calls and ends with its final keys."""
+        """Returns whether the report's order explains its calls: each completed call has one place, no call precedes a call that
+        ended before it began, the replies are right, and the order leaves the report's final keys.
+        """
         numbers = [number for number, _ in self.order]
         completed = {number for number, it in enumerate(self.calls) if it.end}
         if len({*numbers}) < len(numbers) or max(numbers, default=-1) >= len(self.calls) or not completed <= {*numbers}:
@@ -406,8 +408,8 @@ def the_key_has_this_state_at_the_end(case, key, state):
 
 
 def may_be_made(case, word, key, since, until):
-    """Returns whether some call of the operation `word` can have changed the key between `since` and `until`: such a
-    call returned true or is pending, and overlaps this time.
+    """Returns whether a call of the operation `word` could have changed the key between `since` and `until`: the call
+    returned true or is pending, and overlaps this interval.
     """
     return any((it.word, it.key) == (word, key) and changes(it) and it.begin <= until and since <= (it.end or LAST) for it in case.calls)
 

@@ -204,7 +204,9 @@ def name_faults(top, rows):
 
 
 def function_faults(rows):
-    """Yields the functions that rows name but that do not exist, and the clauses in parentheses that do not exist."""
+    """Yields a message for each function that is named in `rows` but does not exist, and for each clause named there that is
+    not an `ensures` clause of the functions listed with it.
+    """
     stated = {}
     for crate, name, text, _ in public_contracts():
         stated[crate, name] = stated.get((crate, name), "") + text

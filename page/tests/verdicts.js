@@ -183,7 +183,7 @@ function isSecond(it, said, text) {
   return said.second !== undefined && needs(said.second) === (need === "present") && said.isPresent !== (need === "present");
 }
 
-// Returns whether no call can have changed the key by this operation during a period. A call that changes a key returns true or is pending.
+// Returns whether no call could have changed the key by this operation during a period. A call that changes a key returns true or is pending.
 function isNoneBetween(it, key, operation, since, until) {
   return !it.calls.some((call) => call.key === key && call.operation === operation && mayChange(call) && call.begun < until && since < (call.ended ?? LAST));
 }
@@ -193,7 +193,7 @@ function checkSentences(properties, it, sentences) {
   for (const sentence of sentences) checkSentence(properties, it, sentence, said);
 }
 
-// Checks a sentence. `said` has the facts from earlier sentences. `line` has the other parts of the line that contains the sentence.
+// Checks a sentence against the first pattern that it matches. `said` holds the facts from earlier sentences, `line` the other parts of the sentence's line.
 function checkSentence(properties, it, sentence, said, line) {
   const [pattern, holds] = properties.find(([one]) => one.test(sentence)) ?? [null, () => false];
   met.add(pattern);
@@ -384,7 +384,7 @@ function isExpected(it, call) {
   return [...around(it, call.key, call)].some(({ calls, isThere, left }) => calls.includes(call) && isOnlyTurned(calls.filter((one) => one !== call), isThere, left));
 }
 
-// Returns whether the calls around a call, or all calls of the key, become linearizable if one change of the key is
+// Returns whether the calls around a call, or all calls on the key, become linearizable if one change of the key is
 // added at some moment.
 function isGone(it, key, wasThere, call) {
   const calls = ofKey(it, key);
@@ -834,7 +834,7 @@ function isLost({ calls, opening, keys }, key) {
   return made("add") === 1 && made("remove") === 0 && !opening.includes(key) && !keys.includes(key);
 }
 
-// Returns whether `first` and `second` contradict each other: no other call can have changed the key between them. Each
+// Returns whether `first` and `second` contradict each other: no other call could have changed the key between them. Each
 // describes a call; `first` can also be the key's opening state, and `second` its final state.
 function isToldSo(it, key, first, second) {
   const looks = it.calls.map((call) => ({ ...asLook(call), told: `${nameIn(call)} ${call.ended === null ? "is pending" : `answers ${call.reply}`}` }));

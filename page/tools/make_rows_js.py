@@ -22,7 +22,7 @@ def plain(text):
 
 
 def leads_of(then):
-    """Returns the rows that can follow a row, each with the reason for the jump, from the row's column "Then"."""
+    """Returns the rows that can follow a row, keyed by the reason for the jump. `then` is the text in the row's column "Then"."""
     found = {name: re.search(pattern, then) for name, pattern in LEADS.items()}
     return {name: int(next(filter(None, match.groups()))) for name, match in found.items() if match}
 

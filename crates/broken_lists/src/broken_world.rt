@@ -10,7 +10,8 @@ use lset_text::Cause;
 use lset_words::{Call, Layout, MOST_NODES, MOST_QUOTA, MOST_THREADS};
 use std::alloc::{AllocError, Global};
 
-/// A broken list (a list without one of its checks) during a run: its shared words and the local state of each thread.
+/// A broken list (a list without one of its checks) during a run: its shared words and the private state of each
+/// thread.
 #[derive(Drop)]
 pub struct BrokenWorld {
     alloc: Global,
@@ -19,7 +20,7 @@ pub struct BrokenWorld {
     locals: Vec<Local>,
 }
 
-/// Returns whether all numbers in a thread's local state are within their limits. Computing with such numbers cannot
+/// Returns whether all numbers in a thread's private state are within their limits. Computing with such numbers cannot
 /// overflow.
 fn is_small(local: &Local) -> bool
     ensures { IsTrue result → IsSmall local.now }

@@ -98,8 +98,8 @@ pub extern "C" fn listset_stats_from(
     hand(stats_input(alloc, &mut input), room, status)
 }
 
-/// Judges a recording and writes the verdict as a record. Each line of a record has a name and values. If some order
-/// explains the recorded calls, the record is `verdict ok`, `calls N`, `overlapped N` and `cut BOOL`.
+/// Judges a recording and writes the verdict as a record. Each line of a record consists of a name and values. If some
+/// order explains the recorded calls, the record is `verdict ok`, `calls N`, `overlapped N` and `cut BOOL`.
 ///
 /// If no order does, the status is 1 and the record is `verdict none` and `key K`, and `moment M` unless the key is
 /// refused because of its final state. If a contradiction was found, these lines follow: `clash BOOL`, which states
@@ -127,7 +127,7 @@ pub extern "C" fn listset_why(alloc: Global, text: &[u8], room: &mut [u8], statu
     hand(diagnose_text(alloc, text), room, status)
 }
 
-/// Diagnoses a refused recording and writes a record, with status 1. The record has these lines, in this order:
+/// Diagnoses a refused recording and writes a record, with status 1. The record consists of these lines, in this order:
 /// - `headline TEXT`;
 /// - `call THREAD OPERATION KEY BEGIN END REPLY MARK` for each call to show, ordered by start; MARK is `-`,
 ///   `expected BOOL`, `leaves STATE`, `finds STATE` or `either`, and STATE is `present` or `absent`;
@@ -170,7 +170,7 @@ pub extern "C" fn listset_why_from(
 }
 
 /// Checks a report and writes the verdict as a record. If the report's order explains its calls, the record is `verdict
-/// own`. Otherwise the status is 1 and the record has these parts:
+/// own`. Otherwise the status is 1 and the record consists of these parts:
 /// - `order ERROR CALL ..`, the order's first error with its details: the reply in the order, its place and the set's
 ///   reply; or the call's start, the other call and its end;
 /// - `set K ..`, only for `SetReply` and `WrongSet`;

@@ -1,4 +1,4 @@
-//! Writes verdicts as records. Each line of a record has a name and values.
+//! Writes verdicts as records. Each line of a record consists of a name and values.
 
 use lset_judge::{Clash, Refusal, StreamCall, Verdict};
 use lset_picture::{Refusal as OrderRefusal, picture_of_report};

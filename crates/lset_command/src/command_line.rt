@@ -40,7 +40,7 @@ pub struct Options {
     pub width: Option<String>,
     /// Whether `judge` prints the verdict only, without an explanation.
     pub brief: bool,
-    /// The key selected by `--only`: `judge` prints the calls of this key and no others.
+    /// The key selected by `--only`: `judge` prints the calls on this key and no others.
     pub only: Option<String>,
     /// Whether `trace` prints the chain of nodes.
     pub chain: bool,

@@ -19,7 +19,7 @@ pub(crate) enum Job {
     Judge,
     /// Print the verdict of `judge` alone, without a contradiction, advice or explanation.
     Verdict,
-    /// Print the recorded calls of one key.
+    /// Print the recorded calls on one key.
     OneKey(u32),
     Stats,
     Check,

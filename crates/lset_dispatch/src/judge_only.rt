@@ -1,4 +1,4 @@
-//! Implements `judge --only KEY`, which prints the recorded calls of one key.
+//! Implements `judge --only KEY`, which prints the recorded calls on one key.
 
 use lset_recording::RecordingReader;
 use std::alloc::Global;
@@ -6,7 +6,7 @@ use std::io::Read;
 use tool_base::{Answer, READ_SIZE, Trouble, ValueName};
 use tool_facts::{RunReader, recording_of_key};
 
-/// Returns a recording that contains the calls of one key only. If this key is refused, returns only the few calls that
+/// Returns a recording that contains the calls on one key only. If this key is refused, returns only the few calls that
 /// show why. Allocates. Blocks while reading the input.
 ///
 /// # Errors

@@ -214,7 +214,7 @@ impl Changes {
         self.first(key, true, moment, moment).0.is_some()
     }
 
-    /// Returns the first entry of `keys_at` after `moment`: a moment, and the only key that can have changed at that
+    /// Returns the first entry of `keys_at` after `moment`: a moment, and the only key that could have changed at that
     /// moment. No key changed between `moment` and the result. Returns `None` if no change comes after `moment`.
     fn note_after(&self, moment: u32) -> Option<(u32, u32)>
         ensures { IsNextNote (moments_of self.now) moment result }

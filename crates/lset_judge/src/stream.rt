@@ -50,7 +50,8 @@ pub(crate) const BEHIND_ALL: u64 = 1 << 63;
 /// The reason why a call cannot be the next one. If several reasons apply, the reason that is listed first is returned.
 #[derive(Clone, Copy, Debug, PartialEq, Eq, Error)]
 pub enum StreamFault {
-    /// The call starts at moment 0 or no later than an earlier call, or one of its moments is above `LAST_MOMENT`.
+    /// The call starts at moment 0, or does not start after all calls before it in the stream, or one of its moments is
+    /// above `LAST_MOMENT`.
     #[error("the call begins at moment 0 or no later than an earlier call, or a moment is too large")]
     Early,
     /// The call ends no later than it starts.

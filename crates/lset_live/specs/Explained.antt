@@ -1,5 +1,5 @@
 -- Conditions in the contracts of running sets: about the calls of a set, and about closing a set. A seat is the right
--- to call as one thread; its record has its completed calls.
+-- to call as one thread; its record lists its completed calls.
 use Rattle.std.specs.Prelude.{◌≡◌, ℕ, ◌+◌, ◌<◌, ◌≤◌, ◌⊎◌, List, [], ◌∷◌, ◌++◌, All, Some, length, map}
 use mathlib.Core.Option.{some}
 use lib.ListN.{get_elem?}

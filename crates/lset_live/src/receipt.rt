@@ -1,5 +1,5 @@
-//! Receipts. A receipt is a token that one thread sends to another. It contains the events that a seat (the right to
-//! call as one thread) had seen.
+//! Receipts. A receipt is a token that one thread sends to another. It records the events that a seat had seen when it
+//! issued the receipt. (A seat is the right to call the set as one of its threads.)
 ghost use Rattle.std.specs.Prelude.{◌≡◌};
 ghost use Rattle.lset_live.specs.Explained.{ReceiptsKeepOrder};
 ghost use Rattle.lset_rule.specs.Runs.{StartsWith};

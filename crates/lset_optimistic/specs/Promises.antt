@@ -47,7 +47,7 @@ pub record IsLockedInChain (v : View) (t a : ℕ) : Type 0 where
   pub mine : v.lock a ≡ t + 1
 
 -- Holds if node a was in the chain at some moment from `first` to `now`, and thread t has held the lock of pred since
--- then. Node a itself can have left the chain.
+-- then. Node a itself could have left the chain.
 pub record WasInChain (vs : ℕ → View) (first now t pred a : ℕ) : Type 0 where
   pub at : ℕ
   pub from : first ≤ at

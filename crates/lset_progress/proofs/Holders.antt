@@ -1,5 +1,5 @@
--- Proof: a thread that holds a lock has a pending call, and the call is at a row of the step table that allows this
--- lock. Therefore no thread waits for itself, and the holder of a lock can always take another step.
+-- Proof: a thread that holds a lock has a pending call, and the call is at a row of the step table where the thread can
+-- hold this lock. Therefore no thread waits for itself, and the holder of a lock can always take another step.
 use Rattle.std.specs.Prelude.{◌≡◌, ◌≢◌, ℕ, ◌+◌, ◌<◌, ◌≤◌, ◌⊎◌, if◌then◌else◌, ◌==◌, slice_index, length, refl}
 use Rattle.std.proofs.Common.{arith, inl, inr, sym, ◌∙◌, ap, subst, zero, suc}
 use Rattle.lset_words.proofs.Numbers.{same_or_not, if_same, if_other}

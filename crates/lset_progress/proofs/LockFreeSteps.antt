@@ -1,5 +1,5 @@
--- Proves how a step of LockFreeList that does not end its call can change the nodes. Only the step that ends an `add`
--- links a node.
+-- Proves what a step of LockFreeList can change in the nodes if it does not end its call. Such a step never links a
+-- node: only the step that ends an `add` does.
 use Rattle.std.specs.Prelude.{◌≡◌, ◌≢◌, ℕ, ◌<◌, ◌≤◌, ◌⊎◌, Bool, true, false, Option, Some, None, ◌||◌, refl}
 use Rattle.std.proofs.Common.{arith, inl, inr, sym, ◌∙◌, ap, subst, suc}
 use Rattle.lset_words.proofs.Numbers.{same_or_not}

@@ -18,7 +18,7 @@ use Rattle.lset_replay.proofs.ReplayKept.{Follows}
 use Rattle.lset_replay.proofs.KeyChanges.{HoldsKeys}
 use Rattle.lset_replay.proofs.RecorderReady.{follows}
 
--- A run without its words and local states: its log (the effect of each event) and, for each moment, the keys in the
+-- A run without its words and private states: its log (the effect of each event) and, for each moment, the keys in the
 -- set and the number of keys that each thread has added.
 pub record Shown : Type 1 where
   pub log : Log

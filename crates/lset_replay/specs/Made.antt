@@ -1,4 +1,4 @@
--- The effect of an event on the shared words of a list and on the local states of its threads (together: its world).
+-- The effect of an event on the shared words of a list and on the private states of its threads (together: its world).
 use Rattle.std.specs.Prelude.{◌≡◌, Result, Ok, Err}
 use Rattle.lset_text.specs.declared.causes.Cause.{Cause}
 use Rattle.lset_text.specs.declared.causes.Cause.TheVariants as cause

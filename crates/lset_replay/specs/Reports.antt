@@ -34,7 +34,7 @@ pub record IsReportOf (T : Table) (op : Opening) (events : List Event)
   -- The final keys in the report are the keys of the set after the last event.
   pub content : IsContent (views T op (event_at events) (length events)) keys
 
--- Returns the shared words and the threads' local states after the first k events.
+-- Returns the shared words and the threads' private states after the first k events.
 abbrev pub world_after : Table → Opening → List Event → ℕ → WorldState
 world_after T op events k = record { sizes = sizes op; state = state_at T op (event_at events) k }
 

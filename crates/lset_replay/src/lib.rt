@@ -1,5 +1,5 @@
-//! Replays schedules event by event and reports the runs. A report has the history of the calls, an order that explains
-//! the history, and the final keys.
+//! Replays schedules event by event and reports the runs. A report contains the history of the calls, an order that
+//! explains the history, and the final keys.
 //!
 //! One loop, `follow`, executes the events of a schedule, and a `Recorder` collects the calls. For a list, both are
 //! proved: `replay` returns the report of the run. `calls_of` returns the calls for a picture, and `TracedRun` reports

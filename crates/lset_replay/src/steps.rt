@@ -9,13 +9,13 @@ use lset_steps::{Action, ChainKey, Event, Local, Machine, StepFault, Told, World
 use lset_text::Cause;
 use std::alloc::AllocError;
 
-/// The world of a run: the shared words of a list or a broken list, and the local states of its threads. The events of
-/// the run are executed in this world.
+/// The world of a run: the shared words of a list or a broken list, and the private states of its threads. The events
+/// of the run are executed in this world.
 pub trait Steps {
     /// Specifies the effect of an event. The default, which is used for broken lists, allows any effect.
     ghost makes: { Self → Event → Result Told Cause → Self → Type 0 } = { λ world event made after. Unit {0} };
 
-    /// Returns the local state of thread `t`, or `None` if there is no such thread.
+    /// Returns the private state of thread `t`, or `None` if there is no such thread.
     fn held(&self, t: u32) -> Option<Local>;
 
     /// Returns the next access of thread `t` to a shared word, with the value that the access will find. Returns `None`

@@ -101,7 +101,7 @@ impl<W: Steps + Drop> TracedRun<W> {
         Ok(told)
     }
 
-    /// Returns the local state of the event's thread before the event, and the action of the event. Returns `None` if
+    /// Returns the private state of the event's thread before the event, and the action of the event. Returns `None` if
     /// the thread does not exist or cannot take a step.
     fn look(&self, event: Event) -> Option<(Local, Deed)> {
         let deed = match event {

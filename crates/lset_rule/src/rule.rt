@@ -63,8 +63,8 @@ impl Split<View> for SplitSeat {
     ghost right = { right_view };
 }
 
-/// The view of a seat (its knowledge of the run) after another seat was merged into it: the seat now also has the other
-/// seat's threads and record.
+/// The view of a seat (its knowledge of the run) after another seat was merged into it: the seat now also knows the
+/// other seat's threads and record.
 pub struct JoinSeats;
 
 impl Join<View> for JoinSeats {

@@ -8,8 +8,8 @@ use lset_words::{Call, Reply};
 use std::collections::LinkedList;
 use std::marker::Model;
 
-/// The opening of a set: the number of threads, the number of keys that each thread can add (its quota), and the
-/// opening keys. It never changes.
+/// What a set was opened with: the number of threads, the number of keys that each thread can add (its quota), and the
+/// opening keys. These never change.
 #[derive(Drop)]
 pub struct Opened {
     threads: u32,

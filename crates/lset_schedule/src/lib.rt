@@ -22,8 +22,8 @@ pub use value::{Line, Schedule};
 /// The first line of a schedule of version 1, with the calls `add`, `remove` and `contains`.
 const TITLE_ONE: &str = "listset-schedule 1";
 
-/// The first line of a schedule of version 2, which also has opening keys (the keys of the set at the start) and the
-/// call `ceiling`.
+/// The first line of a schedule of version 2, which can also state opening keys (the keys of the set at the start) and
+/// contain the call `ceiling`.
 const TITLE_TWO: &str = "listset-schedule 2";
 
 /// The number of the first line after the header of a schedule. Lines are numbered from 1.

@@ -1,5 +1,5 @@
 -- A step that changes no published node (no node that has been in the chain) changes neither the chain nor the keys of
--- the set. This file also has basic lemmas about nodes in the chain.
+-- the set. This file also proves basic lemmas about nodes in the chain.
 use Rattle.std.proofs.Common.{◌≡◌, ◌≢◌, ℕ, ◌/◌, ◌%◌, ◌<◌, ◌≤◌, inl, List, ◌∷◌, ◌++◌, sym, refl, ap, subst, ◌∙◌, arith}
 use Rattle.lset_steps.specs.Chain.{View, Segment, InChain, InContent, IsOrdered}
 use Rattle.lset_steps.proofs.Moves.{Quiet, KeepsNodes}

@@ -1,5 +1,5 @@
 -- Assertions about the two nodes that a walk without locks has reached: they are published (have been in the chain),
--- and the first has a smaller key than the call's. Both nodes can have left the chain since.
+-- and the first has a smaller key than the call's. Both nodes could have left the chain since.
 use Rattle.std.specs.Prelude.{◌≡◌, ◌≢◌, ℕ, ◌+◌, ◌*◌, ◌/◌, ◌<◌, ◌≤◌, Bool, true, None, List, slice_set}
 use Rattle.std.proofs.Common.{arith, ◌∙◌, ap}
 use Rattle.lset_words.specs.Words.{lock_index, tail_word, node_count, Sizes}

@@ -1,4 +1,5 @@
-//! Tests of contradictions found by counting: some calls need a key to change back more often than it can have changed.
+//! Tests of contradictions found by counting: some calls need a key to change back more often than it could have
+//! changed.
 
 use crate::prelude::*;
 use crate::test_histories::{FIVE, reply_of};

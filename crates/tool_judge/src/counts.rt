@@ -131,7 +131,7 @@ fn put_stretch(out: &mut String, count: &Count, is_one: bool) -> Result<(), Allo
     Ok(())
 }
 
-/// Writes the calls that can have changed the key back. A contradiction has too few of them.
+/// Writes the calls that could have changed the key back. A contradiction has too few of them.
 fn put_backs(out: &mut String, count: &Count) -> Result<(), AllocError> {
     let (word, key) = (call_word(maker(count, other(count.was))), count.key.0);
     let all = count.backs.len();
@@ -162,8 +162,8 @@ fn put_backs(out: &mut String, count: &Count) -> Result<(), AllocError> {
 }
 
 /// Writes the three lines of a contradiction by counting: the calls that need the key in one state, how many times the
-/// key must change back between these calls, and the calls that can have changed it back, which are fewer than needed.
-/// Shortens long lists of calls. Allocates.
+/// key must change back between these calls, and the calls that could have changed it back, which are fewer than
+/// needed. Shortens long lists of calls. Allocates.
 pub fn put_count(out: &mut String, count: &Count) -> Result<(), AllocError> {
     write!(out, "contradiction: ")?;
     put_calls(out, count)?;

@@ -12,13 +12,13 @@ use std::alloc::{AllocError, Global};
 use std::io::Read;
 use tool_base::{Answer, READ_SIZE, Trouble};
 
-/// The level of detail of an answer. Every answer has the verdict. After `ok`, it has the number of calls that overlap
-/// a change of their key, and a remark if the recording was cut off.
+/// The level of detail of an answer. Every answer states the verdict. After `ok`, it states the number of calls that
+/// overlap a change of their key, and a remark if the recording was cut off.
 #[derive(Clone, Copy, PartialEq, Eq)]
 pub(crate) enum Detail {
-    /// The answer also has the contradiction if one was found, and advice if few calls overlap.
+    /// The answer also shows the contradiction if one was found, and advice if few calls overlap.
     Whole,
-    /// The answer has neither a contradiction nor advice.
+    /// The answer shows neither a contradiction nor advice.
     Brief,
 }
 
@@ -84,11 +84,11 @@ fn answer_of(alloc: Global, reader: RecordingReader, detail: Detail) -> Result<A
 /// the recording was cut off, its final keys are unknown. In this case the answer is `ok` if some order explains the
 /// replies, whatever its final keys are. Allocates. Does not block.
 ///
-/// After `ok N calls`, the answer has the number of calls that overlap a change of their key, advice if these are
+/// After `ok N calls`, the answer states the number of calls that overlap a change of their key, advice if these are
 /// fewer than 5 of 100, and a remark if the recording was cut off. After `not linearizable`, the answer names a key
 /// with calls that no order explains, and a moment (a time in the recording): already the calls up to this moment have
 /// no order. If a contradiction was found, the answer also shows it: one call leaves the key in a state, another call
-/// needs the opposite state, and no call can have changed the state in between. The key's first or final state can
+/// needs the opposite state, and no call could have changed the state in between. The key's first or final state can
 /// take the place of a call.
 ///
 /// # Errors

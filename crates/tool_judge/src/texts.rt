@@ -124,8 +124,8 @@ fn end_of(clash: Option<Clash>) -> Option<u64> {
     Some(end)
 }
 
-/// Returns a line if the second call of the contradiction ended after the moment of the refusal. Otherwise returns an
-/// empty string.
+/// Returns a note if the second call of the contradiction ended after the moment of the refusal: the judge found no two
+/// contradicting calls up to that moment. Otherwise returns an empty string.
 fn later_note(alloc: Global, refusal: Refusal, clash: Option<Clash>) -> Result<String, AllocError> {
     match (refusal.moment, end_of(clash)) {
         (Some(moment), Some(end)) if moment < end => format!(in alloc;
@@ -135,8 +135,7 @@ fn later_note(alloc: Global, refusal: Refusal, clash: Option<Clash>) -> Result<S
     }
 }
 
-/// Returns the lines of `refused_text`. Appends a line if the second call of the contradiction ended after the moment
-/// of the refusal. Allocates.
+/// Returns the lines of `refused_text`, followed by the note of `later_note`. Allocates.
 pub(crate) fn refusal_text(
     alloc: Global,
     refusal: Refusal,

@@ -47,7 +47,7 @@ fn make_line<M: Machine>(world: &mut World<M>, line: DraftLine, left: u32) -> Re
     }
 }
 
-/// Creates the world of a draft (shared words and local states), before the first event.
+/// Creates the world of a draft (shared words and private states), before the first event.
 fn start_of<M: Machine>(alloc: Global, draft: &Draft) -> Result<World<M>, AllocError> {
     let keys = draft.opening.as_slice();
     let Ok(layout) = layout_opening(draft.threads, draft.quota, keys.len() as u32) else {

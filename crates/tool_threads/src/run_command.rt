@@ -109,8 +109,8 @@ fn run_rounds<M: Running + Send + Sync, R: Threads + Wait + Sync>(
 ///
 /// All programs of a round run at the same time on one set. The programs of round `i`, counted from 0, are generated
 /// from the seed plus `64 * i` (wrapping). The first set opens empty, and every later set with the final keys of the
-/// previous round. The text has the lines `calls N`, `true N`, `false N`, `full N` and `keys N`, followed by `key k`
-/// for each final key of the last round, in increasing order. Allocates. Blocks until all threads have ended.
+/// previous round. The text consists of the lines `calls N`, `true N`, `false N`, `full N` and `keys N`, followed by
+/// `key k` for each final key of the last round, in increasing order. Allocates. Blocks until all threads have ended.
 pub fn run_lives<R: Threads + Wait + Sync>(
     rt: &R,
     alloc: Global,

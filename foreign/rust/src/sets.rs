@@ -179,7 +179,7 @@ pub struct Receipt {
 // SAFETY: as for `Seat`.
 unsafe impl Send for Receipt {}
 
-// SAFETY: no function has a parameter `&Receipt`.
+// SAFETY: apart from `Debug`, no function takes a `&Receipt`, so threads that share a receipt can only print it.
 unsafe impl Sync for Receipt {}
 
 /// Returns the maximum number of steps of [`Seat::contains_now`] on a list that was opened with `seats` seats, this

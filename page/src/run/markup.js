@@ -1,4 +1,4 @@
-// Builds elements as text. Also has the words that drawings and sentences share.
+// Builds elements as strings. Also defines the words that appear both in drawings and in sentences.
 import { LISTS } from "../../made/rows.js";
 
 const SIGNS = { "&": "&amp;", "<": "&lt;", ">": "&gt;", '"': "&quot;" };

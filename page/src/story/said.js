@@ -45,7 +45,7 @@ function lockSaid(event, who, plain, waits) {
   return `wants ${what}, but ${chipOf(event.saw.slice(1))} holds it. ${bold(waits ? "It waits." : "It continues all the same.")}`;
 }
 
-// Decides whether the key belongs just before the node `owner` of the chain. Other threads can have changed the list since the walk passed.
+// Decides whether the key belongs just before the node `owner` of the chain. Other threads could have changed the list since the walk passed.
 function isPlaceOf(state, key, owner) {
   const chain = state.chain();
   const at = chain.indexOf(owner);

@@ -62,7 +62,7 @@ fn put_key_change(out: &mut Chunk, name: &str, before: u64, after: u64) {
     }
 }
 
-/// Writes each changed register of a thread's local state, with its new value.
+/// Writes each changed register of a thread's private state, with its new value.
 fn put_changes(out: &mut Chunk, before: &Local, after: &Local) {
     put_node_change(out, " pred ", before.pred, after.pred);
     put_node_change(out, " curr ", before.curr, after.curr);
