@@ -262,7 +262,7 @@ def in_pieces(program, text, size):
 
 @pytest.mark.parametrize("size", [1, 7, 16, 4096])
 def test_the_verdict_does_not_depend_on_the_pieces(program, size):
-    """Tests a recording, the same without its last newline, and the same with a wrong title. Each text must have the
+    """Tests a recording, a copy of it without the last newline, and a copy with a wrong title. Each text must have the
     same verdict when it is written in pieces.
     """
     rng = random.Random(size)

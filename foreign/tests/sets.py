@@ -178,7 +178,7 @@ def reads_and_receipts(kind):
 
 
 def renewed_by_hand():
-    """Renews a set as a set of another list with the same keys. Checks that a refused renewal loses nothing."""
+    """Replaces a set by a set of another list with the same keys (`renew`). Checks that a refused renewal loses nothing."""
     first = listset.open("lazy", 3, 1, [5])
     seats = [first, first.split(), first.split()]
     assert seats[0].add(7) and seats[1].add(8) and raised(seats[0].add, 9)[0] is listset.Full
