@@ -1,6 +1,7 @@
 //! Draws a diagnosis, with calls as bars. Bars overlap in columns if their calls overlap in time.
 
-use crate::diagnosis::{Diagnosis, MOST_AROUND, Mark};
+use crate::diagnosis::{Diagnosis, Mark};
+use crate::showing::MOST_AROUND;
 use std::alloc::{AllocError, Global};
 use tool_calls::{Made, NEVER, state_word};
 

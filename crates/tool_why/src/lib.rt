@@ -6,11 +6,16 @@ mod as_record;
 mod bars;
 mod because;
 mod causes;
+mod choosing;
 mod counted;
 mod diagnosis;
 mod explaining;
 mod likely;
+mod likely_odd;
+mod likely_races;
 mod sentences;
+mod shares;
+mod showing;
 
 pub use as_record::diagnosis_record;
 pub use diagnosis::{Diagnosis, diagnose};

@@ -1,0 +1,220 @@
+//! The likely cause if one operation alone is wrong.
+
+use crate::causes::Cause;
+use crate::shares::{ENOUGH, is_least, share_of_all};
+use tool_calls::Operation;
+use tool_facts::Odd;
+
+/// Returns `true` if the chance that all wrong answers overlapped changes of other keys by accident is less than one in
+/// four.
+fn is_no_chance(odd: &Odd) -> bool {
+    share_of_all(odd.usual, odd.missed) < 250_000
+}
+
+/// The minimum number of wrong answers for a guess from the calls that they overlapped.
+const LEAST_BESIDE: u64 = 8;
+
+/// Returns whether nearly all wrong answers overlapped another add or remove of their key or a change of another key,
+/// more often than by chance.
+fn is_beside_others(odd: &Odd) -> bool {
+    odd.wrong >= LEAST_BESIDE
+        && is_least(odd.active, odd.wrong, 90)
+        && share_of_all(odd.usually_active, odd.wrong) < 100_000
+}
+
+/// Returns whether all of at least five wrong answers overlapped another add or remove of their key or a change of
+/// another key, and the chance of that is less than one in a thousand.
+fn is_beside_each(odd: &Odd) -> bool {
+    odd.wrong >= ENOUGH
+        && odd.active == odd.wrong
+        && share_of_all(odd.usually_active, odd.wrong) < 1_000
+}
+
+/// Returns whether the wrong answers overlapped another add or remove of their key or a change of another key hardly
+/// more often than the other answers did.
+fn is_beside_by_habit(odd: &Odd) -> bool {
+    let share = odd.active.saturating_mul(100).checked_div(odd.wrong);
+    odd.wrong >= 5 && share.unwrap_or(0) <= odd.usually_active.saturating_add(10)
+}
+
+/// Returns whether all wrong answers overlapped another add or remove of any key, successful or not, more often than by
+/// chance.
+fn is_beside_writers(odd: &Odd) -> bool {
+    odd.wrong >= LEAST_BESIDE
+        && odd.writing == odd.wrong
+        && share_of_all(odd.usually_writing, odd.wrong) < 100_000
+}
+
+/// Returns `true` if `some` is at least three quarters of the wrong answers that missed a present key.
+fn are_most(some: u64, odd: &Odd) -> bool {
+    some.saturating_mul(4) >= odd.missed.saturating_mul(3)
+}
+
+/// Returns whether answers are wrong even if no calls overlap.
+fn needs_no_overlap(odd: &Odd) -> bool {
+    odd.apart >= 2 && is_least(odd.apart, odd.placed, 10)
+}
+
+/// Returns whether the key that `contains` misses is nearly always the largest present key.
+fn is_last(odd: &Odd) -> bool {
+    let is_each = odd.compared >= 10 && is_least(odd.largest, odd.compared, 95);
+    is_each && odd.keys >= 2 && odd.usually_largest <= 75
+}
+
+/// Returns the likely cause if only `contains` is wrong, and all its wrong answers miss present keys.
+fn cause_of_misses(odd: &Odd) -> Option<Cause> {
+    if is_size(odd) {
+        Some(Cause::SizeFirst)
+    } else if odd.running == odd.missed {
+        Some(Cause::NotSeenYet)
+    } else if is_last(odd) && !is_passing(odd) {
+        Some(Cause::LastKey)
+    } else if needs_no_overlap(odd) {
+        Some(Cause::EndsEarly)
+    } else if is_beside_others(odd) || is_beside_writers(odd) {
+        Some(moved(odd))
+    } else if is_lasting(odd) {
+        Some(Cause::Shortcut)
+    } else if is_passing(odd) && odd.wrong >= LEAST_BESIDE && is_least(odd.active, odd.wrong, 90) {
+        Some(moved(odd))
+    } else if odd.missed < LEAST_WRONG {
+        is_beside_each(odd).then_some(Cause::MovedOrShortcut)
+    } else if is_beside_by_habit(odd) || !is_least(odd.active, odd.wrong, 80) {
+        Some(if odd.is_exact && is_least(odd.active, odd.wrong, 50) {
+            Cause::MovedOrShortcut
+        } else {
+            Cause::Shortcut
+        })
+    } else {
+        Some(Cause::MovedOrShortcut)
+    }
+}
+
+/// Returns the likely cause if `contains` is wrong while other calls run: calls of its own key, if such calls ran during
+/// most wrong answers and clearly more often than during other answers, and otherwise changes of other keys.
+fn moved(odd: &Odd) -> Cause {
+    let least = odd.usually_same.saturating_add(25).max(75);
+    if is_least(odd.same, odd.wrong, least) {
+        Cause::HalfDone
+    } else {
+        Cause::MovedKeys
+    }
+}
+
+/// The minimum number of wrong answers for a guess, unless a fact applies to all or nearly all wrong answers.
+const LEAST_WRONG: u64 = 20;
+
+/// Returns whether many wrong answers are followed by another wrong answer, with no change of the key in between.
+fn is_lasting(odd: &Odd) -> bool {
+    let next = odd.then_right.saturating_add(odd.then_wrong);
+    odd.is_exact && odd.then_wrong >= 3 && is_least(odd.then_wrong, next, 20)
+}
+
+/// Returns whether nearly all wrong answers are followed by a right answer, with no change of the key in between.
+fn is_passing(odd: &Odd) -> bool {
+    let next = odd.then_right.saturating_add(odd.then_wrong);
+    odd.is_exact && odd.then_right >= 3 && is_least(odd.then_right, next, 90)
+}
+
+/// Returns `true` if the wrong answers of `contains` mostly occur while no other key is present, more often than by
+/// chance.
+fn is_size(odd: &Odd) -> bool {
+    let more_often = odd.usually_lonely.saturating_add(35);
+    odd.compared >= 3
+        && is_least(odd.lonely, odd.compared, more_often)
+        && share_of_all(odd.usually_lonely, odd.lonely) < 50_000
+}
+
+/// Returns `true` if all wrong answers agree with the last earlier call of the same key by the same thread.
+fn is_own(odd: &Odd) -> bool {
+    odd.wrong >= 8 && odd.own == odd.wrong
+}
+
+/// Returns the likely cause if only `contains` is wrong, and all its wrong answers find absent keys.
+fn cause_of_finds(odd: &Odd) -> Option<Cause> {
+    let is_once_present = odd.by_same.saturating_add(odd.by_others) > 0;
+    if odd.running.saturating_mul(2) >= odd.found {
+        let is_clear = odd.running == odd.found || odd.found >= LEAST_WRONG;
+        is_clear.then_some(Cause::MarkNotRead)
+    } else if odd.found >= 3 && is_least(odd.starting, odd.found, 90) {
+        Some(Cause::SeenEarly)
+    } else if odd.starting.saturating_mul(2) < odd.found && is_once_present {
+        let unseen = odd.by_same.saturating_add(odd.by_others);
+        let is_soon = odd.found < 50 && is_least(odd.soon, unseen, 90);
+        Some(if is_soon {
+            Cause::MarkOrCopy
+        } else {
+            Cause::TakenLater
+        })
+    } else {
+        None
+    }
+}
+
+/// Returns the likely cause if only `contains` is wrong.
+fn cause_of_contains(odd: &Odd) -> Option<Cause> {
+    if is_own(odd) && odd.found > 0 && odd.running.saturating_mul(2) < odd.wrong {
+        Some(Cause::ThreadCache)
+    } else if odd.missed > 0 && odd.found > 0 {
+        let is_moved = odd.wrong >= 8 && is_least(odd.active, odd.wrong, 95);
+        if is_moved && is_beside_others(odd) {
+            Some(moved(odd))
+        } else if is_passing(odd) && odd.active == odd.wrong {
+            // (a copy that is updated late is wrong also while no change runs)
+            None
+        } else {
+            Some(Cause::LateCopy)
+        }
+    } else if odd.found > 0 {
+        cause_of_finds(odd)
+    } else {
+        cause_of_misses(odd)
+    }
+}
+
+/// Returns the likely cause if only `remove` is wrong.
+fn cause_of_remove(odd: &Odd) -> Option<Cause> {
+    let is_beside = odd.beside == odd.missed && are_most(odd.adding, odd);
+    let is_only_beside_adds = !is_least(odd.removing, odd.missed, 60);
+    if odd.missed >= 3 && is_beside && is_only_beside_adds && is_no_chance(odd) {
+        Some(Cause::RemoveShortcut)
+    } else if needs_no_overlap(odd) {
+        Some(Cause::EndsEarly)
+    } else if odd.missed >= LEAST_WRONG {
+        Some(Cause::RemoveGivesUp)
+    } else {
+        None
+    }
+}
+
+/// Returns the likely cause if only `add` is wrong.
+fn cause_of_add(odd: &Odd) -> Option<Cause> {
+    if odd
+        .running
+        .saturating_add(odd.by_same)
+        .saturating_add(odd.by_others)
+        == 0
+    {
+        return None;
+    }
+    if needs_no_overlap(odd) || is_lasting(odd) || odd.running.saturating_mul(2) >= odd.wrong {
+        Some(Cause::AddSeesRemoved)
+    } else if is_beside_others(odd) {
+        Some(Cause::AddGivesUp)
+    } else {
+        None
+    }
+}
+
+/// Returns the likely cause if one operation alone is wrong. `keys` is the number of keys in the recording.
+pub(crate) fn cause_of_odd(odd: &Odd, keys: u64) -> Option<Cause> {
+    let is_often = odd.wrong >= odd.keys.saturating_mul(2);
+    let is_some = !is_least(odd.keys, keys, 75) && odd.wrong >= keys.saturating_mul(5);
+    match odd.operation {
+        Operation::Add => cause_of_add(odd),
+        _ if odd.never_finds && is_often => Some(Cause::OneKey),
+        _ if is_some && odd.is_exact && odd.missed > 0 && odd.found > 0 => Some(Cause::SomeKeys),
+        Operation::Remove => cause_of_remove(odd),
+        Operation::Contains => cause_of_contains(odd),
+    }
+}

@@ -1,0 +1,440 @@
+//! Fills the picture of a diagnosis with calls and their marks.
+
+use crate::causes::Cause;
+use crate::choosing::{Named, OTHER_KEY, symptom_of};
+use crate::diagnosis::{Diagnosis, Mark, Shown};
+use std::alloc::{AllocError, Global};
+use tool_calls::{
+    Clash, KeyCalls, Made, NEVER, Neighbours, Operation, Place, Runs, Symptom, is_expected, other,
+    stretches_of,
+};
+use tool_facts::{Found, Odd, is_answer};
+
+/// Returns the contradiction between a wrong answer and a later call: the answer leaves the key in a state that the
+/// later call does not need, and no call can have changed the state in between. `key` must not contain other answers of
+/// the wrong operation.
+fn place_after(key: &KeyCalls, wrong: Made) -> Option<Place> {
+    let was = wrong.needs()?;
+    for call in key.after(wrong.ended).iter().take(MOST_EARLIER) {
+        let is_needed = call.needs() == Some(other(was));
+        if is_needed && !key.may_become(other(was), wrong.begun, call.ended) {
+            let clash = Clash {
+                first: Some(wrong),
+                second: Some(*call),
+                stretch: None,
+                was,
+                since: wrong.begun,
+                until: call.ended,
+            };
+            return Some(Place {
+                key: key.key,
+                clash,
+                symptom: symptom_of(wrong),
+                wrong: Some(wrong),
+                silent: None,
+                is_turned: true,
+                begun: key.begun_by(call.ended),
+            });
+        }
+    }
+    None
+}
+
+/// Returns a key's calls without the answers of the wrong operation, except for one answer.
+pub(crate) fn with_one_answer(
+    alloc: Global,
+    key: KeyCalls,
+    odd: Odd,
+    wrong: Made,
+) -> Result<KeyCalls, AllocError> {
+    let mut calls = Vec::new(alloc);
+    for call in &key.calls {
+        if *call == wrong || !is_answer(*call, odd.operation) {
+            calls.push(*call)?;
+        }
+    }
+    let left = if odd.puts_left_aside { None } else { key.left };
+    KeyCalls::new(alloc, key.key, calls, key.opening, left)
+}
+
+/// If the picture has at least this many calls of the key, less important calls are left out.
+const MOST_SHOWN: usize = 3;
+
+/// How many calls of the key, counted back from the end of a wrong answer, are checked for an overlap with the answer.
+const MOST_EARLIER: usize = 64;
+
+/// The maximum number of changes of other keys in the picture.
+const MOST_BESIDE: usize = 3;
+
+/// The maximum number of changes of other keys that are counted.
+pub(crate) const MOST_AROUND: usize = 1_000;
+
+/// An earlier change of the key is not shown if it began more than this many moments before the call that finds its
+/// state.
+const LONG_AGO: u64 = 200;
+
+/// Returns the period for the changes of other keys in the picture. If only one reply is wrong, the period is the time
+/// of the wrong answer or, if no such change overlaps the answer, the time of the change that it contradicts. Otherwise
+/// the period is the time of the contradiction.
+fn time_of(place: &Place, neighbours: &Neighbours) -> (u64, u64) {
+    let Some(wrong) = place.wrong else {
+        return (place.clash.begun(), place.clash.until);
+    };
+    match place.clash.first {
+        Some(first)
+            if first.changes() && !neighbours.overlap(place.key, wrong.begun, wrong.ended, None) =>
+            { (first.begun, first.ended) }
+        _ => (wrong.begun, wrong.ended),
+    }
+}
+
+/// Returns whether a call, if given, overlaps a change of another key.
+fn is_at(call: Option<Made>, change: &Made) -> bool {
+    match call {
+        Some(call) => change.overlaps(call.begun, call.ended),
+        None => false,
+    }
+}
+
+/// Returns those changes of other keys that overlap one of the two calls that contradict each other. Returns all
+/// changes if none of them does, or if the contradiction does not begin with a call.
+fn at_calls(alloc: Global, changes: Vec<Made>, clash: &Clash) -> Result<Vec<Made>, AllocError> {
+    let mut found = Vec::new(alloc);
+    for change in &changes {
+        if is_at(clash.first, change) || is_at(clash.second, change) {
+            found.push(*change)?;
+        }
+    }
+    Ok(if clash.first.is_none() || found.is_empty() {
+        changes
+    } else {
+        found
+    })
+}
+
+/// Returns the weight of a change of another key for the choice of changes in the picture: changes that the likely
+/// cause names are chosen first, then those that overlap the first contradicting call, then the longest.
+fn weight(change: &Made, key: u32, cause: Option<Cause>, first: Option<Made>) -> u64 {
+    let is_named = match cause {
+        Some(Cause::Unlinked | Cause::WrittenBack) => {
+            change.operation == Operation::Remove && change.key < key
+        }
+        Some(Cause::Displaced) => change.operation == Operation::Add,
+        Some(Cause::Batch) => change.operation == Operation::Remove,
+        _ => false,
+    };
+    let length = change.ended.saturating_sub(change.begun);
+    let beside = if is_at(first, change) { AT_FIRST } else { 0 };
+    let named = if is_named { OTHER_KEY } else { 0 };
+    length.saturating_add(beside).saturating_add(named)
+}
+
+/// The weight of a change of another key that overlaps the first of two contradicting calls.
+const AT_FIRST: u64 = 1_000_000_000;
+
+/// Adds a call to the picture unless the picture already contains the call.
+fn add(shown: &mut Vec<Shown>, call: Made) -> Result<(), AllocError> {
+    if shown.iter().all(|one| one.call != call) {
+        shown.push(Shown {
+            call,
+            mark: Mark::Nothing,
+        })?;
+    }
+    Ok(())
+}
+
+/// Returns the recorded call that began at the same moment as `call`.
+fn recorded_call(calls: &[Made], call: Made) -> Made {
+    let at = calls.partition_point(|one| one.begun < call.begun);
+    match calls.get(at) {
+        Some(one) if one.begun == call.begun => *one,
+        _ => call,
+    }
+}
+
+impl Diagnosis {
+    /// Returns whether the headline and the picture show a contradiction that the verdict does not name.
+    pub(crate) fn is_example(&self) -> bool {
+        !self.is_first && !self.shown.is_empty()
+    }
+
+    /// Replaces the calls in the picture by the recorded calls. A call that is pending in the picture can have ended in
+    /// the recording.
+    pub(crate) fn complete(&mut self, calls: &[Made]) {
+        for one in &mut self.shown {
+            one.call = recorded_call(calls, one.call);
+        }
+        for call in &mut self.beside {
+            *call = recorded_call(calls, *call);
+        }
+    }
+
+    /// Fills the picture with the first wrong answer of the operation that alone is wrong, if a later call contradicts
+    /// this answer.
+    pub(crate) fn show_wrong(
+        &mut self,
+        alloc: Global,
+        runs: &Runs<'_>,
+        found: &Found,
+        named: &Named,
+        neighbours: &Neighbours,
+    ) -> Result<(), AllocError> {
+        self.second = found.wrong;
+        if let (Some(odd), Some(wrong)) = (found.odd, found.wrong) {
+            let key = with_one_answer(alloc, runs.calls_of(wrong.key)?, odd, wrong)?;
+            if let Some(place) = place_after(&key, wrong) {
+                self.is_first = named.is(&place);
+                self.show(alloc, &key, place, neighbours)?;
+            }
+        }
+        Ok(())
+    }
+
+    /// Adds the calls that the verdict names to the picture.
+    pub(crate) fn show_named(&mut self, named: &Named) -> Result<(), AllocError> {
+        match named.clash {
+            Some(clash) => {
+                self.add_if(clash.first)?;
+                self.add_if(clash.second)
+            }
+            None => Ok(()),
+        }
+    }
+
+    /// Returns whether a change of another key in the picture overlaps a call. Returns `false` without a call.
+    fn runs_beside(&self, call: Option<Made>) -> bool {
+        self.beside.iter().any(|change| is_at(call, change))
+    }
+
+    /// Adds a call, if given, to the picture.
+    fn add_if(&mut self, call: Option<Made>) -> Result<(), AllocError> {
+        match call {
+            Some(call) => add(&mut self.shown, call),
+            None => Ok(()),
+        }
+    }
+
+    /// Sets the mark of a call in the picture.
+    fn mark(&mut self, call: Made, mark: Mark) {
+        for one in &mut self.shown {
+            if one.call == call {
+                one.mark = mark;
+            }
+        }
+    }
+
+    /// Fills the picture with the calls of a contradiction, their marks, the changes of other keys at the same time,
+    /// and a later call.
+    pub(crate) fn show(
+        &mut self,
+        alloc: Global,
+        key: &KeyCalls,
+        place: Place,
+        neighbours: &Neighbours,
+    ) -> Result<(), AllocError> {
+        self.symptom = place.symptom;
+        self.key = place.key;
+        self.was = place.clash.was;
+        let is_before = place.wrong.is_some() && place.wrong == place.clash.first;
+        self.second = if is_before {
+            place.wrong
+        } else {
+            place.clash.second
+        };
+        self.until = place.clash.until;
+        self.show_calls(alloc, key, &place)?;
+        self.show_marks(alloc, key, &place)?;
+        if place.clash.until < NEVER {
+            let (since, until) = time_of(&place, neighbours);
+            let (key, cause, first) = (place.key, self.cause, place.clash.first);
+            let changes = neighbours.around(alloc, key, since, until, MOST_AROUND)?;
+            self.beside = match cause {
+                Some(Cause::Displaced | Cause::Batch | Cause::Evicted) => changes,
+                _ => at_calls(alloc, changes, &place.clash)?,
+            };
+            self.beside_count = self.beside.len();
+            self.beside
+                .sort_unstable_by_key(|call| !weight(call, key, cause, first));
+            self.beside.truncate(MOST_BESIDE);
+        }
+        let has_room = self.beside.is_empty() || self.shown.len() < MOST_SHOWN;
+        if let Some(second) = place.clash.second.filter(|_| is_before) {
+            self.mark(second, Mark::Finds(other(place.clash.was)));
+        } else if self.evidence.odd.is_some() && self.runs_beside(place.wrong) {
+            // (the facts tell what the next calls of the key found)
+        } else if !place.is_gone() || has_room {
+            self.later = self.call_after(key, &place);
+            self.show_later()?;
+        }
+        self.shown.sort_unstable_by_key(|one| one.call.begun);
+        Ok(())
+    }
+
+    /// Adds the calls of a contradiction: the contradicting calls, the overlapping changes that lead to the state
+    /// `was`, and calls that returned false but can have changed the key.
+    fn show_calls(
+        &mut self,
+        alloc: Global,
+        key: &KeyCalls,
+        place: &Place,
+    ) -> Result<(), AllocError> {
+        let clash = &place.clash;
+        self.add_if(clash.first)?;
+        self.add_if(clash.second)?;
+        self.add_if(place.wrong)?;
+        self.add_if(place.silent)?;
+        if place.wrong != clash.first {
+            self.show_change(key, clash)?;
+        }
+        if let Some(stretch) = clash.stretch {
+            self.add_if(stretch.read)?;
+            for call in key.after(stretch.begun.saturating_sub(1)) {
+                if call.begun > stretch.ended || self.shown.len() >= 5 {
+                    break;
+                }
+                if call.changes() {
+                    add(&mut self.shown, *call)?;
+                }
+            }
+        }
+        if self.evidence.odd.is_some() {
+            self.show_around(key, place.wrong)?;
+        }
+        if place.is_gone() && place.clash.until < NEVER {
+            let operation = Operation::that_makes(other(clash.was));
+            let refusals = key.refusals(alloc, operation, clash.begun(), clash.until)?;
+            for call in refusals.iter().take(2) {
+                add(&mut self.shown, *call)?;
+            }
+        }
+        if let Some(call) = place.wrong.or(clash.second) {
+            let change = key.change_before(clash.was, call.ended);
+            if let Some(change) = change {
+                if change.overlaps(call.begun, call.ended) && call.reads() {
+                    self.add_if(Some(change))?;
+                }
+            }
+        }
+        Ok(())
+    }
+
+    /// Adds the change that brought the key into the state that the first contradicting call finds, unless the change
+    /// was long ago.
+    fn show_change(&mut self, key: &KeyCalls, clash: &Clash) -> Result<(), AllocError> {
+        let Some(first) = clash.first.filter(|first| first.reads()) else {
+            return Ok(());
+        };
+        match key.change_before(clash.was, first.begun) {
+            Some(change) if change.begun.saturating_add(LONG_AGO) >= first.begun => {
+                add(&mut self.shown, change)
+            }
+            _ => Ok(()),
+        }
+    }
+
+    /// Adds other adds and removes of the key that ran during a wrong answer, successful or not.
+    fn show_around(&mut self, key: &KeyCalls, wrong: Option<Made>) -> Result<(), AllocError> {
+        let Some(wrong) = wrong else {
+            return Ok(());
+        };
+        let end = key.begun_by(wrong.ended);
+        let earlier = key.calls.get(..end).unwrap_or(&[]);
+        for call in earlier.iter().rev().take(MOST_EARLIER) {
+            if self.shown.len() >= MOST_SHOWN {
+                return Ok(());
+            }
+            let is_beside = call.operation != Operation::Contains && call.ended > wrong.begun;
+            if is_beside && call.begun != wrong.begun {
+                add(&mut self.shown, *call)?;
+            }
+        }
+        Ok(())
+    }
+
+    /// Adds the later call (`later`) to the picture, and marks it with the state that it finds.
+    fn show_later(&mut self) -> Result<(), AllocError> {
+        let Some(later) = self.later else {
+            return Ok(());
+        };
+        let is_shown = self.shown.iter().any(|one| one.call == later);
+        self.add_if(self.later)?;
+        if let Some(state) = later.needs().filter(|_| !is_shown) {
+            self.mark(later, Mark::Finds(state));
+        }
+        Ok(())
+    }
+
+    /// Marks the calls of a contradiction.
+    fn show_marks(
+        &mut self,
+        alloc: Global,
+        key: &KeyCalls,
+        place: &Place,
+    ) -> Result<(), AllocError> {
+        let clash = &place.clash;
+        if matches!(place.symptom, Symptom::BothTrue(_)) {
+            if let (Some(first), Some(second)) = (clash.first, clash.second) {
+                self.mark(first, Mark::Either);
+                self.mark(second, Mark::Either);
+            }
+            return Ok(());
+        }
+        if !clash.overlaps() {
+            if let Some(first) = clash.first {
+                self.mark(first, Mark::Leaves(clash.was));
+            }
+        }
+        let stretches = stretches_of(alloc, key)?;
+        let second = clash.second.filter(|_| place.wrong.is_none());
+        for call in [place.wrong, place.silent, second].into_iter().flatten() {
+            if is_expected(alloc, key, &stretches, clash, call)? {
+                self.wrong = Some(call);
+                self.mark(call, Mark::Expected(call.reply == Some(false)));
+                return Ok(());
+            }
+        }
+        self.mark_found(clash);
+        Ok(())
+    }
+
+    /// Marks the contradicting call with the state that it finds.
+    fn mark_found(&mut self, clash: &Clash) {
+        let Some(second) = clash.second else {
+            return;
+        };
+        if let Some(state) = second.needs() {
+            self.mark(second, Mark::Finds(state));
+        }
+        if let Some(first) = clash.first.filter(|_| clash.overlaps()) {
+            if let Some(state) = first.needs() {
+                self.mark(first, Mark::Finds(state));
+            }
+        }
+    }
+
+    /// Returns the first later call that finds the key in the state that the contradicting call shows. If only one
+    /// reply is wrong, this is the state that the other calls show. Returns `None` if a change of the key can have
+    /// begun earlier.
+    fn call_after(&self, key: &KeyCalls, place: &Place) -> Option<Made> {
+        let (state, since) = match place.symptom {
+            Symptom::Missed(_) | Symptom::Found(_) => {
+                let wrong = place.wrong?;
+                (other(wrong.needs()?), wrong.begun)
+            }
+            Symptom::Lost | Symptom::CameBack => (other(place.clash.was), place.clash.begun()),
+            _ => return None,
+        };
+        let until = place.clash.until;
+        for call in key.after(until).iter().take(40) {
+            let is_quiet = !key.may_become(state, since, call.ended);
+            let before = call.begun.saturating_sub(1);
+            if !is_quiet || key.may_become(other(state), until, before) {
+                return None;
+            }
+            if call.needs() == Some(state) {
+                return Some(*call);
+            }
+        }
+        None
+    }
+}
