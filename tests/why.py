@@ -180,7 +180,7 @@ class MarkNotRead(OneSet):
 
 
 class TakenLater(OneSet):
-    likely = ("contains reads a copy that removed keys leave only later",)
+    likely = ("remove returns before the key has left what contains reads",)
 
     def add(self, thread, key):
         is_new = yield from super().add(thread, key)

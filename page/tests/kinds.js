@@ -1,5 +1,6 @@
 // Kinds of random recordings for verdicts.js: many overlapping calls on one key, three keys, a single operation, many keys with a few calls each, other
-// keys that change all the time, long gaps and large moments, sets with several bugs, and opening and final keys that no call uses.
+// keys that change all the time, long gaps and large moments, sets with several bugs, calls that give up, keys inserted twice, two calls inside at once, sets
+// that grow, nodes that stay linked, and opening and final keys that no call uses.
 "use strict";
 
 // Returns the kinds: functions that generate a random recording. The arguments are functions of verdicts.js: the random numbers and the sequential set.
@@ -75,6 +76,43 @@ module.exports = ({ draw, pick, replyOf, keysAfter, paddingAfter }) => {
 
   const leftWith = (set) => (draw(6) === 0 ? null : draw(8) === 0 ? (set.includes(5) ? set.filter((key) => key !== 5) : [5, ...set]) : set);
   const short = () => 1 + draw(3);
+
+  // Generates calls of three threads on some keys, with the replies that `replyTo` returns for a call, the set and the calls that run. `replyTo` can also
+  // return a function that runs when the call ends.
+  function madeBy(keys, count, replyTo, threads = 3, starts = 2) {
+    const [calls, open, present] = [[], [], new Set()];
+    const set = {
+      has: (key) => present.has(key),
+      put: (key, isPresent) => (isPresent ? present.add(key) : present.delete(key)),
+      take: ({ operation, key }) => {
+        const reply = String(present.has(key) !== (operation === "add"));
+        if (operation !== "contains") set.put(key, operation === "add");
+        return reply;
+      },
+    };
+    const take = (call) => {
+      const made = replyTo({ call, set, open });
+      const [reply, atEnd] = Array.isArray(made) ? made : [made, () => {}];
+      Object.assign(call, { reply, atEnd, taken: true });
+    };
+    let moment = 0;
+    while (calls.length < count * keys.length || open.length > 0) {
+      moment++;
+      const idle = [0, 1, 2, 3].slice(0, threads).filter((thread) => !open.some((call) => call.thread === thread));
+      if (calls.length < count * keys.length && idle.length > 0 && (open.length === 0 || draw(3) < starts)) {
+        calls.push({ thread: pick(idle), operation: pick(["add", "remove", "add", "remove", "contains"]), key: pick(keys), begun: moment, ended: null, reply: null });
+        open.push(calls.at(-1));
+        if (draw(2) === 0) take(calls.at(-1));
+      } else {
+        const [call] = open.splice(draw(open.length), 1);
+        if (!call.taken) take(call);
+        call.atEnd();
+        call.ended = moment;
+      }
+    }
+    for (const call of calls) { delete call.taken; delete call.atEnd; }
+    return recordingOf(calls, [], [...present]);
+  }
 
   return [
     function dense() {
@@ -163,6 +201,70 @@ module.exports = ({ draw, pick, replyOf, keysAfter, paddingAfter }) => {
       }
       for (const call of calls) delete call.taken;
       return recordingOf(calls, opening, draw(4) === 0 ? null : [...set]);
+    },
+    function refusing() { // adds and removes, or only one of them, give up while another call of the set runs, and return false
+      const [keys, operations] = [[1, 2, 5, 6, 9, 12, 14].slice(draw(2)), pick([["add", "remove"], ["add", "remove"], ["add", "remove"], ["add"], ["remove"]])];
+      const [isBeside, rate] = [draw(3) > 0, 50 + draw(50)];
+      return madeBy(keys, 13, ({ call, set, open }) => {
+        const isMet = open.some((one) => one !== call && one.operation !== "contains" && (one.key !== call.key) === isBeside);
+        if (operations.includes(call.operation) && isMet && draw(100) < rate) return "false";
+        return set.take(call);
+      }, 2, 1);
+    },
+    function doubled() { // overlapping adds both insert the key, and a remove takes one of the two
+      const counts = new Map();
+      return madeBy([1, 2, 5, 6].slice(draw(2)), 22, ({ call, set, open }) => {
+        const count = counts.get(call.key) ?? 0;
+        const isAlso = call.operation === "add" && open.some((one) => one !== call && one.key === call.key && one.operation === "add" && one.taken);
+        if (call.operation === "add" && (count === 0 || isAlso)) counts.set(call.key, count + 1);
+        if (call.operation === "remove" && count > 0) counts.set(call.key, count - 1);
+        const reply = call.operation === "add" ? count === 0 || isAlso : count > 0;
+        set.put(call.key, (counts.get(call.key) ?? 0) > 0);
+        return String(reply);
+      });
+    },
+    function inside() { // a call that overlaps a change of its key writes back what it saw at its start, once or twice in many calls
+      let left = 2;
+      return madeBy([1, 2], 350, ({ call, set }) => {
+        const saw = set.has(call.key);
+        return [set.take(call), () => {
+          if (left === 0 || set.has(call.key) === saw || call.reply !== "false" || call.operation === "contains") return;
+          left--;
+          set.put(call.key, saw);
+        }];
+      });
+    },
+    function growing() { // a set that grows; some changes are lost while it is copied
+      const [calls, set, count] = [[], new Set(), 70 + draw(30)];
+      let moment = 0;
+      const make = (thread, operation, key, length) => {
+        const reply = String(set.has(key) !== (operation === "add"));
+        if (operation === "add") set.add(key);
+        if (operation === "remove") set.delete(key);
+        calls.push({ thread, operation, key, begun: ++moment, ended: (moment += length), reply });
+      };
+      for (let key = 1; key <= count; key++) {
+        make(draw(3), "add", key, 1 + draw(3));
+        if (draw(12) === 0) { // another call overlaps the add
+          const last = calls.at(-1);
+          calls.push({ thread: 7, operation: "add", key: key + 1000, begun: last.begun + 0.5, ended: ++moment, reply: "true" });
+          set.add(key + 1000);
+          if (draw(2) === 0) set.delete(key);
+        }
+        for (let left = draw(4); left > 0; left--) make(draw(3), pick(["contains", "contains", "remove"]), 1 + Math.max(0, key - 1 - draw(40)), 1 + draw(3));
+      }
+      const at = new Map([...calls.flatMap(({ begun, ended }) => [begun, ended])].sort((one, other) => one - other).map((one, place) => [one, place + 1]));
+      return recordingOf(calls.map((call) => ({ ...call, begun: at.get(call.begun), ended: at.get(call.ended) })), [], [...set]);
+    },
+    function unlinked() { // a remove that overlaps another remove leaves its node linked: adds of the key fail from then on
+      const stuck = new Set();
+      return madeBy([1, 2], 75, ({ call, set, open }) => {
+        if (call.operation === "add" && stuck.has(call.key)) return "false";
+        const reply = set.take(call);
+        const isMet = open.some((one) => one !== call && one.key !== call.key && one.operation === "remove" && one.reply !== "false");
+        if (call.operation === "remove" && reply === "true" && isMet && stuck.size === 0) stuck.add(call.key);
+        return reply;
+      });
     },
     function ends() { // opening and final keys, few calls or none
       const all = [1, 5, 7, 9];

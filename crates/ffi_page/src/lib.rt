@@ -130,9 +130,9 @@ pub extern "C" fn listset_why(alloc: Global, text: &[u8], room: &mut [u8], statu
 /// Diagnoses a refused recording and writes a record, with status 1. The record consists of these lines, in this order:
 /// - `headline TEXT`;
 /// - `call THREAD OPERATION KEY BEGIN END REPLY MARK` for each call to show, ordered by start; MARK is `-`,
-///   `expected BOOL`, `leaves STATE`, `finds STATE` or `either`, and STATE is `present` or `absent`;
+///   `expected BOOL`, `leaves STATE`, `finds STATE`, `either` or `suspected`, and STATE is `present` or `absent`;
 /// - `also THREAD OPERATION KEY BEGIN END REPLY` for each change of another key at the same time (of many, the
-///   longest);
+///   longest); `suspected` follows if the likely cause blames this change;
 /// - `fact TEXT` for each fact;
 /// - `likely TEXT` and `because TEXT`, if there is a likely cause.
 ///

@@ -1,6 +1,6 @@
 //! Writes a diagnosis as a record. Each line has a name and its values.
 
-use crate::because::put_because;
+use crate::because::because_text;
 use crate::diagnosis::{Diagnosis, Mark};
 use crate::sentences::{cause_text, put_first, put_headline, put_known};
 use std::alloc::{AllocError, Global};
@@ -19,6 +19,7 @@ fn put_mark(out: &mut String, mark: Mark) -> Result<(), AllocError> {
             writeln!(out, " finds {state}")
         }
         Mark::Either => out.push_str(" either\n"),
+        Mark::Suspected => out.push_str(" suspected\n"),
     }
 }
 
@@ -31,9 +32,10 @@ fn put_lines(out: &mut String, word: &str, text: &str) -> Result<(), AllocError>
 }
 
 /// Returns the record of a diagnosis. It has, in this order: `headline TEXT`; `call THREAD OPERATION KEY BEGIN END
-/// REPLY MARK` for each call of the key that is shown (MARK is `-`, `expected BOOL`, `leaves STATE`, `finds STATE` or
-/// `either`); `also THREAD OPERATION KEY BEGIN END REPLY` for each change of another key in the picture; `fact TEXT` for
-/// each fact; and, if there is a likely cause, `likely TEXT` and `because TEXT`. Allocates.
+/// REPLY MARK` for each call of the key that is shown (MARK is `-`, `expected BOOL`, `leaves STATE`, `finds STATE`,
+/// `either` or `suspected`); `also THREAD OPERATION KEY BEGIN END REPLY` for each change of another key in the picture,
+/// perhaps followed by `suspected`; `fact TEXT` for each fact; and, if there is a likely cause, `likely TEXT` and `because
+/// TEXT`. Allocates.
 pub fn diagnosis_record(alloc: Global, diagnosis: &Diagnosis) -> Result<String, AllocError> {
     let mut out = String::from_str(alloc, "headline ")?;
     put_headline(&mut out, diagnosis)?;
@@ -47,7 +49,11 @@ pub fn diagnosis_record(alloc: Global, diagnosis: &Diagnosis) -> Result<String, 
     for call in &beside {
         out.push_str("also ")?;
         put_call(&mut out, *call)?;
-        out.push_str("\n")?;
+        out.push_str(if diagnosis.is_guilty(*call) {
+            " suspected\n"
+        } else {
+            "\n"
+        })?;
     }
     let mut facts = String::new(alloc);
     put_first(&mut facts, diagnosis)?;
@@ -56,9 +62,8 @@ pub fn diagnosis_record(alloc: Global, diagnosis: &Diagnosis) -> Result<String, 
     if let Some(cause) = diagnosis.cause {
         let text = cause_text(cause);
         writeln!(out, "likely {text}")?;
-        let mut because = String::new(alloc);
-        put_because(&mut because, diagnosis, cause)?;
-        put_lines(&mut out, "because", because.as_str())?;
+        let because = because_text(alloc, diagnosis, cause)?;
+        writeln!(out, "because {because}")?;
     }
     Ok(out)
 }

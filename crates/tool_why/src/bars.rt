@@ -38,6 +38,7 @@ fn note_of(alloc: Global, call: Made, mark: Mark) -> Result<String, AllocError> 
             format!(in alloc; "   finds key {key} {state}")
         }
         Mark::Either => String::from_str(alloc, "   <-- one of two"),
+        Mark::Suspected => String::from_str(alloc, "   <-- suspected"),
     }
 }
 
@@ -194,7 +195,12 @@ pub(crate) fn put_picture(
     beside.truncate(room);
     beside.sort_unstable_by_key(|call| call.begun);
     for call in &beside {
-        bars.push(Bar::new(alloc, *call, Mark::Nothing)?)?;
+        let mark = if diagnosis.is_guilty(*call) {
+            Mark::Suspected
+        } else {
+            Mark::Nothing
+        };
+        bars.push(Bar::new(alloc, *call, mark)?)?;
     }
     place_all(alloc, &mut bars)?;
     let (names, width) = (names_of(&bars), width_of(&bars));

@@ -2,7 +2,9 @@
 
 use crate::causes::Cause;
 use crate::diagnosis::Diagnosis;
-use std::alloc::AllocError;
+use crate::further::{Further, Growth};
+use std::alloc::{AllocError, Global};
+use tool_calls::NEVER;
 use tool_facts::{Evidence, Odd, Tally};
 
 /// Writes the fact that supports `cause`, if `contains` finds absent keys, or both finds absent keys and misses present
@@ -26,7 +28,21 @@ fn put_because_of_found(out: &mut String, odd: &Odd, cause: Cause) -> Result<(),
                 "at {starting} of the {found} wrong answers an add of the key was still running"
             )
         }
-        Cause::TakenLater | Cause::MarkOrCopy => writeln!(
+        Cause::TakenLater => {
+            let (latest, never) = (
+                odd.latest,
+                if odd.is_exact {
+                    ", and never misses a present one"
+                } else {
+                    ""
+                },
+            );
+            writeln!(
+                out,
+                "it finds keys up to {latest} moments after their remove has returned{never}"
+            )
+        }
+        Cause::MarkOrCopy => writeln!(
             out,
             "it {only}finds absent keys, and at {running} of {found} of these answers a remove of the key still ran"
         ),
@@ -79,10 +95,29 @@ fn put_during(out: &mut String, count: u64, odd: &Odd, what: &str) -> Result<(),
     )
 }
 
+/// Writes during how many wrong answers another add or remove of the key, or a change of another key, ran.
+fn put_active(out: &mut String, odd: &Odd) -> Result<(), AllocError> {
+    put_during(
+        out,
+        odd.active,
+        odd,
+        "another add or remove of the key, or a change of another key,",
+    )
+}
+
+/// Writes the fact that supports the cause `RemoveGivesUp`.
+fn put_given_up(out: &mut String, odd: &Odd) -> Result<(), AllocError> {
+    if odd.active == odd.wrong {
+        put_active(out, odd)
+    } else {
+        out.push_str("without these answers all other calls have an order\n")
+    }
+}
+
 /// Writes the fact that supports `cause`, if one operation alone is wrong.
 fn put_because_of_odd(out: &mut String, odd: &Odd, cause: Cause) -> Result<(), AllocError> {
     let (missed, wrong, adding) = (odd.missed, odd.wrong, odd.adding);
-    let (active, apart, placed) = (odd.active, odd.apart, odd.placed);
+    let (apart, placed) = (odd.apart, odd.placed);
     let (count, keys) = (odd.keys, if odd.keys == 1 { "key" } else { "keys" });
     match cause {
         Cause::MarkNotRead
@@ -110,10 +145,8 @@ fn put_because_of_odd(out: &mut String, odd: &Odd, cause: Cause) -> Result<(), A
         ),
         Cause::MovedKeys => put_during(out, odd.beside, odd, "a change of another key"),
         Cause::HalfDone => put_during(out, odd.same, odd, "another add or remove of the key"),
-        Cause::AddGivesUp => writeln!(
-            out,
-            "another add or remove of the key, or a change of another key, ran during {active} of the {wrong} wrong answers"
-        ),
+        Cause::AddGivesUp => put_active(out, odd),
+        Cause::RemoveGivesUp => put_given_up(out, odd),
         Cause::EndsEarly => writeln!(
             out,
             "no two calls overlapped during {apart} of {placed} wrong answers, nor since the calls that these contradict"
@@ -161,8 +194,67 @@ fn put_because_of_calls(out: &mut String, tally: &Tally, cause: Cause) -> Result
                 "after {doubled} of {adds} pairs of adds that both returned true, two removes returned true, too, or the key was found after the next remove"
             )
         }
+        Cause::Reused => {
+            let keys = tally.keys;
+            writeln!(
+                out,
+                "an order fits until one moment, and then all {keys} keys are hit, and calls disagree while nothing changes the key"
+            )
+        }
         _ => writeln!(out, "they disagree as long as nothing changes the key"),
     }
+}
+
+/// Writes the fact that supports the cause `UnlinkLost`: other removes ran during the removes that `add` did not see.
+fn put_because_of_unlinks(out: &mut String, further: &Further) -> Result<(), AllocError> {
+    let (removes, beside) = (further.unseen, further.unseen_beside);
+    if removes == 1 && beside == 1 {
+        return out.push_str(
+            "a remove of another key ran during the remove that add did not see, and nearly all later adds failed, too\n",
+        );
+    }
+    writeln!(
+        out,
+        "a remove of another key ran during {beside} of {removes} removes that add did not see, and nearly all later adds failed, too"
+    )
+}
+
+/// Writes the fact that supports the cause `Inside`: few pairs of overlapping calls went wrong.
+fn put_because_of_few(
+    out: &mut String,
+    tally: &Tally,
+    further: &Further,
+) -> Result<(), AllocError> {
+    let (both, restored, pairs) = (tally.both(), further.restored, further.pairs);
+    if both > 0 {
+        write!(out, "{both} times two overlapping calls both returned true")?;
+        out.push_str(if restored > 0 { ", " } else { "" })?;
+    }
+    if restored > 0 {
+        write!(
+            out,
+            "{restored} times a change was undone that overlapped a call which found the older state"
+        )?;
+    }
+    writeln!(
+        out,
+        ", although at least {pairs} pairs of changes and other calls of a key overlapped"
+    )
+}
+
+/// Writes the fact that supports the cause `Outgrown`: many keys are added, and few keys are hit.
+fn put_because_of_growth(
+    out: &mut String,
+    diagnosis: &Diagnosis,
+    growth: Growth,
+) -> Result<(), AllocError> {
+    let (keys, all) = (diagnosis.evidence.tally.keys, diagnosis.evidence.keys);
+    let (from, to, active) = (growth.from, growth.to, growth.active);
+    let moment = diagnosis.first_moment;
+    writeln!(
+        out,
+        "many keys are added ({from} present at first, {to} at the end), {active} were in use at moment {moment}, and only {keys} of {all} keys are hit"
+    )
 }
 
 /// Writes the fact that supports `cause`, if keys are lost and never return.
@@ -369,12 +461,29 @@ fn put_because_of_gone(
     }
 }
 
-/// Writes the fact that supports the likely cause.
-pub(crate) fn put_because(
-    out: &mut String,
+/// Returns the fact that supports the likely cause, with the change in the picture that is probably guilty. Allocates.
+pub(crate) fn because_text(
+    alloc: Global,
     diagnosis: &Diagnosis,
     cause: Cause,
-) -> Result<(), AllocError> {
+) -> Result<String, AllocError> {
+    let mut fact = String::new(alloc);
+    put_because(&mut fact, diagnosis, cause)?;
+    let mut out = String::from_str(alloc, fact.as_str().trim_end())?;
+    if let Some(call) = diagnosis.guilty {
+        let (word, key, thread) = (call.operation.word(), call.key, call.thread);
+        let begun = call.begun;
+        write!(out, "; here {word} {key} of thread {thread}, {begun} to ")?;
+        match call.ended {
+            NEVER => out.push_str("..")?,
+            ended => write!(out, "{ended}")?,
+        }
+    }
+    Ok(out)
+}
+
+/// Writes the fact that supports the likely cause.
+fn put_because(out: &mut String, diagnosis: &Diagnosis, cause: Cause) -> Result<(), AllocError> {
     let evidence = &diagnosis.evidence;
     if let Some((one, two)) = evidence.merged {
         return writeln!(
@@ -383,6 +492,9 @@ pub(crate) fn put_because(
         );
     }
     if let Some(odd) = &evidence.odd {
+        if matches!(cause, Cause::UnlinkLost) {
+            return put_because_of_unlinks(out, &diagnosis.further);
+        }
         return put_because_of_odd(out, odd, cause);
     }
     match cause {
@@ -398,7 +510,8 @@ pub(crate) fn put_because(
         | Cause::OldCopyByAdd
         | Cause::OldCopyByRemove
         | Cause::InsertedTwice
-        | Cause::TwoPlaces => put_because_of_calls(out, &evidence.tally, cause),
+        | Cause::TwoPlaces
+        | Cause::Reused => put_because_of_calls(out, &evidence.tally, cause),
         Cause::Displaced | Cause::Batch | Cause::Evicted => {
             put_because_of_lost(out, &evidence.tally, cause)
         }
@@ -413,7 +526,12 @@ pub(crate) fn put_because(
         | Cause::RemovedLater
         | Cause::MovedKeys => { put_because_of_mixed(out, &evidence.tally, cause) }
         Cause::SharedWord => put_because_of_pairs(out, evidence),
-        Cause::GivesUp | Cause::GivesUpBeside => {
+        Cause::Inside => put_because_of_few(out, &evidence.tally, &diagnosis.further),
+        Cause::Outgrown => match diagnosis.further.growth {
+            Some(growth) => put_because_of_growth(out, diagnosis, growth),
+            None => Ok(()),
+        },
+        Cause::GivesUp | Cause::GivesUpBeside | Cause::AddGivesUp | Cause::RemoveGivesUp => {
             put_because_of_refusals(out, &evidence.tally, cause)
         }
         Cause::KeptTwice | Cause::Overflow | Cause::OneThread => {

@@ -39,6 +39,8 @@ pub enum Cause {
     SomeKeys,
     /// `add` treats a removed node as present.
     AddSeesRemoved,
+    /// An unlink was lost, so a removed node stays linked, and `add` treats it as present.
+    UnlinkLost,
     /// `remove` has a shortcut that returns false too early.
     RemoveShortcut,
     /// `remove` returns false too early, although the key is present.
@@ -51,6 +53,12 @@ pub enum Cause {
     InsertedTwice,
     /// Operations search for a key in two different places.
     TwoPlaces,
+    /// A removed node is reused while another call still uses it, and the set stays broken.
+    Reused,
+    /// Two calls of a key ran at the same time although a lock should exclude this. This is rare.
+    Inside,
+    /// A table or array is replaced by a larger one while calls still change the old one.
+    Outgrown,
     /// When a part of the set is first used, two calls each create this part, and one of the two copies is lost.
     FirstUse,
     /// A remove keeps writing after it has taken effect.

@@ -180,6 +180,13 @@ fn shows(place: &Place, cause: Option<Cause>, is_odd: bool, neighbours: &Neighbo
             | Cause::BehindUnlinked,
         ) => { place.is_gone() && is_beside(place, neighbours, None) }
         Some(Cause::GivesUp) => place.wrong.is_some(),
+        Some(Cause::UnlinkLost) => match place.clash.first {
+            Some(first) => {
+                let remove = Some(Operation::Remove);
+                neighbours.overlap(place.key, first.begun, first.ended, remove)
+            }
+            None => false,
+        },
         Some(Cause::MovedKeys | Cause::AddGivesUp | Cause::RemoveShortcut | Cause::GivesUpBeside) =>
             match place.wrong {
                 Some(wrong) => neighbours.overlap(wrong.key, wrong.begun, wrong.ended, None),

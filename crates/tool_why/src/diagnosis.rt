@@ -2,6 +2,7 @@
 
 use crate::causes::Cause;
 use crate::choosing::{named_by_verdict, place_shown};
+use crate::further::{Further, further_of};
 use crate::likely::likely;
 use crate::showing::with_one_answer;
 use lset_words::Presence;
@@ -24,6 +25,8 @@ pub enum Mark {
     Finds(Presence),
     /// One of the two calls with this mark must return false.
     Either,
+    /// This call is probably guilty.
+    Suspected,
 }
 
 /// A call in the picture, with the note beside it.
@@ -57,7 +60,10 @@ pub struct Diagnosis {
     /// finds the key as the right calls do.
     pub later: Option<Made>,
     pub evidence: Evidence,
+    pub further: Further,
     pub cause: Option<Cause>,
+    /// The call in the picture that is probably guilty, if the likely cause names a kind of call.
+    pub guilty: Option<Made>,
     /// The key that is refused first, and the first moment such that its calls up to this moment are not linearizable.
     /// The moment is `NEVER` if only the final state is wrong.
     pub first_key: u32,
@@ -83,7 +89,13 @@ fn few_of(alloc: Global, found: &Found) -> Result<Vec<Place>, AllocError> {
 }
 
 /// Creates a diagnosis without a picture.
-fn begin(alloc: Global, first: Refused, was: Presence, evidence: Evidence) -> Diagnosis {
+fn begin(
+    alloc: Global,
+    first: Refused,
+    was: Presence,
+    evidence: Evidence,
+    further: Further,
+) -> Diagnosis {
     Diagnosis {
         symptom: Symptom::Unclear,
         key: first.key,
@@ -96,7 +108,9 @@ fn begin(alloc: Global, first: Refused, was: Presence, evidence: Evidence) -> Di
         few: Vec::new(alloc),
         later: None,
         evidence,
-        cause: likely(&evidence),
+        further,
+        cause: likely(&evidence, &further),
+        guilty: None,
         first_key: first.key,
         first_moment: first.moment,
         until: first.moment,
@@ -115,11 +129,12 @@ pub fn diagnose(alloc: Global, recorded: &Recorded) -> Result<Option<Diagnosis>,
     let neighbours = Neighbours::of(alloc, &recorded.calls)?;
     let found = find_all(alloc, &runs, &refused, &neighbours)?;
     let evidence = evidence_of(alloc, &runs, &keys, &refused, &found)?;
+    let further = further_of(alloc, &runs, &keys, first.moment, &found, &neighbours)?;
     let was = match recorded.leaves(first.key) {
         Some(left) => other(left),
         None => recorded.opens(first.key),
     };
-    let mut diagnosis = begin(alloc, first, was, evidence);
+    let mut diagnosis = begin(alloc, first, was, evidence, further);
     diagnosis.few = few_of(alloc, &found)?;
     let named = named_by_verdict(alloc, &runs, &found, first)?;
     let Some(place) = place_shown(&found, &named, diagnosis.cause, &neighbours) else {

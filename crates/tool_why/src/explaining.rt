@@ -1,7 +1,7 @@
 //! The message of a diagnosis: headline, picture, scope, duration, and a likely cause.
 
 use crate::bars::put_picture;
-use crate::because::put_because;
+use crate::because::because_text;
 use crate::counted::count_in;
 use crate::diagnosis::{Diagnosis, diagnose};
 use crate::sentences::{cause_text, put_first, put_headline, put_known};
@@ -16,12 +16,12 @@ use tool_facts::RunReader;
 const MOST_LINES: usize = 15;
 
 /// Writes the likely cause, and the fact that supports it.
-fn put_guess(out: &mut String, diagnosis: &Diagnosis) -> Result<(), AllocError> {
+fn put_guess(alloc: Global, out: &mut String, diagnosis: &Diagnosis) -> Result<(), AllocError> {
     if let Some(cause) = diagnosis.cause {
         let text = cause_text(cause);
         writeln!(out, "likely: {text}")?;
-        out.push_str("  because ")?;
-        put_because(out, diagnosis, cause)?;
+        let because = because_text(alloc, diagnosis, cause)?;
+        writeln!(out, "  because {because}")?;
     }
     Ok(())
 }
@@ -45,9 +45,9 @@ fn put_some(out: &mut String, known: &str, extra: usize) -> Result<(), AllocErro
     Ok(())
 }
 
-/// Returns the number of lines for the picture, of which `room` are free. Some of the `known` facts can be left out, so
-/// that the picture shows a change of another key: all but the first or, if an operation alone is wrong, all but the
-/// first two.
+/// Returns the number of lines for the picture. `room` lines are free, and `known` facts follow the picture. To show a
+/// change of another key, the picture can take the lines of facts: all but the first or, if an operation alone is wrong,
+/// all but the first two.
 fn room_of_picture(diagnosis: &Diagnosis, room: usize, known: usize) -> usize {
     let wanted = diagnosis.shown.len().saturating_add(2);
     let kept = if diagnosis.evidence.odd.is_some() {
@@ -74,7 +74,7 @@ pub fn diagnosis_text(
     let mut known = String::new(alloc);
     put_known(&mut known, diagnosis)?;
     let mut guess = String::new(alloc);
-    put_guess(&mut guess, diagnosis)?;
+    put_guess(alloc, &mut guess, diagnosis)?;
     let facts = lines_of(&known).saturating_add(lines_of(&guess));
     let headline = if diagnosis.is_example() { 2 } else { 1 };
     let taken = facts.saturating_add(used).saturating_add(headline);

@@ -10,6 +10,8 @@ mod choosing;
 mod counted;
 mod diagnosis;
 mod explaining;
+mod further;
+mod guilty;
 mod likely;
 mod likely_odd;
 mod likely_races;

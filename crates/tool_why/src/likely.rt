@@ -1,6 +1,7 @@
 //! Guesses the likely cause from the facts in the message. Makes no guess if the facts fit no cause.
 
 use crate::causes::Cause;
+use crate::further::Further;
 use crate::likely_odd::cause_of_odd;
 use crate::likely_races::{
     FEW_KEYS, LEAST_BOTH, MANY_CALLS, cause_of_races, has_crossed_replies, has_other_replies,
@@ -239,6 +240,36 @@ fn is_missed_beside(tally: &Tally) -> bool {
 /// The minimum number of adds and removes that returned false for the guess that they give up.
 const LEAST_REFUSED: u64 = 8;
 
+/// Returns whether each of a few contradictions is of two calls of a key that overlapped as if each ran alone: two calls
+/// of the same operation both returned true, or a change was undone that overlapped a call that found the state before
+/// the change. At least 100 times as many pairs of calls of a key must overlap.
+fn is_rarely_inside(evidence: &Evidence, further: &Further) -> bool {
+    let tally = &evidence.tally;
+    let inside = tally.both().saturating_add(further.restored);
+    tally.places >= 2
+        && inside == tally.places
+        && further.pairs >= tally.places.saturating_mul(100)
+        && !is_first_use(evidence)
+}
+
+/// Returns whether few of many added keys are hit, and most contradictions are losses or returns of keys, or pairs of
+/// calls that both returned true.
+fn is_outgrown(evidence: &Evidence, further: &Further) -> bool {
+    let tally = &evidence.tally;
+    let plain = tally.gone().saturating_add(tally.both());
+    further.growth.is_some()
+        && tally.gone() > 0
+        && is_least(plain, tally.places, 60)
+        && tally.keys.saturating_mul(5) <= evidence.keys
+}
+
+/// Returns whether nearly all of the set breaks at one moment: a key's calls disagree for long, most contradictions are
+/// unclear, and all keys are hit.
+fn is_broken_for_good(evidence: &Evidence) -> bool {
+    let tally = &evidence.tally;
+    tally.keys >= 2 && tally.keys == evidence.keys && tally.others.saturating_mul(2) > tally.places
+}
+
 /// Returns the likely cause if most contradictions are single adds and removes that returned false and changed nothing,
 /// and other wrong answers are rare.
 fn cause_of_refusals(tally: &Tally) -> Option<Cause> {
@@ -250,9 +281,14 @@ fn cause_of_refusals(tally: &Tally) -> Option<Cause> {
         || !is_least(refused, replies, 90)
         || !is_least(refused, tally.places, 60)
         || other.saturating_mul(10) > tally.places
-        || !is_least(both, refused, 20)
     {
         None
+    } else if !is_least(both, refused, 10) {
+        Some(if tally.refused_adds > tally.refused_removes {
+            Cause::AddGivesUp
+        } else {
+            Cause::RemoveGivesUp
+        })
     } else if is_least(
         beside,
         refused,
@@ -274,7 +310,7 @@ fn is_inserted_twice(tally: &Tally) -> bool {
 }
 
 /// Returns the likely cause. Returns `None` if the facts fit no cause, or if the recording is too small.
-pub(crate) fn likely(evidence: &Evidence) -> Option<Cause> {
+pub(crate) fn likely(evidence: &Evidence, further: &Further) -> Option<Cause> {
     if !is_enough(evidence) {
         return None;
     }
@@ -282,12 +318,19 @@ pub(crate) fn likely(evidence: &Evidence) -> Option<Cause> {
         return Some(Cause::TwoKeys);
     }
     if let Some(odd) = &evidence.odd {
-        return cause_of_odd(odd, evidence.keys);
+        return cause_of_odd(odd, further, evidence.keys);
     }
     if evidence.split.is_some_and(|split| split.is_long()) {
-        return Some(Cause::TwoPlaces);
+        return Some(if is_broken_for_good(evidence) {
+            Cause::Reused
+        } else {
+            Cause::TwoPlaces
+        });
     }
     let tally = &evidence.tally;
+    if is_rarely_inside(evidence, further) {
+        return Some(Cause::Inside);
+    }
     let effect = cause_of_effects(evidence);
     if effect.is_some() {
         return effect;
@@ -314,8 +357,20 @@ pub(crate) fn likely(evidence: &Evidence) -> Option<Cause> {
     if is_made_again(tally) {
         return Some(Cause::MadeAgain);
     }
-    match cause_in_one_thread(evidence) {
+    let cause = match cause_in_one_thread(evidence) {
         Some(cause) => Some(cause),
         None => cause_of_races(evidence),
+    };
+    or_outgrown(evidence, further, cause)
+}
+
+/// Returns the cause `Outgrown` in place of no cause, or in place of a table that is replaced, if many keys are added and
+/// few of them are hit.
+fn or_outgrown(evidence: &Evidence, further: &Further, cause: Option<Cause>) -> Option<Cause> {
+    let is_open = matches!(cause, None | Some(Cause::Replaced | Cause::ReplacedAtOnce));
+    if is_open && is_outgrown(evidence, further) {
+        Some(Cause::Outgrown)
+    } else {
+        cause
     }
 }

@@ -1,6 +1,7 @@
 //! The likely cause if one operation alone is wrong.
 
 use crate::causes::Cause;
+use crate::further::Further;
 use crate::shares::{ENOUGH, is_least, share_of_all};
 use tool_calls::Operation;
 use tool_facts::Odd;
@@ -180,15 +181,34 @@ fn cause_of_remove(odd: &Odd) -> Option<Cause> {
         Some(Cause::RemoveShortcut)
     } else if needs_no_overlap(odd) {
         Some(Cause::EndsEarly)
-    } else if odd.missed >= LEAST_WRONG {
+    } else if odd.missed >= LEAST_WRONG
+        || is_beside_each(odd)
+        || (odd.missed >= 5 && is_passing(odd))
+    {
         Some(Cause::RemoveGivesUp)
     } else {
         None
     }
 }
 
+/// Returns whether the key seems to stay present for `add` after a remove: nearly all wrong answers are followed by
+/// another one, and most removes that they did not see overlapped a remove of another key.
+fn is_for_good(odd: &Odd, further: &Further) -> bool {
+    let next = odd.then_right.saturating_add(odd.then_wrong);
+    odd.is_exact
+        && odd.then_wrong >= LEAST_WRONG
+        && is_least(odd.then_wrong, next, 95)
+        && further.unseen > 0
+        && is_least(further.unseen_beside, further.unseen, 60)
+}
+
+/// Returns whether many answers are wrong, and the next answers are right.
+fn is_passing_often(odd: &Odd) -> bool {
+    odd.wrong >= LEAST_WRONG && is_passing(odd)
+}
+
 /// Returns the likely cause if only `add` is wrong.
-fn cause_of_add(odd: &Odd) -> Option<Cause> {
+fn cause_of_add(odd: &Odd, further: &Further) -> Option<Cause> {
     if odd
         .running
         .saturating_add(odd.by_same)
@@ -197,9 +217,14 @@ fn cause_of_add(odd: &Odd) -> Option<Cause> {
     {
         return None;
     }
-    if needs_no_overlap(odd) || is_lasting(odd) || odd.running.saturating_mul(2) >= odd.wrong {
+    if is_for_good(odd, further) {
+        Some(Cause::UnlinkLost)
+    } else if needs_no_overlap(odd)
+        || is_lasting(odd)
+        || odd.running.saturating_mul(2) >= odd.wrong
+    {
         Some(Cause::AddSeesRemoved)
-    } else if is_beside_others(odd) {
+    } else if is_beside_others(odd) || is_beside_each(odd) || is_passing_often(odd) {
         Some(Cause::AddGivesUp)
     } else {
         None
@@ -207,11 +232,11 @@ fn cause_of_add(odd: &Odd) -> Option<Cause> {
 }
 
 /// Returns the likely cause if one operation alone is wrong. `keys` is the number of keys in the recording.
-pub(crate) fn cause_of_odd(odd: &Odd, keys: u64) -> Option<Cause> {
+pub(crate) fn cause_of_odd(odd: &Odd, further: &Further, keys: u64) -> Option<Cause> {
     let is_often = odd.wrong >= odd.keys.saturating_mul(2);
     let is_some = !is_least(odd.keys, keys, 75) && odd.wrong >= keys.saturating_mul(5);
     match odd.operation {
-        Operation::Add => cause_of_add(odd),
+        Operation::Add => cause_of_add(odd, further),
         _ if odd.never_finds && is_often => Some(Cause::OneKey),
         _ if is_some && odd.is_exact && odd.missed > 0 && odd.found > 0 => Some(Cause::SomeKeys),
         Operation::Remove => cause_of_remove(odd),

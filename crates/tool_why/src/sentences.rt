@@ -226,6 +226,18 @@ fn put_few(out: &mut String, few: &[Place]) -> Result<(), AllocError> {
     out.push_str("\n")
 }
 
+/// An error is late if it shows at this moment or later.
+const LATE: u64 = 200;
+
+/// Returns whether most contradictions are unclear, as after a late error that breaks the set for good. The first error is
+/// then the finding.
+fn is_from_one_moment(diagnosis: &Diagnosis) -> bool {
+    let tally = &diagnosis.evidence.tally;
+    let moment = diagnosis.first_moment;
+    let is_late = moment >= LATE && moment < NEVER;
+    tally.others.saturating_mul(2) > tally.places && is_late
+}
+
 /// Writes the numbers of contradictions, of each kind of contradiction, of refused keys, and of successful adds and
 /// removes that the next call did not see. Further contradictions can overlap those that are counted.
 fn put_tally(out: &mut String, diagnosis: &Diagnosis) -> Result<(), AllocError> {
@@ -235,7 +247,16 @@ fn put_tally(out: &mut String, diagnosis: &Diagnosis) -> Result<(), AllocError> 
         return Ok(());
     }
     let (count, mark) = (tally.places, if tally.places == 1 { "" } else { "s" });
-    write!(out, "at least {count} contradiction{mark}")?;
+    if is_from_one_moment(diagnosis) {
+        let moment = diagnosis.first_moment;
+        write!(
+            out,
+            "before moment {moment} the calls had an order; from then on at least "
+        )?;
+    } else {
+        out.push_str("at least ")?;
+    }
+    write!(out, "{count} contradiction{mark}")?;
     if !diagnosis.few.is_empty() {
         return put_few(out, &diagnosis.few);
     }
@@ -478,13 +499,13 @@ fn answers_cause_text(cause: Cause) -> &'static str {
         Cause::NotSeenYet =>
             "contains does not look at what add changes first (it reads a cache, a counter, a second link)",
         Cause::TakenLater =>
-            "contains reads a copy that removed keys leave only later (a delayed removal, a cache, a replica, an upper level)",
+            "remove returns before the key has left what contains reads (a removal that is queued, delayed or copied later)",
         Cause::Shortcut =>
             "contains has a shortcut that returns false too early (a size, a filter, a bucket, a remembered node)",
         Cause::MovedOrShortcut =>
-            "contains walks while changes of other keys move its key, or has a shortcut that returns false too early (a size, a filter)",
+            "contains walks while other keys' changes move its key, or has a shortcut that returns false too early (a size, a filter)",
         Cause::HalfDone =>
-            "contains meets a half done add or remove of its key (a node linked before it is complete, a node cut out or reused too early)",
+            "contains meets a half done add or remove of its key (a node linked too early, cut out or reused too early)",
         Cause::MarkOrCopy =>
             "contains finds a key just removed: it does not look at a mark, or reads a copy that is updated a little later",
         Cause::SizeFirst =>
@@ -492,7 +513,7 @@ fn answers_cause_text(cause: Cause) -> &'static str {
         Cause::ThreadCache =>
             "contains reads a cache of its thread, which changes by other threads do not update",
         Cause::MovedKeys =>
-            "the search walks while changes of other keys move its key or the way to it (an array, a swap, a node reused, a half moved bucket), and does not look again",
+            "the search walks while changes of other keys move its key or its way, and does not look again (a swap, a half moved bucket)",
         Cause::LateCopy =>
             "contains reads a copy that is updated after add and remove return (a cache, a replica)",
         Cause::OneKey => "a hash, a comparison, a filter or a limit treats a key unlike others",
@@ -500,6 +521,8 @@ fn answers_cause_text(cause: Cause) -> &'static str {
             "contains treats some keys unlike others (a hash, a key that is cut short, a limit)",
         Cause::AddSeesRemoved =>
             "add takes a removed node that is still linked for a present one (a mark not checked, an unlink that was lost)",
+        Cause::UnlinkLost =>
+            "an unlink was lost, so a removed node stays linked, and add takes it for present (two removes side by side, without a lock)",
         Cause::AddGivesUp =>
             "add gives up and returns false (a failed exchange or lock that is not tried again)",
         Cause::LastKey =>
@@ -530,17 +553,23 @@ pub(crate) fn cause_text(cause: Cause) -> &'static str {
         Cause::OneThread =>
             "an error without a race (a probe that ends too early, a comparison, a limit)",
         Cause::GivesUp =>
-            "add and remove give up and return false (a try-lock or a compare-and-swap that failed and is not repeated, a timeout), or meet a half done change",
+            "add and remove give up and return false, and do not try again (a try-lock, a failed compare-and-swap, a timeout)",
         Cause::GivesUpBeside =>
-            "add and remove give up and return false while another key changes (a try-lock or a compare-and-swap on a shared lock or word that failed and is not repeated)",
+            "add and remove give up and return false while another key changes (a try-lock or compare-and-swap on a shared word, not tried again)",
         Cause::InsertedTwice =>
-            "two adds insert the same key twice, in two places (each looked before the other inserted), and a remove takes one of them",
+            "two adds insert the same key twice (each looked before the other inserted), and a remove takes one of them",
         Cause::TwoPlaces =>
-            "calls test the key in two ways that no longer agree (a node reused too early, as in ABA; a slot and its node; a count that went below 0)",
+            "calls test the key in two ways that no longer agree (a slot and its node, a mark and a link, a count below 0)",
+        Cause::Reused =>
+            "a removed node is used again while another call still uses it (ABA), and the set stays broken",
+        Cause::Inside =>
+            "two calls of a key are, rarely, inside the lock at the same time (a missing fence, a lock released too early)",
+        Cause::Outgrown =>
+            "a table or array is copied to a larger one while calls still change the old one (growth)",
         Cause::FirstUse =>
             "two first calls each create the same thing (a bucket, a node, a table), and one is lost",
         Cause::GoesOn =>
-            "a remove undoes an add that overlaps it (it unlinks or clears after its effect, a helper repeats it, or the two cancel each other)",
+            "a remove undoes an add that overlaps it (it unlinks or clears after its effect, or a helper repeats it)",
         Cause::EarlierLook =>
             "the reply does not come from the change itself (from an earlier look, from a size)",
         Cause::MadeAgain =>
@@ -560,21 +589,21 @@ pub(crate) fn cause_text(cause: Cause) -> &'static str {
         Cause::OldCopy =>
             "an older copy is written over newer changes of other keys (copy on write, a whole table, a shared word)",
         Cause::SharedPlace =>
-            "two adds at the same time take the same place, and one overwrites the other (a free slot or node given out twice, a head stored over another)",
+            "two adds at the same time take the same place, and one overwrites the other (a free slot given out twice, a head stored over another)",
         Cause::AddLost =>
-            "two adds at the same time both write, and one is lost, yet returns true (a compare-and-swap whose failure is not checked, adds that do not exclude each other)",
+            "two adds at the same time both write, and one is lost, yet returns true (a failed compare-and-swap that is not checked)",
         Cause::BehindUnlinked =>
             "a key is added behind a node that is being removed (no mark, or a mark that add does not check)",
         Cause::OldCopyByAdd =>
-            "add writes back what it read before, over newer changes (a copy or link stored without a compare-and-swap, a lock released too early); remove does not",
+            "add, but not remove, writes back what it read before, over newer changes (no compare-and-swap, or a lock released too early)",
         Cause::OldCopyByRemove =>
-            "remove writes back what it read before, over newer changes (a copy, link or word stored without a compare-and-swap, a lock released too early); add does not",
+            "remove, but not add, writes back what it read before, over newer changes (no compare-and-swap, or a lock released too early)",
         Cause::SharedWord =>
-            "some keys share a word or bucket, and a change of one writes back an older state of the other (a load, then a store)",
+            "some keys share a word or bucket, and a change of one writes back an older state of the other (load, then store)",
         Cause::OtherReply =>
             "a call returns the reply of another call (a combiner or batch that hands replies to the wrong callers)",
         Cause::MixedCalls =>
-            "calls are mixed up: a call returns the reply of another call, or is carried out with its key (a combiner, a batch, a shared record)",
+            "calls are mixed up: a call gets the reply or the key of another call (a combiner, a batch, a shared record)",
         Cause::OtherCall =>
             "a call is carried out with the key of another call (a combiner or a shared record that is read too late)",
         Cause::EffectLate =>
@@ -586,7 +615,7 @@ pub(crate) fn cause_text(cause: Cause) -> &'static str {
         Cause::RemovedLater =>
             "a remove deletes the key late or again, and takes out a newer add (a queue of deletions, a helper, an unlink)",
         Cause::OldLink =>
-            "a link is written without a check that it is current (an insert behind an unlinked node, a head stored over another)",
+            "a link is written without a check after the walk (behind a node unlinked meanwhile, or over a link changed meanwhile)",
         Cause::Unlinked =>
             "a node is linked to a neighbour that is being removed (no marks, or marks that are not checked)",
         Cause::WrittenBack =>

@@ -76,7 +76,10 @@ const LONG_AGO: u64 = 200;
 /// Returns the period for the changes of other keys in the picture. If only one reply is wrong, the period is the time
 /// of the wrong answer or, if no such change overlaps the answer, the time of the change that it contradicts. Otherwise
 /// the period is the time of the contradiction.
-fn time_of(place: &Place, neighbours: &Neighbours) -> (u64, u64) {
+fn time_of(place: &Place, neighbours: &Neighbours, cause: Option<Cause>) -> (u64, u64) {
+    if let (Some(Cause::UnlinkLost), Some(first)) = (cause, place.clash.first) {
+        return (first.begun, first.ended);
+    }
     let Some(wrong) = place.wrong else {
         return (place.clash.begun(), place.clash.until);
     };
@@ -120,7 +123,10 @@ fn weight(change: &Made, key: u32, cause: Option<Cause>, first: Option<Made>) ->
             change.operation == Operation::Remove && change.key < key
         }
         Some(Cause::Displaced) => change.operation == Operation::Add,
-        Some(Cause::Batch) => change.operation == Operation::Remove,
+        Some(Cause::Batch | Cause::BehindUnlinked | Cause::UnlinkLost) => {
+            change.operation == Operation::Remove
+        }
+        Some(Cause::SharedPlace) => change.operation == Operation::Add,
         _ => false,
     };
     let length = change.ended.saturating_sub(change.begun);
@@ -167,6 +173,7 @@ impl Diagnosis {
         for call in &mut self.beside {
             *call = recorded_call(calls, *call);
         }
+        self.guilty = self.guilty.map(|call| recorded_call(calls, call));
     }
 
     /// Fills the picture with the first wrong answer of the operation that alone is wrong, if a later call contradicts
@@ -245,7 +252,7 @@ impl Diagnosis {
         self.show_calls(alloc, key, &place)?;
         self.show_marks(alloc, key, &place)?;
         if place.clash.until < NEVER {
-            let (since, until) = time_of(&place, neighbours);
+            let (since, until) = time_of(&place, neighbours, self.cause);
             let (key, cause, first) = (place.key, self.cause, place.clash.first);
             let changes = neighbours.around(alloc, key, since, until, MOST_AROUND)?;
             self.beside = match cause {
@@ -267,6 +274,8 @@ impl Diagnosis {
             self.show_later()?;
         }
         self.shown.sort_unstable_by_key(|one| one.call.begun);
+        self.guilty = self.guilty_of(&place);
+        self.mark_guilty();
         Ok(())
     }
 
@@ -326,10 +335,27 @@ impl Diagnosis {
         };
         match key.change_before(clash.was, first.begun) {
             Some(change) if change.begun.saturating_add(LONG_AGO) >= first.begun => {
-                add(&mut self.shown, change)
+                add(&mut self.shown, change)?;
+                self.show_changes_during(key, change)
             }
             _ => Ok(()),
         }
+    }
+
+    /// Adds the other changes of the key that overlap a change, if a removed node seems to be reused.
+    fn show_changes_during(&mut self, key: &KeyCalls, change: Made) -> Result<(), AllocError> {
+        if !matches!(self.cause, Some(Cause::Reused)) {
+            return Ok(());
+        }
+        let end = key.begun_by(change.ended);
+        let earlier = key.calls.get(..end).unwrap_or(&[]);
+        for call in earlier.iter().rev().take(MOST_EARLIER) {
+            let is_met = call.changes() && call.overlaps(change.begun, change.ended);
+            if is_met && self.shown.len() < 5 {
+                add(&mut self.shown, *call)?;
+            }
+        }
+        Ok(())
     }
 
     /// Adds other adds and removes of the key that ran during a wrong answer, successful or not.
@@ -385,7 +411,9 @@ impl Diagnosis {
             }
         }
         let stretches = stretches_of(alloc, key)?;
-        let second = clash.second.filter(|_| place.wrong.is_none());
+        // (if two calls were inside at the same time, the call that shows it is right)
+        let is_right = matches!(self.cause, Some(Cause::Inside));
+        let second = clash.second.filter(|_| place.wrong.is_none() && !is_right);
         for call in [place.wrong, place.silent, second].into_iter().flatten() {
             if is_expected(alloc, key, &stretches, clash, call)? {
                 self.wrong = Some(call);

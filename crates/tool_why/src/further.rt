@@ -1,0 +1,232 @@
+//! Further facts about a refused recording, which only some likely causes need.
+
+use lset_words::Presence;
+use std::alloc::{AllocError, Global};
+use tool_calls::{Fullness, KeyCalls, Made, NEVER, Neighbours, Operation, Place, Runs, other};
+use tool_facts::Found;
+
+/// Further facts about a refused recording.
+#[derive(Clone, Copy)]
+pub struct Further {
+    /// The number of pairs of overlapping adds and removes of one key, if at least one of the two returned true. 0 if
+    /// there are more than `MOST_RARE` contradictions.
+    pub pairs: u64,
+    /// The number of losses and returns of keys if the undone change overlapped an add or remove of its key that
+    /// returned false and found the state before the change. 0 if there are more than `MOST_RARE` contradictions.
+    pub restored: u64,
+    /// If only `add` is wrong: the number of removes that its checked wrong answers did not see. Otherwise 0.
+    pub unseen: u64,
+    /// The part of `unseen` that overlaps a successful remove of another key.
+    pub unseen_beside: u64,
+    /// The numbers of keys, if many keys are added during the recording.
+    pub growth: Option<Growth>,
+}
+
+/// The numbers of keys of a recording that adds many keys.
+#[derive(Clone, Copy)]
+pub struct Growth {
+    /// The number of opening keys.
+    pub from: u64,
+    /// The number of keys that are known to be present after all calls.
+    pub to: u64,
+    /// The number of keys with a call before, and a call after, the first moment such that some key's calls have no
+    /// order.
+    pub active: u64,
+}
+
+/// The maximum number of contradictions for the guess that a lock rarely fails.
+pub(crate) const MOST_RARE: usize = 7;
+
+/// The maximum number of earlier calls of a key that are checked for an overlap.
+const MOST_EARLIER: usize = 64;
+
+/// Returns whether two adds or removes overlap, and at least one of the two returned true.
+fn is_pair(one: Made, two: Made) -> bool {
+    let is_completed = one.reply.is_some() && two.reply.is_some();
+    let is_met = one.begun < two.begun && two.begun < one.ended;
+    is_completed && is_met && (one.changes() || two.changes())
+}
+
+/// Returns the number of pairs that `call` forms with the `MOST_EARLIER` calls before it.
+fn pairs_with(earlier: &[Made], call: Made) -> u64 {
+    let mut pairs = 0u64;
+    for one in earlier.iter().rev().take(MOST_EARLIER) {
+        let is_writer = one.operation != Operation::Contains;
+        pairs = pairs.saturating_add(u64::from(is_writer && is_pair(*one, call)));
+    }
+    pairs
+}
+
+/// Returns the number of pairs of overlapping adds and removes of a key, if at least one of the two returned true.
+fn pairs_in(calls: &[Made]) -> u64 {
+    let mut pairs = 0u64;
+    for (index, call) in calls.iter().enumerate() {
+        if call.operation != Operation::Contains {
+            let earlier = calls.get(..index).unwrap_or(&[]);
+            pairs = pairs.saturating_add(pairs_with(earlier, *call));
+        }
+    }
+    pairs
+}
+
+/// Returns whether a call is an add or remove that returned false, overlaps a change, and found the state before the
+/// change.
+pub(crate) fn is_refusal_during(call: Made, change: Made) -> bool {
+    let is_refusal = call.reads() && call.operation != Operation::Contains;
+    let is_met = call.begun < change.ended && change.begun < call.ended;
+    is_refusal && is_met && call.needs() == change.makes().map(other)
+}
+
+/// Returns whether the change that a loss or return of a key undid overlapped a call that found the older state.
+fn is_restored(key: &KeyCalls, place: &Place) -> bool {
+    let Some(second) = place.clash.second else {
+        return false;
+    };
+    let Some(change) = key.change_before(place.clash.was, second.begun) else {
+        return false;
+    };
+    let end = key.begun_by(change.ended);
+    let earlier = key.calls.get(..end).unwrap_or(&[]);
+    place.is_gone()
+        && earlier
+            .iter()
+            .rev()
+            .take(MOST_EARLIER)
+            .any(|call| is_refusal_during(*call, change))
+}
+
+/// Adds the facts about few contradictions.
+fn add_few(
+    further: &mut Further,
+    runs: &Runs<'_>,
+    keys: &[u32],
+    found: &Found,
+) -> Result<(), AllocError> {
+    if found.places.len() > MOST_RARE {
+        return Ok(());
+    }
+    for key in keys {
+        further.pairs = further.pairs.saturating_add(pairs_in(runs.made_of(*key)));
+    }
+    for place in &found.places {
+        let key = runs.calls_of(place.key)?;
+        let is_restored = is_restored(&key, place);
+        further.restored = further.restored.saturating_add(u64::from(is_restored));
+    }
+    Ok(())
+}
+
+/// Returns the remove that a wrong answer of `add` did not see. Returns `None` if two removes of the key overlap, since
+/// either can have taken effect last.
+fn unseen_by(key: &KeyCalls, answer: Made) -> Option<Made> {
+    let remove = key.change_before(Presence::Absent, answer.begun)?;
+    let is_last = key.no_change_runs(Presence::Absent, remove.begun);
+    (remove.ended < answer.begun && is_last).then_some(remove)
+}
+
+/// Counts a remove that a wrong answer did not see, unless it is the remove that was counted last.
+fn count_unseen(
+    further: &mut Further,
+    last: Option<Made>,
+    remove: Option<Made>,
+    neighbours: &Neighbours,
+) {
+    let Some(remove) = remove.filter(|remove| last != Some(*remove)) else {
+        return;
+    };
+    let sought = Some(Operation::Remove);
+    let is_beside = neighbours.overlap(remove.key, remove.begun, remove.ended, sought);
+    further.unseen = further.unseen.saturating_add(1);
+    further.unseen_beside = further.unseen_beside.saturating_add(u64::from(is_beside));
+}
+
+/// Adds the removes that the wrong answers of `add` did not see.
+fn add_unseen(
+    further: &mut Further,
+    runs: &Runs<'_>,
+    found: &Found,
+    neighbours: &Neighbours,
+) -> Result<(), AllocError> {
+    let mut last: Option<Made> = None;
+    let mut known: Option<KeyCalls> = None;
+    for answer in found.places.iter().filter_map(|place| place.wrong) {
+        if known.as_ref().is_none_or(|key| key.key != answer.key) {
+            known = Some(runs.calls_of(answer.key)?);
+        }
+        let remove = known.as_ref().and_then(|key| unseen_by(key, answer));
+        count_unseen(further, last, remove, neighbours);
+        last = remove.or(last);
+    }
+    Ok(())
+}
+
+/// Many keys are added only if the recording has at least this many keys.
+const MANY_KEYS: usize = 64;
+
+/// Many keys are added only if at least this many keys are known to be present after all calls.
+const LEAST_PRESENT: u64 = 32;
+
+/// Many keys are added only if at least this many keys are in use at the same time.
+const LEAST_ACTIVE: u64 = 16;
+
+/// Returns whether a key has a call that began before a moment, and a call that ended after it. `calls` must be ordered
+/// by begin.
+fn is_active(calls: &[Made], moment: u64) -> bool {
+    match (calls.first(), calls.last()) {
+        (Some(first), Some(last)) => first.begun < moment && moment < last.ended,
+        _ => false,
+    }
+}
+
+/// Returns the numbers of keys if many keys are added: at least four times as many as the opening keys, and many of
+/// them are in use at `moment`.
+fn growth_of(
+    alloc: Global,
+    runs: &Runs<'_>,
+    keys: &[u32],
+    moment: u64,
+) -> Result<Option<Growth>, AllocError> {
+    if keys.len() < MANY_KEYS {
+        return Ok(None);
+    }
+    let mut active = 0u64;
+    for key in keys {
+        let is_active = is_active(runs.made_of(*key), moment);
+        active = active.saturating_add(u64::from(is_active));
+    }
+    let full = Fullness::of(alloc, runs)?;
+    let (from, to) = (full.before(0), full.before(NEVER));
+    let is_large = to >= LEAST_PRESENT && to >= from.saturating_mul(4);
+    let growth = Growth { from, to, active };
+    Ok((is_large && active >= LEAST_ACTIVE).then_some(growth))
+}
+
+/// Returns the further facts about a refused recording. `keys` are all keys of the recording. `moment` is the first
+/// moment such that some key's calls up to it have no order. Allocates.
+pub(crate) fn further_of(
+    alloc: Global,
+    runs: &Runs<'_>,
+    keys: &[u32],
+    moment: u64,
+    found: &Found,
+    neighbours: &Neighbours,
+) -> Result<Further, AllocError> {
+    let mut further = Further {
+        pairs: 0,
+        restored: 0,
+        unseen: 0,
+        unseen_beside: 0,
+        growth: None,
+    };
+    match found.odd {
+        Some(odd) if odd.operation == Operation::Add => {
+            add_unseen(&mut further, runs, found, neighbours)?;
+        }
+        Some(_) => {}
+        None => {
+            add_few(&mut further, runs, keys, found)?;
+            further.growth = growth_of(alloc, runs, keys, moment)?;
+        }
+    }
+    Ok(further)
+}
