@@ -22,8 +22,9 @@ part_of part i h = record {
   calls = calls_in part i h.calls;
 }
 
--- Locality, for a history that the judge decides: some order explains the history if and only if, for each part, some
--- order explains the part and leaves the part's final keys.
+-- Calls on different keys do not influence each other's verdict (locality). In a history that the judge decides, each
+-- key belongs to one part. Some order explains the history if and only if, for each part, some order explains the part
+-- and leaves the part's final keys.
 abbrev pub KeysAreApart : Type 0
 KeysAreApart = (h : HistoryValue) (keys : List ℕ) (part : ℕ → ℕ) (parts : ℕ)
     → IsHistory h.opening.threads h.calls → IsStrictlyIncreasing h.opening.keys → IsStrictlyIncreasing keys → IsJudged h

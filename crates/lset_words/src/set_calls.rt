@@ -10,7 +10,7 @@ use std::sync::Wait;
 pub trait SetCalls {
     type Seat;
 
-    /// States that the seat (the right to call as one thread) belongs to this set.
+    /// The seat (the right to call as one thread) belongs to this set.
     ghost is_of: { Self → Self.Seat → Type 0 };
 
     /// Returns the record of a seat (the right to call as one thread): its calls with their replies.
