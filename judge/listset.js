@@ -136,9 +136,6 @@ var init_engine = __esm({
       answerFrom(name, input) {
         return this.answered((exports) => answerInRoom(exports, name, [[input]], FIRST_ROOM));
       }
-      judgeFrom(input) {
-        return this.answerFrom("listset_judge_from", input);
-      }
       // Returns the diagnosis that the program prints below a refusal of `used` lines. The module reads the recording again for the diagnosis.
       whyFrom(input, used) {
         return this.answered((exports) => answerInRoom(exports, "listset_why_from", [[input, BigInt(used)]], FIRST_ROOM));
@@ -437,7 +434,7 @@ function briefly(verdict) {
 function judged(engine, isBrief, only, file = "-") {
   if (only !== void 0)
     return keyed(engine, only, file);
-  const verdict = engine.judgeFrom(opened(file));
+  const verdict = engine.answerFrom("listset_judge_from", opened(file));
   if (isBrief)
     return briefly(verdict);
   if (!Buffer.from(verdict.bytes).toString().startsWith(REFUSED))

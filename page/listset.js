@@ -245,7 +245,7 @@ function briefly(verdict) {
 // and also returns a diagnosis.
 function judged(engine, isBrief, only, file = "-") {
   if (only !== undefined) return keyed(engine, only, file);
-  const verdict = engine.judgeFrom(opened(file));
+  const verdict = engine.answerFrom("listset_judge_from", opened(file));
   if (isBrief) return briefly(verdict);
   if (!Buffer.from(verdict.bytes).toString().startsWith(REFUSED)) return verdict;
   const more = file === "-" ? Buffer.from(OF_A_FILE) : whatIsWrong(engine, file, verdict.bytes.filter((byte) => byte === 10).length);

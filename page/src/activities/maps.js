@@ -13,7 +13,7 @@ import { APPENDIX } from "../story/ask_more.js";
 import { isBrokenOnce, judgedLines, keptStory } from "../story/progress.js";
 import { learning } from "../story/learning.js";
 import { foot, head, LIST_WORDS, part } from "../story/scene.js";
-import { drawRecordedBox, listenToRecorded } from "./recording.js";
+import { listenToRecorded } from "./recording.js";
 
 const SIGNS = { right: ["✓", "guessed right"], wrong: ["seen", "seen"], done: ["✓", "done"] };
 
@@ -104,7 +104,7 @@ function judgeHtml() {
   const lists = Object.entries(LIST_WORDS).map(([kind, name]) => tag("option", { value: kind }, name)).join("");
   return `${head("", "Judge", top, "title")}<div class="start-row"><label>list <select id="judge-seed-list">${lists}</select></label>
     <label>run number <input id="judge-seed-number" type="number" min="1" max="999999999" placeholder="any"></label>
-    <button class="primary" data-do="seed">Judge a run</button></div><h2>An example, by its question</h2>${cards(examples().map(cardOf))}${drawRecordedBox()}`;
+    <button class="primary" data-do="seed">Judge a run</button></div><h2>An example, by its question</h2>${cards(examples().map(cardOf))}${byId("recorded-parts").innerHTML}`;
 }
 
 function openSeed() {
@@ -112,33 +112,17 @@ function openSeed() {
   location.hash = `#seed=${Number(number) > 0 ? seedOf(kind, Number(number)) : anotherSeed(null, kind)}&judge`;
 }
 
-// ---- The activity Read: the documents, the terms of the page, and a list of the proved statements.
 export const PAGES = [
   ["how-it-works.html", "How it works", "The five lists, from one lock to none, each with the runs that show why."],
   ["classic.html", "The examples", "Eighteen runs, each with its question, the answer, and what goes wrong without the check."],
   ["tables.html", "The step tables", "Each list row by row: what a step reads and writes, and which row comes next."],
   ["tables.html#progress", "Progress: blocking, lock-free, wait-free", "Which calls of each list can block, and within how many steps a call ends."],
 ];
-const TERMS = {
-  event: "The begin of a call, or one step of it: one load, store or compare-and-exchange of one word.",
-  schedule: "Which thread makes the next step, from the first event to the last. It is the whole input of a run.",
-  history: "The calls with their begin, end, thread and reply. Two calls overlap if neither ends before the other begins.",
-  pending: "A call that has begun and not ended.",
-  "takes effect": "A call takes effect at its linearization point: a moment between its begin and its end. The order of these moments is the order of the calls.",
-  order: "A sequence of all calls. It explains a run if a sequential set gives the same replies in this order.",
-  linearizable: "Some order explains the replies and keeps the order of calls that do not overlap.",
-  "row, step table": "The algorithm as numbered steps; a row says what the thread does next.",
-  "pred, curr": "Two neighbouring nodes of a walk; curr is the node after pred.",
-  marked: "A node whose key is removed. It can still be in the chain until it is unlinked.",
-  "quota, slot": "The number of keys that a thread can add in total. Each key uses one slot (a node of the thread). When no slot is left, add returns full.",
-  "not linearizable": "No order of the calls explains the replies and leaves the keys.",
-};
 
 function readHtml() {
   const isAlone = document.body.dataset.alone !== undefined; // the page is a single file: the documents are not beside it
   const pages = isAlone ? "" : cards(PAGES.map(([href, title, says]) => ({ href, list: "", title, says: escaped(says) })));
-  const terms = Object.entries(TERMS).map(([term, says]) => `<div><dt>${term}</dt><dd>${escaped(says)}</dd></div>`);
-  return `${head("", "Read", "", "title")}${pages}<h2>Terms</h2>${tag("dl", { class: "words card" }, ...terms)}
+  return `${head("", "Read", "", "title")}${pages}<h2>Terms</h2><dl class="words card">${byId("terms").innerHTML}</dl>
     <h2>What is proved, and what is not</h2><div class="panel prose">${byId("proved").innerHTML}</div>`;
 }
 

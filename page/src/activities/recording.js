@@ -12,25 +12,6 @@ const WIDEST = 800; // pixels of a drawing, before it is made larger
 const recorded = { text: "" }; // the text of the box, kept while another activity is shown
 const recordedPart = (name) => byId(`recorded-${name}`);
 
-const PARTS = `<p class="prose">The templates in the folder <code>judge</code> of this page’s repository run a stress test on your own set. They record when each
-    call begins and ends, and save every recording that fails. Paste its text, or open the file: the proved <code>judge</code> says whether any order
-    explains the calls.</p>
-  <div class="halves"><div><textarea id="recorded-text" rows="9" spellcheck="false" autocapitalize="off" wrap="off" aria-label="recorded calls"
-    placeholder="listset-calls 1"></textarea>
-  <p class="line"><button id="recorded-judge" class="primary">Judge these calls</button>
-    <label class="button">Open a file<input type="file" id="recorded-file"></label>
-    <button id="recorded-example" class="quiet">Load an example</button></p></div>
-  <div id="recorded-result"><p id="recorded-verdict" role="status">The verdict appears here.</p><ul id="recorded-reasons"></ul></div></div>
-  <details><summary>The format of a recording</summary><pre class="snippet">listset-calls 1            the first line
-opening 8                  a number in the set at first; one line for each
-call 0 add 5 1 4 true      thread 0 called add(5): it began at moment 1, ended at 4, and returned true
-call 1 remove 8 2 - -      a call that has not ended
-key 5                      a number in the set at the end; one line for each
-end                        the last line (cut, in place of it and of the keys: the recording was cut off)</pre></details>
-  <div id="recorded-picture"></div>`;
-
-export const drawRecordedBox = () => tag("section", { id: "recorded-box", class: "panel" }, "<h2>Judge calls recorded from your own set</h2>", PARTS);
-
 function threadsInWords(calls) {
   const threads = [...new Set(calls.map(({ thread }) => Number(thread)))].sort((one, other) => one - other);
   return threads.length === 0 ? [] : [`Threads: ${threads.map((thread) => `${letterOf(thread)} is thread ${thread}`).join(", ")} of the recording.`];

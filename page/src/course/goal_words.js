@@ -1,5 +1,4 @@
-// Evaluates the goals of lessons. Each line of a goal asks for a call or an event of the run. It can name this call or event, so that later lines can refer
-// to it. A condition (`say ..`) holds if one choice of calls and events satisfies all lines above it.
+// Evaluates goals of lessons: each line asks for a call or an event. A condition (`say ..`) holds if one choice of these satisfies all lines above it.
 import { isFailed, isLock, ownerIn } from "../run/outcomes.js";
 import { State } from "../run/state.js";
 

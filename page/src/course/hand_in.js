@@ -77,8 +77,7 @@ export function textsIn(text) {
   return found;
 }
 
-// A mail program can wrap a line at a space or within a word. A part is one line of the hand-in, with the line breaks of the mail. `unwrapped` replaces a
-// break between two words by a space, and deletes a break within a word.
+// A mail program can wrap a line at a space or within a word. `unwrapped` replaces a break between two words by a space, and deletes other breaks.
 const broken = (word) => [...word].join("\\n?");
 const JUDGE = new RegExp(`^(judge)[ \\n]+(\\S[^]*?)[ \\n]+(${Object.keys(LEVELS).map(broken).join("|")})[ \\n]+([^]+)$`);
 const BREAK = new RegExp(`^(break)[ \\n]+([a-z0-9\\n-]+?)[ \\n]+((?:<?https?:[^#]+)?#[^]*?)(?:[ \\n]+(${broken(NAMED)}))?$`);

@@ -1,5 +1,4 @@
-// Draws the bars of the activity Judge. On the bar of a call, the reader chooses the call's moment. For the keyboard, a bar is a slider. A refused
-// call is red.
+// Draws the bars of Judge, on which the reader chooses the calls' moments. For the keyboard, a bar is a slider. A refused call is red.
 import { lastMoment, nameOfCall } from "../run/judged.js";
 import { callText, chipOf, colourOf, escaped, label, tag, title } from "../run/markup.js";
 import { recordedInWords } from "../run/recorded.js";

@@ -51,7 +51,6 @@ function drawKey(node, x, middle, width, sign, isBelowName) {
 const CLOSED = "M-6 -2 v-5 a6 6 0 0 1 12 0 v5";
 const OPEN = "M-6 -2 v-6 a6 6 0 0 1 12 0";
 
-// Draws a lock over the given width: pale and open, or closed in its owner's colour.
 function drawLock(lock, x, y, width, height, words = "") {
   const isOpen = lock === "free";
   const text = isOpen ? `${words}${width > 90 ? "open" : ""}` : `${words}${words === "" ? "" : "held by "}${holderOf(lock)}`;

@@ -79,8 +79,7 @@ function orderIn([fault, ...values], keys) {
   return { fault, set: `{${keys.join(", ")}}`, ...Object.fromEntries((FAULT_VALUES[fault] ?? ["call"]).map((name, at) => [name, values[at]])) };
 }
 
-// Returns the first sentence of `listset faults` about the cause of an error in a text of one of these kinds ("a schedule", "recorded calls"). It is
-// shown after a colon. Returns null if there is no cause or no sentence.
+// Returns the first sentence of `listset faults` about a cause in texts of these kinds ("a schedule"), for use after a colon, or null.
 export function sentenceOn(ask, cause, ...kinds) {
   if (!cause) return null;
   const causes = ask("listset_faults").text;

@@ -31,10 +31,6 @@ export class Engine {
     return this.answered((exports) => answerInRoom(exports, name, [[input]], FIRST_ROOM));
   }
 
-  judgeFrom(input) {
-    return this.answerFrom("listset_judge_from", input);
-  }
-
   // Returns the diagnosis that the program prints below a refusal of `used` lines. The module reads the recording again for the diagnosis.
   whyFrom(input, used) {
     return this.answered((exports) => answerInRoom(exports, "listset_why_from", [[input, BigInt(used)]], FIRST_ROOM));
@@ -62,8 +58,7 @@ function answerOf(engine, name, given) {
   return { status: answer.status, text: new TextDecoder().decode(answer.bytes), bytes: answer.bytes };
 }
 
-// Copies the texts into the module's memory, and returns the block and the length of each text. They are the first arguments of a function with
-// `parameters` parameters. The last three parameters are the block and the length of the answer's buffer, and the status.
+// Copies texts into the module's memory, and returns the block and length of each. (A function's last three parameters are for its answer.)
 function textsOf(engine, parameters, given) {
   return Array.from({ length: (parameters - 3) / 2 }, (_, at) => {
     const text = given[at] ?? new Uint8Array(0);

@@ -21,7 +21,6 @@ function skipToRun() {
   document.querySelector(first[now.place.screen])?.focus();
 }
 
-// Closes the menu "More" after a choice, a click elsewhere, and Escape.
 export function listenToMenu() {
   const menu = byId("more");
   const summary = menu.firstElementChild;

@@ -39,7 +39,6 @@ export function goByHand(count) {
   goTo(count);
 }
 
-// Goes to the nearest event, forward or back, that changes the set or ends a call.
 function goToTurn(step) {
   const changes = (event) => event.put !== undefined || event.took !== undefined || event.answer !== undefined;
   let count = now.run.count + step;
@@ -80,7 +79,6 @@ export function toggleKeys() {
   byId("keys").setAttribute("aria-expanded", String(!byId("key-help").hidden));
 }
 
-// Opens or leaves the lecture view. After leaving, the focus is on the button that opens the view.
 export function toggleLecture() {
   if (now.place.slide > 0) return void (location.hash = "#teachers");
   const isLeft = document.activeElement === byId("leave");

@@ -1,5 +1,4 @@
 // The state of the page, which is one value with six parts, and its reducer. This file uses no functions of a browser.
-//
 // @ts-check
 /**
  * A place is a scene or the bench, the part of the page that runs any schedule. The bench has the activity "watch" or "judge". A scene has the id of its

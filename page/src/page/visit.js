@@ -56,7 +56,6 @@ export async function copyLink() {
   if (await copied(link)) say(`The link is copied: ${shown}`);
 }
 
-// Copies a text. Returns whether the browser allowed it.
 export const copied = async (text) => navigator.clipboard?.writeText(text).then(() => true, () => false) ?? false;
 
 const SCENES = ["assignment", "story", "ask", "code", "teachers", "notes", "handout"]; // run/address.js reads the addresses of the other activities, which can contain schedules
@@ -90,15 +89,13 @@ function withTry(named, text) {
 }
 
 function addressOfLevel({ id }, { text }) {
-  const name = levelOfNumber(id);
   if (id === "") return "#break";
-  return withTry(`#break=${id}`, text === startOfLacking(name) ? "" : text);
+  return withTry(`#break=${id}`, text === startOfLacking(levelOfNumber(id)) ? "" : text);
 }
 
 // Returns the address of a lesson: its course (unless that is the book's), its name, and the reader's attempt unless the address would be too long.
 function addressOfLesson({ id }, { text }, { course }) {
-  const named = `${course === null ? "#" : `${course}&`}learn${id === "" ? "" : `=${id}`}`;
-  return withTry(named, text);
+  return withTry(`${course === null ? "#" : `${course}&`}learn${id === "" ? "" : `=${id}`}`, text);
 }
 
 export const addressOfAssignment = ({ id, given }) => `#${new URLSearchParams({ assignment: id, ...given })}`.replaceAll("%2C", ",");

@@ -1,5 +1,4 @@
-// Reads and writes addresses; page/README.md lists their forms. An address names a broken list by its number, since the name would reveal the missing
-// check. The engine decides whether the text of an address is a schedule.
+// Reads and writes addresses (listed in page/README.md). A broken list has a number there, since its name would reveal the missing check.
 import { LACKING } from "../../made/classics.js";
 import { LISTS } from "../../made/rows.js";
 import { scheduleText, versionOf } from "./schedule_text.js";

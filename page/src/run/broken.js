@@ -1,5 +1,4 @@
-// Broken lists, each without one check. A run is judged by two proved functions. One checks the order of the linearization points. If this order is
-// refused, the other decides whether some other order explains the calls. A run is broken if none does.
+// Broken lists, each without one check. A run is broken if neither the order of its linearization points nor any other order explains it (both proved).
 import { LACKING } from "../../made/classics.js";
 import { readReport, readVerdict } from "../engine/answers.js";
 import { nameOfCall } from "./judged.js";

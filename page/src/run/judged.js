@@ -1,5 +1,4 @@
-// An exercise of Judge: the run has calls and final keys, and the reader chooses the order and the replies. The proved `check` accepts every order that
-// explains the run, not only the order of the replayer.
+// An exercise of Judge: the reader chooses the order and the replies. The proved `check` accepts every order that explains the run.
 import { readReport, readVerdict } from "../engine/answers.js";
 import { callText, letterOf, openReply } from "./markup.js";
 

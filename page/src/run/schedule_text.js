@@ -1,5 +1,4 @@
-// Reads and writes schedules and drafts. A draft can have lines `go T out` (thread T runs until its call returns) and `go T to ROW` (until it reaches the
-// row of the step table).
+// Reads and writes schedules and drafts. A draft can have lines `go T out` (until the call returns) and `go T to ROW` (until a row of the step table).
 import { HEADER_LINES, isTrace, Trace } from "./trace.js";
 
 // Returns the text of a schedule or draft with these lines. Initial keys and ceilings need version 2.

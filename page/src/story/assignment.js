@@ -165,7 +165,6 @@ function isNamed() {
   return false;
 }
 
-// Returns a name such as joerg-mueller-4711-week-3.txt.
 function fileName() {
   const { student, number } = keptStory();
   const letters = { ä: "ae", ö: "oe", ü: "ue", ß: "ss" };

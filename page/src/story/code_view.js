@@ -1,5 +1,4 @@
-// The activity Step by the code: two threads call one list, and the reader can begin any call. Each line of the code is
-// a button. The address contains the run.
+// The activity Step by the code: the reader begins any calls, and each line of the code is a button. The address contains the run.
 import { LISTS } from "../../made/rows.js";
 import { now } from "../page/now.js";
 import { addressOfCode, linesOfCode, linkTo, SET_OF_CODE, START_OF_CODE } from "../page/visit.js";

@@ -101,7 +101,6 @@ export function showScrub(figure) {
   box.hidden = !figure.isOpen;
 }
 
-// ---- Presses on a figure: a thread's button, a line of code, the ends of the slider, Undo, Start over.
 const MOST_KEY = 999;
 
 export function pressed(figure, event) {

@@ -136,7 +136,6 @@ function showCode(figure, { state, event, before }) {
 const toggleOf = (thread, active) => `<button class="who ${colourOf(thread)}" data-active="${thread}" aria-pressed="${thread === active}"
   title="${letterOf(thread)} runs to another line that is pressed">${letterOf(thread)}</button>`;
 
-// Scrolls to the next line of the thread that moved, or to its last line if its call has returned.
 function scrollToLit(figure, moved) {
   const box = figure.part("lines");
   const line = box?.querySelector(`.lit.${colourOf(moved)}`) ?? box?.querySelector(".made") ?? box?.querySelector(".lit") ?? box?.querySelector(".line:has(del)");

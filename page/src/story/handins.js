@@ -122,8 +122,7 @@ function notesOnNames(row, rows) {
 // Returns a schedule with one step on each line, so that schedules with the same steps are equal as texts.
 const oneByOne = (schedule) => schedule.replace(/^go (\d+) (\d+)$/gm, (_, thread, count) => Array(Number(count)).fill(`go ${thread}`).join("\n"));
 
-// Adds to each row the students with the same schedules: { count, of, isListed, rows }. Returns the schedules that many students have, since they are
-// no sign of copying. A single shared schedule can be chance, so it is listed only if the student has no other rare schedule.
+// Adds to each row the students with the same schedules. Returns the schedules that many have: no sign of copying. A single shared one can be chance.
 function noteCopies(rows) {
   const byText = new Map();
   const own = new Map(rows.map((row) => [row, [...row.solved].filter(([, schedule]) => schedule !== null).map((entry) => entry.join("\n"))]));

@@ -12,24 +12,6 @@ const given = { files: [], tooLong: [], result: null, turn: 0 };
 const MARKS = { solved: '<b class="yes">✓</b>', wrong: '<b class="no" title="handed in, and wrong">✗</b>', none: "–" };
 const piece = (name) => part(`#in-${name}`);
 
-export const handInsHtml = () => `<section class="panel" id="handins"><h2>What they handed in</h2>
-  <p class="prose">Drop the files of a class: each solution is run again and judged, here in your browser. No file leaves this computer. One file can
-  contain several hand-ins, also quoted in an e-mail.</p>
-  <label class="wide-label">The link of the assignment, if there is one
-    <input id="in-link" placeholder="${escaped(linkTo("#assignment=…"))}"></label>
-  <label class="drop" id="in-drop"><input type="file" multiple id="in-files"><b>Drop files or a folder here</b>
-    <span class="small">or press to choose them</span></label>
-  <progress id="in-progress" hidden aria-label="files checked"></progress><p id="in-said" role="status"></p><div id="in-shared"></div>
-  <div id="in-table" class="scroll" tabindex="0" role="group" aria-label="the hand-ins"></div>
-  <p class="line" id="in-save" hidden><button class="primary" data-do="csv">Save as CSV</button>
-  <button data-do="csv" data-parted=";">Save with semicolons (German, French)</button>
-  <label><input type="checkbox" id="in-wrong"> only rows with a wrong solution or an error</label> <span id="in-hidden" class="small" role="status"></span><button class="quiet" data-do="clear">Clear</button></p>
-  <p class="small">✓: solved; ✗: handed in and wrong, so the text was changed or is old; –: not solved or not tried, since the page hands in solutions
-  only. The CSV has all rows, by name; a wrong solution is 0, a missing one an empty cell. The page does not check the due date: use the time of your mail
-  or course system. The check shows that a solution solves its task, and that two students
-  have the same schedule. It cannot show who wrote a text: use it to admit students to an exam rather than for marks. A level of Break counts when the
-  run breaks the list; “check named” adds that the student also chose the missing check on the page.</p></section>`;
-
 async function check() {
   const turn = ++given.turn; // if a later check has begun, the result of this check is not shown
   if (given.files.length + given.tooLong.length === 0) return;
@@ -69,6 +51,7 @@ export function beginHandIns() {
   const drop = piece("drop");
   piece("files").onchange = ({ target }) => take([...target.files].map((file) => ({ name: file.name, file })));
   piece("link").oninput = check;
+  piece("link").placeholder = linkTo("#assignment=…");
   piece("wrong").onchange = showRows;
   drop.ondragover = (event) => (event.preventDefault(), drop.classList.add("over"));
   drop.ondragleave = () => drop.classList.remove("over");

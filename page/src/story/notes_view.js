@@ -82,7 +82,6 @@ function pictureOf(figure) {
   return drawStage(run.state, null, { ...ROOM, slots, flat, lock: lockShown(figure) }, `h${figure.list}${figure.slots}${run.lines.length}`);
 }
 
-// On paper nothing can be pressed.
 const onPaper = (task) =>
   task.replace(/^Press A and B in/, "Write").replace("an order that", "an order of A and B that").replace(/^Press [^.]* until (A’s|its) call returns\./, "Let A run until its call returns, and draw the list.");
 

@@ -1,4 +1,5 @@
 // The parts of the path's screens: progress marks, welcome, bottom bar, last screen.
+import { byId } from "../page/dom.js";
 import { isLecture } from "../page/now.js";
 import { tag } from "../run/markup.js";
 import { LISTS_AT_END, SCREENS } from "./path.js";
@@ -62,7 +63,6 @@ export function drawBar(stage, number, words = number === SCREENS.length ? "And 
   drawOn(isDone, isLecture() ? "Next slide →" : words); // (the slides do not have all screens of the path)
 }
 
-// Turns the parts of the row "set" into buttons. A part shows what the set contains between two changes.
 export function openContents(figure, press) {
   figure.part("strip").querySelectorAll(".content").forEach((stretch, index) => {
     const contents = stretch.querySelector("title").textContent;
@@ -76,7 +76,6 @@ export function openContents(figure, press) {
   });
 }
 
-// ---- The last screen: a summary, and links to the other activities.
 export const LAST = SCREENS.length + 1; // the number of the last screen
 
 const WAYS = [
@@ -86,12 +85,6 @@ const WAYS = [
   ["#learn", "Solve it", "Twelve lessons: choose the steps until the run meets the task."],
   ["#teachers", "Teach it", "A lecture of 45 minutes, homework in one link, hand-ins checked."],
 ];
-
-const TRUTH = `<details class="truth"><summary>How true is this?</summary><p>Each step that you saw was computed by a program. A machine has
-  checked the proof that this program runs the lists step by step. “Lost” is said only if a proved judge finds that no order of the calls explains their replies and
-  the final list. The list of screens 1 and 2 is CoarseList, with its lock ignored; that of “Why two locks?” is FineList, with a remove
-  that does not lock the node that it takes out; that of screen 5 is OptimisticList without its second walk.
-  Whether the page draws these steps correctly is only tested. <a href="#read">More</a></p></details>`;
 
 const TREE = ["A balanced tree, one lock", "", "", "", "", 9.1, 4.1];
 const rowOf = (name, ...cells) => tag("tr", {}, tag("th", { scope: "row" }, name), ...cells.map((text) => tag("td", {}, text)));
@@ -116,7 +109,7 @@ export function endHtml(done) {
     optimistic were slower than one lock at both sizes: hand over hand locks every node on its way, and optimistic walks twice.</p>
     <table class="five"><caption>Millions of calls a second, measured with four threads on four processors, one third each of add, remove and contains</caption>
     <thead><tr><th>The list</th><td>16 numbers</td><td>1,000 numbers</td></tr></thead>
-    <tbody>${[...LISTS_AT_END, TREE].map(([name, , , , , few, many]) => rowOf(name, few, many)).join("")}</tbody></table>${TRUTH}
+    <tbody>${[...LISTS_AT_END, TREE].map(([name, , , , , few, many]) => rowOf(name, few, many)).join("")}</tbody></table>${byId("truth").innerHTML}
     <p class="line"><button class="quiet" data-do="afresh">Delete my answers</button></p></section>
     <footer class="foot"><button class="quiet" data-do="back">← Back</button><span class="spread"></span>
     <a class="button primary" href="#ask">Guess, then see →</a></footer>`;

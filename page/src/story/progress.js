@@ -36,7 +36,6 @@ export function startAfresh(button) {
   try {
     for (const name of Object.keys(localStorage)) if (name.startsWith("listset-")) localStorage.removeItem(name);
   } catch {
-    // This browser stores nothing.
   }
   location.hash = "#story=1&gone=yes"; // the first screen confirms it
   location.reload();

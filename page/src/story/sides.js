@@ -1,5 +1,4 @@
-// Two lists side by side run the same calls. A turn executes the next step of a thread in both lists. If the thread's call has returned in one list only,
-// that list waits.
+// Two lists side by side run the same calls. A turn executes the next step of a thread in both. A list in which the call has returned waits.
 import { letterOf } from "../run/markup.js";
 import { MOST_NUMBER } from "../run/trace.js";
 import { LiveRun, RunFault } from "./live_run.js";

@@ -1,5 +1,4 @@
-// Handles keys on a slide of the lecture. A presenter's keys move through the steps of the slide, and from its end to the next slide. Keys pressed
-// during an animation are handled after it.
+// Handles a presenter's keys: through the steps of a slide, and on to the next slide. Keys pressed during an animation are handled after it.
 import { LECTURE, slideAddress } from "../data/lecture.js";
 import { isLecture, now } from "../page/now.js";
 import { goByHand } from "../page/play.js";

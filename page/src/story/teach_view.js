@@ -5,10 +5,11 @@ import { LECTURE, slideAddress } from "../data/lecture.js";
 import { BREAK_LEVELS } from "../data/levels.js";
 import { counted, escaped, listOptions, tag } from "../run/markup.js";
 import { seedOf, warningOf } from "../run/address.js";
+import { byId } from "../page/dom.js";
 import { linkTo } from "../page/visit.js";
 import { QUESTIONS } from "./ask.js";
 import { addressOfTasks, allLevels, bookCourse } from "./assignment.js";
-import { beginHandIns, handInDeeds, handInsHtml } from "./handins_view.js";
+import { beginHandIns, handInDeeds } from "./handins_view.js";
 import { startAfresh } from "./progress.js";
 import { copyText, head, part } from "./scene.js";
 
@@ -139,7 +140,7 @@ function html() {
   const jump = ([id, name]) => tag("button", { class: "quiet", "data-do": "jump", "data-panel": id }, name);
   const lead = `<p class="lead">A lecture of 45 minutes, figures for your own pages, homework as a single link, and automatic checking of hand-ins.
     No account, no server: all of it happens in the browser.</p><p class="jump">${Object.entries(PANELS).map(jump).join("")}</p>`;
-  return `${head("", "For teachers", lead, "title")}${lectureHtml()}${embedHtml()}${homeworkHtml()}${handInsHtml()}${OWN}
+  return `${head("", "For teachers", lead, "title")}${lectureHtml()}${embedHtml()}${homeworkHtml()}${byId("handins-parts").innerHTML}${OWN}
     <footer class="foot"><span id="scene-said" class="small" role="status"></span><span class="spread"></span>
     <button class="quiet" data-do="jump" data-panel="homework">Homework</button><button class="quiet" data-do="jump" data-panel="handins">Hand-ins</button></footer>`;
 }
