@@ -129,12 +129,12 @@ class Judging {
     const { verdict, tries } = this;
     const isAsked = homeworkOf(now.place, now.task) !== null && verdict?.isRight !== true; // in homework, buttons that reveal the answer are hidden until the reader's answer is right
     for (const name of ["end", "levels"]) judgePart(name).style.visibility = isAsked ? "hidden" : "";
-    const told = isLecture() ? now.scene.note : ""; // the answer, at the end of the last slide
+    const answer = isLecture() ? now.scene.note : ""; // the answer, at the end of the last slide
     const link = linkTo(slideAddress(now.place.slide));
     const where = isNarrow() || warningOf(link) !== "" ? "" : ` · ${link.replace(/^https?:..|index.html/g, "")}`; // for the class
-    const kind = told === "" ? ({ true: "right", false: "wrong" }[verdict?.isRight] ?? "") : "told";
+    const kind = answer === "" ? ({ true: "right", false: "wrong" }[verdict?.isRight] ?? "") : "shown";
     judgePart("verdict").className = kind;
-    judgePart("verdict").textContent = told || (verdict?.says ?? (now.place.slide === 0 ? "" : `${LISTS[now.run.trace.kind].name}${where}`));
+    judgePart("verdict").textContent = answer || (verdict?.says ?? (now.place.slide === 0 ? "" : `${LISTS[now.run.trace.kind].name}${where}`));
     judgePart("tries").textContent = tries === 0 ? "" : `${tries} ${tries === 1 ? "try" : "tries"} refused`;
     judgePart("hint").textContent = kind === "wrong" && tries >= 2 ? hintOfRun() : "";
     judgePart("line").innerHTML = kind === "right" ? `<details><summary>Saved. The line to hand in</summary><code>${escaped(this.line)}</code></details>` : "";

@@ -4,6 +4,18 @@ import pytest
 from test_stage import fit
 
 
+@pytest.mark.parametrize("size", [(1366, 640), (1280, 720)])
+def test_replies_and_button_are_above_the_bar(visitor, size):
+    fit(visitor, *size)
+    visitor.open("#read")
+    examples = visitor.inside("return listsets.examples().map(({ name }) => `example=${name}`)")
+    for run in ("seed=lazy.2.5.2.17", "seed=lock-free.2.5.2.3", "seed=coarse.2.5.2.9", "seed=fine.2.5.2.4", *examples):
+        visitor.open(f"#{run}&judge")
+        visitor.wait("return document.querySelector('#judge-bars svg') !== null")
+        lowest = "Math.max(...[...document.querySelectorAll('#judge-replies select, #judge-ask')].map((it) => it.getBoundingClientRect().bottom))"
+        assert visitor.script(f"return {lowest} - document.getElementById('dock').getBoundingClientRect().top") <= 0, run
+
+
 def test_an_answer_without_point_and_reply_is_reported(visitor):
     visitor.open("#example=snip&judge")
     visitor.click("#judge-ask")

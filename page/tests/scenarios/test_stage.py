@@ -178,6 +178,10 @@ def test_other_places_are_readable(walk):
         walk.go(address)
 
 
+SMALLEST = """return Math.min(...[...document.querySelectorAll('.list svg text')].filter((it) => it.getClientRects().length > 0)
+    .map((it) => parseFloat(getComputedStyle(it).fontSize) * it.getScreenCTM().a / innerHeight))"""
+
+
 @pytest.mark.parametrize("size", [(1280, 720), (1920, 1080)], ids=["1280x720", "1920x1080"])
 def test_slides_are_readable(visitor, size):
     walk = Walk(visitor, size)
@@ -193,6 +197,10 @@ def test_slides_are_readable(visitor, size):
         walk.go(f"#lecture={number}")
         visitor.idle()
         visitor.script("return new Promise((done) => setTimeout(() => requestAnimationFrame(() => requestAnimationFrame(done)), 100))")  # the figure is drawn in its final size
+        for _ in range(7 if number == 8 else 0):  # the turns of the two lists
+            assert size[0] < 1900 or visitor.script(SMALLEST) > .0325, "a turn of slide 8"
+            visitor.press("PageDown")
+            visitor.idle()
         labels = visitor.script("return [...document.querySelectorAll('.list svg text')].filter((it) => it.getClientRects().length > 0).map((it) => [it.textContent, parseFloat(getComputedStyle(it).fontSize) * it.getScreenCTM().a / innerHeight])")
         assert size[0] < 1900 or all(share > .0325 for _, share in labels), (number, labels)
     walk.end()

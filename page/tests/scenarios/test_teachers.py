@@ -80,7 +80,9 @@ def test_notes_follow_the_slides_and_a_handout_can_be_printed(visitor):
     assert visitor.text("h1") == "2. One lock"
     visitor.open("#handout")
     assert "Press" not in visitor.text("#scene").replace("Press A or B", "") and "Write an order of A and B that loses a number." in visitor.text("#scene")
-    assert visitor.script("return document.querySelectorAll('.sheet .list svg').length") == 14
+    assert visitor.script("return document.querySelectorAll('.sheet .list svg').length") == 19
+    slides = visitor.script("return [...document.querySelectorAll('.sheet h2')].map((it) => it.innerText).filter((text) => text.startsWith('Slide'))")
+    assert slides == ["Slide 8: Who waits?", "Slide 10: Helping", "Slide 11: Everybody judges"]
 
 
 def test_an_assignment_names_its_unknown_tasks(visitor):
@@ -157,6 +159,8 @@ def test_hand_ins_of_a_class_are_checked(visitor):
     assert [solved(), solved()] == ["2", "0"] and visitor.is_seen(".class [aria-sort=ascending]")
     visitor.type("#in-link", "http://example.org/foo")
     assert visitor.text("#in-said") == "This is not the link of an assignment: “#assignment=” is missing." and not visitor.is_seen(".class")
+    visitor.type("#in-link", f"http://example.org/{LINK}http://example.org/{LINK}")
+    assert visitor.text("#in-said").startswith("Here is more than one link.") and not visitor.is_seen(".class")
 
 
 def test_the_table_shows_levels_and_unreadable_texts(visitor):
