@@ -2,7 +2,7 @@
 import { LISTS } from "../../made/rows.js";
 import { callText, chipOf, escaped, keyText, label, openReply, tag, title } from "../run/markup.js";
 import { contentsIn } from "../run/state.js";
-import { drawCursor, GROWN, HISTORY_LEFT, isReached } from "./history.js";
+import { drawCursor, HISTORY_LEFT, isReached } from "./history.js";
 
 const MOST_ROWS = 8; // if a run has more threads, only threads with a pending call are shown
 
@@ -81,7 +81,7 @@ function drawContent(part, scale) {
   const all = `{${part.keys.join(", ")}}`;
   const wide = KEY_WIDTH * scale.grown;
   const room = Math.floor(((isLast ? scale.edge : shown) - left - 10) / wide);
-  const text = all.length <= room ? all : room > 6 ? `${all.slice(0, room - 2)}…` : "";
+  const text = all.length <= room ? all : room > 6 ? `${all.slice(0, room - 2)}…` : room > 0 ? "…" : "";
   const right = text === "" ? shown : Math.max(shown, left + 10 + wide * text.length);
   const isNow = scale.count < part.to && (scale.count >= part.from || part.from <= scale.first);
   return tag("g", { class: isNow ? "content now" : "content" },
@@ -100,7 +100,7 @@ function drawWindow(scale, total, x) {
 // Returns the name of the row with the contents of the set. A broken list can contain other keys than the linearization points imply.
 function nameOfContents({ lacks }, grown) {
   if (lacks === null) return label({ class: "name", x: 6, y: 17 }, "set");
-  const lines = ["should", "have"].map((words, line) => label({ class: "name", x: 0, y: 9 + grown + 12 * line, style: `font-size:${grown === GROWN ? 15 : 12}px;letter-spacing:-.6px` }, words));
+  const lines = ["should", "have"].map((words, line) => label({ class: "name", x: 0, y: 9 + grown + 12 * line, style: `font-size:${Math.min(14, Math.round(12 * grown))}px;letter-spacing:-.6px` }, words));
   return tag("g", {}, title(`${BY_POINTS}; the list may have other keys`), ...lines);
 }
 const BY_POINTS = "the set by the linearization points of the calls";

@@ -98,7 +98,7 @@ export const BOOK_CODE = {
   fine: [
     { text: "lock head; pred = head", rows: [1] },
     { text: "curr = pred.next", rows: [2] },
-    { text: "loop: lock curr, pred still locked", rows: [3, 14] }, // (only a broken list has row 14)
+    { text: "loop: lock curr, pred still locked", rows: [3] },
     { text: "    if curr.key ≥ key: leave the loop", rows: [4] },
     { text: "    release pred", rows: [5] },
     { text: "    pred = curr; curr = curr.next", rows: [6] },
