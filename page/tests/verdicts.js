@@ -935,7 +935,7 @@ const OF_OWN = [
     const lacking = it.calls.filter((call) => call.ended !== null && !(it.answer.points.has(call.id) && isSaid(call)));
     return lacking.map((call) => `the moment${isSaid(call) ? "" : " and the reply"} of ${nameIn(call)}`).join(", ") === told;
   }],
-  [/^Right: in this order every reply is correct, and the calls leave the numbers of this run: a proved program checked it\.$/, (it) => faultsOf(it).length === 0],
+  [/^Right: in this order every reply is correct, and the calls leave the numbers of this run \(checked by a program that is proved correct\)\.$/, (it) => faultsOf(it).length === 0],
   [/^The program that made this run has the same order\.$/, (it) => it.answer.order().map(({ call }) => call.id).join() === it.places.map(({ call }) => call).join()],
   [/^The program that made this run has another order: both are right\.$/, (it) => faultsOf(it).length === 0 && it.answer.order().map(({ call }) => call.id).join() !== it.places.map(({ call }) => call).join()],
   [/^(\S+ of [A-D]) cannot return (\S+) there: (before your first call|after (\S+ of [A-D]) in your order) the set is {(.*)}, and the call would return (\S+)\.$/,

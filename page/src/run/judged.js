@@ -94,7 +94,7 @@ function rightInWords(answer) {
   const own = answer.order().map(({ call, reply }) => `${call.id}-${reply}`);
   const isSame = own.join() === answer.exercise.places.map(({ call, reply }) => `${call}-${reply}`).join();
   const also = isSame ? "The program that made this run has the same order." : "The program that made this run has another order: both are right.";
-  return `Right: in this order every reply is correct, and the calls leave the numbers of this run. A program that is proved correct checked it. ${also}`;
+  return `Right: in this order every reply is correct, and the calls leave the numbers of this run (checked by a program that is proved correct). ${also}`;
 }
 
 function faultInWords(answer, { fault, call, place, reply, set, answer: due, begun, other, ended }) {
