@@ -22,7 +22,7 @@ NAMES = sorted(it.name for it in SOURCES.iterdir() if it.is_dir())
 
 
 def lines_with_benches():
-    """Returns the lines of crates.txt and of bench/crates/rows.txt, by crate."""
+    """Returns the lines of crates.txt and of bench/crates/rows.txt, keyed by crate."""
     return crates_txt.lines_of() | crates_txt.lines_by_crate((SOURCES / "rows.txt").read_text())
 
 

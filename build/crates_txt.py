@@ -14,7 +14,7 @@ NO_EDITS = shutil.ignore_patterns("out", "must-fail")
 
 
 def lines_by_crate(text):
-    """Returns the lines of a crates.txt by crate, dependencies first."""
+    """Returns the lines of a crates.txt, keyed by crate, dependencies first."""
     lines = [line.partition("#")[0].strip() for line in text.splitlines()]
     return {line.partition(":")[0].split()[0]: line for line in lines if line}
 

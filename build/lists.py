@@ -66,7 +66,7 @@ def add_exercises(root):
 
 def missing(one, places, root=TOP):
     """Returns a line for each missing text. `places` maps each file to the texts that it must contain, with
-    placeholders for the names of the list `one`. The line has the path of the file and the text.
+    placeholders for the names of the list `one`. The line states the path of the file and the text.
     """
     texts = {path: (root / path).read_text() for path in places}
     wanted = [(path, form.format(**vars(one))) for path, forms in places.items() for form in forms]

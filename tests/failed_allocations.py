@@ -110,7 +110,7 @@ def out_of_memory_at_each(program, words, refuse):
 
 
 def texts(program, room):
-    """Writes the input files. Returns their paths by name. Most of them are schedules with one thread."""
+    """Writes the input files. Returns their paths, keyed by name. Most of them are schedules with one thread."""
     files = {name: room / f"{name.lower()}.text" for name in ("OPENING", "ENDED", "TRIES", "CHAIN", "DRAWN")}
     few, many = ("".join(f"opening {key}\n" for key in range(1, most)) for most in (13, 6_001))
     one, two = ("listset-schedule 2\nlist coarse\nthreads {}\nquota 5\n".format(threads) for threads in (1, 2))

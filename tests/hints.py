@@ -96,7 +96,7 @@ AT_TERMINAL = {
 
 def at_terminal(words, cwd, typed=None, env=None, at=(None, None)):
     """Returns the text that a command prints at a terminal, and its exit status. `typed` is its standard input. `at`
-    has a text and a function. When the text has been printed, the function is called with the output so far.
+    is a pair of a text and a function. When the text has been printed, the function is called with the output so far.
     """
     text, call = at
     ours, theirs = pty.openpty()

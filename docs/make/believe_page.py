@@ -67,7 +67,7 @@ def definitions_in(text):
 
 @functools.cache
 def modules():
-    """Returns the files of definitions of all crates, by module name."""
+    """Returns the files of definitions of all crates, keyed by module name."""
     found = {}
     for path in sorted({*CRATES.glob("*/specs/**/*.antt"), *CRATES.glob("*/proofs/**/*.antt")}):
         text, file = path.read_text(encoding="utf-8"), path.relative_to(CRATES)

@@ -44,7 +44,7 @@ def table_of_orders(top):
 
 
 def helps(top):
-    """Returns the output of `listset help COMMAND` in tests/transcripts, by command."""
+    """Returns the output of `listset help COMMAND` in tests/transcripts, keyed by command."""
     page = (top / "tests/transcripts/help.md").read_text()
     return dict(it.split("\n", 1) for it in page.split("    $ listset help ")[1:])
 

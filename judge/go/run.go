@@ -151,7 +151,7 @@ func (h *here) stop() { atomic.StoreUint32(&h.isStopping, 1) }
 
 func (h *here) close() { h.stop() }
 
-// made performs the run with this seed. It returns the reason if the run was cut short.
+// made performs the run with this seed. If the run was cut short, trouble is the reason.
 func (a *area) made(seed int64, s size, file string, by caller) (trouble string, err error) {
 	for i := range a.memory {
 		a.memory[i] = 0

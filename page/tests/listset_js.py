@@ -37,8 +37,8 @@ def parts_of_error(text):
 
 
 def difference(words, ours, due):
-    """Returns a line if the two runs differ, otherwise None. For wrong arguments, clap's tips are not compared: only
-    the first line and the usage.
+    """Returns a line that shows both runs if they differ, otherwise None. For wrong arguments, clap's tips are not
+    compared: only the first line and the usage.
     """
     if due[1].startswith(b"error: "):
         is_right = (ours[0], ours[2]) == (due[0], due[2]) == (b"", 2) and parts_of_error(ours[1]) == parts_of_error(due[1])

@@ -135,7 +135,7 @@ function callIn(calls, text) {
   return callNamed(calls, name, reply ?? null).find((call) => call.begun === Number(begun));
 }
 
-// The patterns of the sentences about a recording, each with a test that returns whether the sentence is true. `said` keeps the facts from earlier sentences.
+// The patterns of the sentences about a recording, each with a test that returns whether the sentence is true. `said` holds the facts from earlier sentences.
 const OF_RECORDING = [
   [/^Linearizable: an order explains (?:this one call|these (\d+) calls)(, whatever keys it leaves| and leaves the keys)\. This verdict is about this recording only\.$/,
     (it, [count, keys]) => isExplained(it) && Number(count ?? 1) === it.calls.length + it.padding.length && keys.startsWith(",") === (it.keys === null)],

@@ -195,7 +195,7 @@ def page_of(source, text, document, framed):
 
 
 def docs_made(top):
-    """Returns the pages by name, made of docs/, page/index.html, page/made/traces.js and examples/schedules/lacks."""
+    """Returns the pages, keyed by name, made of docs/, page/index.html, page/made/traces.js and examples/schedules/lacks."""
     runs = Runs((top / "page" / "made" / "traces.js").read_text(encoding="utf-8"))
     broken = {it.stem: it.read_text(encoding="utf-8") for it in (top / "examples" / "schedules" / "lacks").glob("*.schedule")}
     framed = frame((top / "page" / "index.html").read_text(encoding="utf-8"))

@@ -26,7 +26,7 @@ def row_of(step, then):
 
 
 def rows_of(text):
-    """Parses the rows of a table. A row has a number, a step, and the actions after the step."""
+    """Parses the rows of a table. A row consists of a number, a step, and the actions after the step."""
     cells = re.findall(r"^\|? *(\d+) \|([^|]*)\|([^|\n]*)", text, re.M)
     return {int(number): row_of(step.strip(), then.strip()) for number, step, then in cells}
 

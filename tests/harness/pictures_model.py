@@ -8,9 +8,9 @@ import collections
 import functools
 
 GREATEST = 4294967295
-# The contents of a picture: the list; the number of events (None for a report); the calls; each call's end and reply, by
-# number; the entries of the order; the set at each moment; the final keys; why the order is refused, or None; and the refused
-# event, or None.
+# The contents of a picture: the list; the number of events (None for a report); the calls; each call's end and reply, keyed
+# by the call's number; the entries of the order; the set at each moment; the final keys; why the order is refused, or None;
+# and the refused event, or None.
 Picture = collections.namedtuple("Picture", "kind threads quota events calls ends order sets keys refusal refused")
 Place = collections.namedtuple("Place", "number reply at change")  # an entry of the order; it has no moment if the order is refused
 # Why an order is refused: the message, the first moment of the picture, and the number of an unknown call.

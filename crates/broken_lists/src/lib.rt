@@ -1,8 +1,8 @@
 //! The broken lists. A broken list is one of the five lists with one check removed.
 //!
-//! `BrokenList` names a broken list, and the module `flaws` has its steps. A broken list violates laws that the trait
-//! `Machine` requires. Therefore its state is a `BrokenWorld`, not a `World`. `broken_world_of` creates this state for
-//! a schedule. Some runs have calls that no order explains.
+//! `BrokenList` names a broken list, and the module `flaws` defines its steps. A broken list violates laws that the
+//! trait `Machine` requires. Therefore its state is a `BrokenWorld`, not a `World`. `broken_world_of` creates this
+//! state for a schedule. Some runs have calls that no order explains.
 #![tactic(auto)]
 
 mod broken_fine; // the steps of broken FineLists

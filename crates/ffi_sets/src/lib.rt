@@ -2,8 +2,8 @@
 //!
 //! A `CSeat` is a handle. It is empty, or owns a seat of a set (the right to call as one thread), a receipt (the events
 //! that a seat has seen), or the keys of a closed set. Each function accepts all arguments that its types allow, with
-//! one exception: seats and receipts with the same list and number must belong to the same set. `codes` has the numbers
-//! of errors.
+//! one exception: seats and receipts with the same list and number must belong to the same set. `codes` defines the
+//! numbers of errors.
 //!
 //! A call from a seat stops without a reply after 2^64 - 1 rounds of a loop (`lset_live::Bounded`), because waiting
 //! forever would need a runtime, which C code does not have. The seat is then lost, and each later call from the seat

@@ -54,7 +54,7 @@ app_in row = fold with_argument (new_app row.1) row.2
 abbrev pub with_command : App → TableRow → App
 with_command a row = with_subcommand a (app_in row).top
 
--- The table of the program's commands. The constant `COMMANDS` has the same rows with help texts.
+-- The table of the program's commands. The constant `COMMANDS` lists the same rows with help texts.
 abbrev pub table : List TableRow
 table = map (λ row. (row.0, row.1.now, map (λ argument. (argument.0.now, argument.1)) row.3.now)) COMMANDS.now
 

@@ -292,7 +292,7 @@ module _ (op : Opening) (last : ℕ) (log : Log) (contents : Contents) (counts :
     leaves : set_left (opening_set op) (map (answered history) (map placed_of sorted)) ≡ set_at op log last
     leaves = rw answers_are led.1
 
-    -- ---- The order has each call once, and keeps the real-time order of calls
+    -- ---- The order contains no call twice, and keeps the real-time order of calls
     is_once : AllPairs (λ (p q : Placed). p.call ≢ q.call) (map placed_of sorted)
     is_once = pairs_std (λ (p q : Placed). p.call ≢ q.call) (map placed_of sorted)
         (pairs_map placed_of (λ (p q : Placed). p.call ≢ q.call) sorted
@@ -313,7 +313,7 @@ module _ (op : Opening) (last : ℕ) (log : Log) (contents : Contents) (counts :
         each s q h i b p = no_end q.traced.ended q.moment s.traced.begun (during i).in_call (rw (numbered q i, numbered s h) at p)
             (omega (arith, (during h).from, (comes_on s q h i b).0))
 
-    -- ---- The order has each completed call, and only calls of the history
+    -- ---- The order contains each completed call, and only calls of the history
     is_known : All (λ (p : Placed). p.call < length history) (map placed_of sorted)
     is_known = All-from_recursion (λ (p : Placed). p.call < length history) (map placed_of sorted)
         (all_map placed_of (λ (p : Placed). p.call < length history) sorted

@@ -107,8 +107,8 @@ pub record StandsOnce (h : HistoryValue) (calls : List CallRecord) (order : List
   pub once : Passes (IsTwice order) order
   pub holds : MarksCalls marks order
 
--- The result of the first three checks: `StandsOnce` holds, and the order has every completed call. The sequential set
--- is still in its opening state.
+-- The result of the first three checks: `StandsOnce` holds, and the order contains every completed call. The sequential
+-- set is still in its opening state.
 pub record LeavesNoneOut (h : HistoryValue) (calls : List CallRecord) (order : List Placed) (marks : List Bool)
     (oracle : OracleValue) : Type 0 where
   pub stands_once : StandsOnce h calls order marks

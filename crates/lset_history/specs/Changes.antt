@@ -106,7 +106,7 @@ IsBounded changes = (key : ℕ) → 2 ^ 32 ≤ key → changes key ≡ []
 abbrev pub IsListed : BTreeMap ℕ ℕ → ℕ → ℕ → Type 0
 IsListed keys_at key moment = 0 < moment → get nat_cmp keys_at moment ≡ Some key
 
--- The invariant of the Rust type `Changes`. Both indexes are complete: `keys_at` has the key of each moment of a
+-- The invariant of the Rust type `Changes`. Both indexes are complete: `keys_at` contains the key of each moment of a
 -- change, and `keys_now` has each key that is present at the end. Both can have surplus entries.
 pub record AreKept (c : ChangesValue) (keys_at : BTreeMap ℕ ℕ) (keys_now : BTreeSet ℕ) : Type 0 where
   pub opening : IsStrictlyIncreasing c.opening

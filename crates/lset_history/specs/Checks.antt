@@ -42,7 +42,7 @@ abbrev pub LeavesOutFirst : List CallRecord → List Bool → ℕ → Type 0
 LeavesOutFirst calls marks number =
     IsLeftOut calls marks number × ((smaller : ℕ) → smaller < number → IsLeftOut calls marks smaller → ⊥)
 
--- Holds if the reply is right: the sequential set returns this reply and, if the call is completed, the history has
+-- Holds if the reply is right: the sequential set returns this reply and, if the call is completed, the history records
 -- the same reply.
 pub record HasReply (o : OracleValue) (x : CallRecord) (reply : Reply) : Type 0 where
   pub recorded : IfSome x.ended (λ (end : ℕ × Reply). end.1 ≡ reply)
@@ -56,7 +56,7 @@ abbrev pub after_reply : OracleValue → CallRecord → Reply → OracleValue
 after_reply o x reply = record o { state = after_call o.state x.thread x.call reply }
 
 -- Holds if every reply in the order is right: the sequential set returns this reply after the earlier calls of the
--- order and, if the call is completed, the history has the same reply.
+-- order and, if the call is completed, the history records the same reply.
 pub record HasReplies (o : OracleValue) (calls : List CallRecord) (order : List Placed) : Type 0 where
   pub recorded : All (λ (p : Placed). IfSome (call_numbered calls p.call).ended (λ (end : ℕ × Reply). end.1 ≡ p.reply)) order
   pub legal : IsLegal o.quota o.state (map (answered calls) order)

@@ -81,7 +81,7 @@ pub record MissesFirst (calls : List CallRecord) (order : List Placed) (number :
   pub smallest : (smaller : ℕ) → smaller < number → IsMissing calls order smaller → ⊥
 
 -- Holds if this is the error to report: no earlier check finds an error, and this is the first error of its own check.
--- `Missing` has the smallest number of a missing call. For `Memory`, a failed allocation, nothing is required.
+-- `Missing` names the smallest number of a missing call. For `Memory`, a failed allocation, nothing is required.
 abbrev pub IsFault : HistoryValue → List Placed → List ℕ → OrderFault → Type 0
 IsFault h order keys (Unknown number) = RefusesFirst (IsUnknown h.calls order) order number
 IsFault h order keys (Twice number) = Passes (IsUnknown h.calls order) order × RefusesFirst (IsTwice order) order number

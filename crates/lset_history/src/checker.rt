@@ -45,8 +45,8 @@ fn first_twice(order: &[Placed], placed: &mut [bool]) -> Option<u32>
     None
 }
 
-/// Returns the smallest number of a completed call that is not in the order. `placed` has a mark for each call of the
-/// history: true if the call is in the order.
+/// Returns the smallest number of a completed call that is not in the order. `placed` contains a mark for each call of
+/// the history: true if the call is in the order.
 fn first_missing(calls: &[CallRecord], placed: &[bool]) -> Option<u32>
     requires few { length calls.now < 2 ^ 32 }
     requires each { length placed.now ≡ length calls.now }
@@ -153,7 +153,8 @@ fn first_too_early(calls: &[CallRecord], order: &[Placed]) -> Option<u32>
 /// - `Unknown`: the history has no call with this number;
 /// - `Twice`: the call is in the order twice;
 /// - `Missing`: this call is completed and not in the order; if several calls are missing, the smallest number;
-/// - `WrongReply`: the history has another reply, or the sequential set returns another reply after the earlier calls;
+/// - `WrongReply`: the history records another reply, or the sequential set returns another reply after the order's
+///   earlier calls;
 /// - `TooEarly`: a later call of the order had ended before this call began;
 /// - `WrongSet`: `keys` are not the final keys after the order's calls, in strictly increasing order.
 ///

@@ -8,13 +8,13 @@ use thiserror::Error;
 /// history is then unchanged.
 #[derive(Clone, Copy, Debug, PartialEq, Eq, Error)]
 pub enum HistoryFault {
-    /// The history has no thread with this number.
+    /// No thread of the history has this number.
     #[error("no such thread")]
     NoThread,
     /// The thread already has a pending call.
     #[error("the thread already has a pending call")]
     Busy,
-    /// The history has no call with this number, or the call has already ended.
+    /// No call of the history has this number, or the call has already ended.
     #[error("no pending call has this number")]
     NotOpen,
     /// The moment (a number that dates the start or the end of a call) is 0, or not after every earlier start and end.
@@ -38,7 +38,7 @@ pub enum OrderFault {
     /// This completed call is not in the order. If several calls are missing, the smallest number is reported.
     #[error("call {0} has ended and is not in the order")]
     Missing(u32),
-    /// The history has a different reply for this call, or the sequential set returns a different reply after the
+    /// The history records a different reply for this call, or the sequential set returns a different reply after the
     /// earlier calls of the order.
     #[error("call {0} has another reply")]
     WrongReply(u32),

@@ -108,7 +108,8 @@ module _ (last : ℕ → ℕ) (thread begun : ℕ) (es : Entries) (known : All (
   free_other other only ne = free_by (λ i d inside own is.
       absurd (ne (ap (λ (x : StreamCall). x.thread) (sym (only i d inside (sym is))) ∙ own)))
 
--- If the table has a call of the thread that ends after `begun`, the thread has a pending call at the moment `begun`.
+-- If the table contains a call of the thread that ends after `begun`, the thread has a pending call at the moment
+-- `begun`.
 not_free : (thread begun end : ℕ) (other : StreamCall) (es : Entries) → Contains es (end, other) → other.thread ≡ thread → begun < end
     → All (Free thread begun) (map pending_at es) → ⊥
 not_free thread begun end other es has own later free =

@@ -15,7 +15,7 @@ use Rattle.lset_steps.proofs.WalkedTo.{WalkedTo, unmarked_key, walk_starts, walk
 use Rattle.lset_live.specs.Closes.{LastWords, HasLaws, HasKeys, most_keys}
 use Rattle.lset_live.proofs.Closing.{same_content}
 
--- The walk over the nodes has reached node `curr`, and `items` has the keys of the unmarked nodes before `curr`.
+-- The walk over the nodes has reached node `curr`, and `items` lists the keys of the unmarked nodes before `curr`.
 pub record Walks (c : LastWords) (items : List ℕ) (curr : ℕ) : Type 0 where
   pub laws : HasLaws c
   pub walked : WalkedTo (view c.sizes c.words laws.used) items curr

@@ -1,5 +1,5 @@
--- Proof of the law of receipts. A completed call stays in the history when the run gets longer. Each linearization of
--- the longer history has this call before all calls that started after the call had ended.
+-- Proof of the law of receipts. A completed call stays in the history when the run gets longer. In each linearization
+-- of the longer history, this call precedes all calls that started after it had ended.
 use Rattle.std.proofs.Common.{◌≡◌, ◌⊎◌, ⊎_elim, ℕ, zero, suc, ◌+◌, ◌<◌, ◌≤◌, ◌==◌, Bool, true, false, List, [], ◌∷◌}
 use Rattle.std.proofs.Common.{◌++◌, map, length, get_or, Option, Some, None, refl, sym, ap, ◌∙◌, subst, arith, length-append}
 use Rattle.std.proofs.Common.{append_assoc, if◌then◌else◌}

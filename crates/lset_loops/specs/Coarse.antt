@@ -24,7 +24,7 @@ abbrev pub StopsAt : Begun → OwnSlots → Found → TableSeat → Type 0
 StopsAt b own f s = (j : Rest) × Holds coarse b (decided_on targets f.word (row own b.call 3 None f.pred.number f.curr.number j))
     s
 
--- Holds if the call is about to release the list's lock and to end with a reply. `answer` has the thread's slots
+-- Holds if the call is about to release the list's lock and to end with a reply. `answer` contains the thread's slots
 -- (nodes for the keys that the thread adds) after the call, and the reply.
 abbrev pub Leaves : Begun → OwnSlots × Reply → TableSeat → Type 0
 Leaves b answer s = (p : ℕ) × (x : ℕ) × (j : Rest) × Holds coarse b (row answer.0 b.call 10 (Some answer.1) p x j) s

@@ -23,7 +23,7 @@ AtLock b own p x s = (j : Rest) × Holds fine b (row own b.call 3 None p x j) s
 abbrev pub StopsAt : Begun → OwnSlots → Found → TableSeat → Type 0
 StopsAt b own f s = (j : Rest) × Holds fine b (decided_on targets f.word (row own b.call 4 None f.pred.number f.curr.number j)) s
 
--- Holds if the call is about to release the locks of the two nodes in f and to end with a reply. `answer` has the
+-- Holds if the call is about to release the locks of the two nodes in f and to end with a reply. `answer` contains the
 -- thread's slots (nodes for the keys that the thread adds) after the call, and the reply.
 abbrev pub Leaves : Begun → Found → OwnSlots × Reply → TableSeat → Type 0
 Leaves b f answer s = (j : Rest) × Holds fine b (row answer.0 b.call 12 (Some answer.1) f.pred.number f.curr.number j) s

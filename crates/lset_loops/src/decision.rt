@@ -19,7 +19,7 @@ pub(crate) struct Found {
     pub word: u64,
 }
 
-/// A decision of a call: link a node into the list, unlink a node, or only reply.
+/// What a call does once its walk has ended: link a node into the list, unlink a node, or only reply.
 #[derive(Clone, Copy)]
 pub(crate) enum Decision {
     PutIn,

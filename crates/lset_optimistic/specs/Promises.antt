@@ -1,4 +1,4 @@
--- Laws of OptimisticList, in addition to the laws of all machines. In all of them, `op` has the threads, quota and
+-- Laws of OptimisticList, in addition to the laws of all machines. In all of them, `op` states the threads, quota and
 -- opening keys of the set, `es` are the events of a run of `last` events, `t` is a thread, and `k` is a moment (the
 -- state after `k` events).
 use Rattle.std.specs.Prelude.{◌≡◌, ℕ, ◌+◌, ◌/◌, ◌<◌, ◌≤◌, ◌⊎◌, false, Some}

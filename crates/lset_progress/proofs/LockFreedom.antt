@@ -48,8 +48,8 @@ price sz = sz.threads * round (node_count sz)
 
 record Phase (reads : Bool) (sz : Sizes) (s : State) (p : ℕ) : Type 0 where
   key : ℕ → ℕ
-  -- For each thread, `time` is a number of steps that is enough for it, and `may_mark` is 1 if it can still mark a
-  -- node. For each node, `may_leave` is 1 if it can still be unlinked.
+  -- For each thread, `time` is a number of steps that is enough for its call (see `Fits`), and `may_mark` is 1 if the
+  -- thread can still mark a node. For each node, `may_leave` is 1 if the node can still be unlinked.
   time : ℕ → ℕ
   may_mark : ℕ → ℕ
   may_leave : ℕ → ℕ

@@ -40,7 +40,7 @@ pub record ComesNext (es : List LineEvent) (k : ℕ) (next : LineEvent) : Type 0
   pub event_is : event_at (only_events es) k ≡ next.event
   pub line_is : next.line ≡ line_at es k
 
--- Holds if a run can stop at this line for this cause: the line has the first event that is not enabled, or an
+-- Holds if a run can stop at this line for this cause: the line contains the first event that is not enabled, or an
 -- allocation failed.
 abbrev pub IsStoppedBy : Table → Opening → List LineEvent → ℕ → Cause → Type 0
 IsStoppedBy T op events line cause.NoThread = IsFirstRefused T op events line step.NoThread

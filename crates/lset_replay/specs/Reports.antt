@@ -38,8 +38,8 @@ pub record IsReportOf (T : Table) (op : Opening) (events : List Event)
 abbrev pub world_after : Table → Opening → List Event → ℕ → WorldState
 world_after T op events k = record { sizes = sizes op; state = state_at T op (event_at events) k }
 
--- Holds if line number `line` has the first event that is not enabled. `cause` is the first cause that applies to this
--- event.
+-- Holds if line number `line` contains the first event that is not enabled. `cause` is the first cause that applies to
+-- this event.
 pub record IsFirstRefused (T : Table) (op : Opening) (events : List LineEvent)
     (line : ℕ) (cause : StepFault) : Type 0 where
   pub index : ℕ

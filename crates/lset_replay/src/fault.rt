@@ -8,7 +8,7 @@ use thiserror::Error;
 /// (counted from 1, header included), or a failed allocation.
 #[derive(Clone, Copy, Debug, PartialEq, Eq, Error)]
 pub enum ReplayFault {
-    /// The schedule has no such thread.
+    /// The line names a thread that the schedule does not have.
     #[error("line {0}: NoThread")]
     NoThread(u64),
     /// The thread already has a pending call.

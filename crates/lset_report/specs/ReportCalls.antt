@@ -15,7 +15,7 @@ abbrev pub is_open : Option (ℕ × Reply) → Bool
 is_open None = true
 is_open (Some end) = false
 
--- Returns whether the last call of some thread ended at this moment. `ends` has the end of each thread's last call.
+-- Returns whether the last call of some thread ended at this moment. `ends` lists the end of each thread's last call.
 abbrev pub is_last_end : List ℕ → ℕ → Bool
 is_last_end ends moment = list_any (λ end. end == moment) ends
 

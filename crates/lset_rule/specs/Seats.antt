@@ -17,8 +17,8 @@ use Rattle.lset_rule.specs.Calls.{Makes}
 abbrev pub TableSeat : Type 0
 TableSeat = Seat (Unit {0}) View
 
--- Holds if the seat s (a right to call the set) belongs to the shared words z, and z has as many words as a set with
--- the opening k.
+-- Holds if the seat s (a right to call the set) belongs to the shared words z, and z has as many words as a set that
+-- was opened with k (threads, quota and number of opening keys).
 abbrev pub IsOf : TableId → Opening → TableSeat → Type 0
 IsOf z k s = (s.table_id ≡ z) × (s.me.0.shape ≡ k) × (z.words ≡ word_count (sizes k))
 
@@ -35,7 +35,8 @@ pub record MayCall (m : Table) (z : TableId) (k : Opening) (own : OwnSlots) (s :
   pub slots : own ≡ slots_of s.me.0.local
 
 -- Holds if call c changed its seat (a right to call the set) from s to s', and only this call with its reply was added
--- to the seat's record. `answer` has the thread's slots (nodes for keys that it adds) after the call, and the reply.
+-- to the seat's record. `answer` contains the thread's slots (nodes for keys that it adds) after the call, and the
+-- reply.
 pub record HasCalled (m : Table) (c : Call) (s : TableSeat) (answer : OwnSlots × Reply) (s' : TableSeat) : Type 0 where
   pub place : IsSeat s s'
   pub slots : answer.0 ≡ slots_of s'.me.0.local

@@ -79,7 +79,7 @@ pub struct View {
     /// Whether the view has no threads, because its seat was merged into another seat or the view belongs to a receipt.
     /// The invariant then states only which events the view has seen.
     pub spent: bool,
-    /// The opening of the set.
+    /// What the set was opened with.
     pub shape: Opened,
     /// The number of the seat's own thread: the thread that the seat calls as.
     pub thread: u32,

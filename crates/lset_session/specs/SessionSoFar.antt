@@ -27,8 +27,8 @@ IsLast why.End = ⊥
 IsLast why.ReadFault = ⊥
 IsLast end = Unit {0}
 
--- Holds if `talk` has the first turns (answered lines) of the input. If the session has not ended, the remaining turns
--- of the input are the turns of the incomplete line `pending` followed by all later bytes.
+-- Holds if `talk` contains the first turns (answered lines) of the input. If the session has not ended, the remaining
+-- turns of the input are the turns of the incomplete line `pending` followed by all later bytes.
 abbrev pub Told : ℕ → List ℕ → Option EndReason → ℕ → List ℕ → List Exchange → Type 0
 Told left bytes None left' pending talk =
     (end_of (turns_in talk) ≡ why.End)
@@ -39,8 +39,8 @@ Told left bytes (Some w) left' pending talk =
     × (w ≢ why.WriteFault → (later ≡ []) × (end_of (turns_in talk) ≡ w)))
 
 -- The state of a session after it has processed these bytes: o is None if the session continues, otherwise the reason
--- why it ended. The session could answer `left` lines before and `left'` lines afterwards. `talk` has its calls and
--- answers.
+-- why it ended. The session could answer `left` lines before and `left'` lines afterwards. `talk` contains its calls
+-- and answers.
 pub record Heard (left : ℕ) (bytes : List ℕ) (o : Option EndReason) (left' : ℕ) (pending : List ℕ) (r r' : Record)
     (w w' : Option (List ℕ)) (calls calls' : ℕ) : Type 0 where
   pub talk : List Exchange

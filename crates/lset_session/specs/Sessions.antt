@@ -28,7 +28,7 @@ text_end end = end
 -- Holds if a session has ended for the reason `end` after this number of calls. The session changed the remaining
 -- input from s to s', its record of calls with replies from r to r', and the bytes written to its client from w to w'.
 pub record IsSession (end : EndReason) (calls : ℕ) (s s' : Option (List ℕ)) (r r' : Record) (w w' : Option (List ℕ)) : Type 0 where
-  -- The bytes that the session has read. `talk` has the turns (answered lines) with their answers.
+  -- The bytes that the session has read. `talk` lists the turns (answered lines) with their answers.
   pub bytes : List ℕ
   pub talk : List Exchange
   pub read : Consumes s s' bytes

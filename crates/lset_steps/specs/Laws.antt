@@ -34,7 +34,7 @@ word_named (Exchange w old new) = w
 abbrev pub IsLockWord : ℕ → Type 0
 IsLockWord x = (x ≡ 0) ⊎ ((i : ℕ) × (x ≡ lock_index i))
 
--- Holds if the private state `l` has the number of thread `t` and the quota of the set, and its registers are in
+-- Holds if the private state `l` contains the number of thread `t` and the quota of the set, and its registers are in
 -- range: each is a node of the list, or a key word that is at most the tail's.
 pub record Registers (sz : Sizes) (t : ℕ) (l : Local) : Type 0 where
   pub thread : l.thread ≡ t

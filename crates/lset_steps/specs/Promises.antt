@@ -1,4 +1,4 @@
--- The consequences of the law of a machine, each with its own name. In all of them, `op` has the threads, quota and
+-- The consequences of the law of a machine, each with its own name. In all of them, `op` states the threads, quota and
 -- opening keys of the set, the run has the first `last` events of `es`, and `k` is a moment (the state after `k`
 -- events).
 use Rattle.std.specs.Prelude.{◌≡◌, ◌≢◌, ℕ, zero, suc, ◌+◌, ◌%◌, ◌^◌, ◌<◌, ◌≤◌, ◌⊎◌, true, false, if◌then◌else◌, ◌==◌, List, []}

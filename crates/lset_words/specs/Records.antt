@@ -57,9 +57,9 @@ placed_by u c = record { thread = u; call = c.call; reply = c.reply }
 abbrev pub HasOwnCalls : List Answered → Record → Type 0
 HasOwnCalls order r = calls_by (thread_of r) order ≡ map (placed_by (thread_of r)) (own_calls r)
 
--- Holds if the order has call `c` at the right place. `r` is the record of the thread before it made `c`. Before `c`,
--- the calls of that thread in the order are exactly the own calls of `r`. After `c`, the order has no call of a thread
--- with a record that was merged into `r`, directly or as part of another record.
+-- Holds if call `c` is at the right place in the order. `r` is the record of the thread before it made `c`. Before `c`,
+-- the calls of that thread in the order are exactly the own calls of `r`. After `c`, the order contains no call of a
+-- thread with a record that was merged into `r`, directly or as part of another record.
 pub record Follows (order : List Answered) (r : Record) (c : CallMade) : Type 0 where
   pub before : List Answered
   pub after : List Answered

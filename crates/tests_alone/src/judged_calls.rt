@@ -33,8 +33,8 @@ fn not_plain(made: (Call, Reply), begun: u64, end: u64) -> StreamCall {
     }
 }
 
-/// Returns wrong calls, each with the expected error. Each wrong call is tried after a call of thread 3 from moment 2
-/// to 7. If possible, the wrong call also has errors that are checked later.
+/// Returns wrong calls, each with the expected error. Each wrong call is added after a call of thread 3 from moment 2
+/// to 7. If possible, the wrong call also contains errors that are checked after the expected one.
 fn with_faults(made: (Call, Reply)) -> [(StreamCall, StreamFault); 10] {
     let late = LAST_MOMENT + 1;
     [

@@ -15,8 +15,8 @@ fn write_fails<R: Host>(rt: &R, alloc: Global, lines: &[u8], answers: &[u8], at:
     writer.has_stopped(rt, answers);
 }
 
-/// Asserts that a session ends when any of its writes fails. Each entry of `rows` has a range of writes (the numbers of
-/// the first and the last), and the number of calls before these writes.
+/// Asserts that a session ends when any of its writes fails. Each entry of `rows` states a range of writes (the numbers
+/// of the first and the last), and the number of calls before these writes.
 fn writes_fail<R: Host>(
     rt: &R,
     alloc: Global,

@@ -4,12 +4,12 @@ use crate::opened::{last_of, two_seats};
 use crate::prelude::*;
 use crate::session_devices::{FailingReader, GenerousReader, GreedyWriter};
 
-/// Six request lines of a session. `ANSWERS` has the answers to them.
+/// Six request lines of a session. `ANSWERS` lists the answers to them.
 pub const LINES: &[u8] = b"ADD 7\nADD 7\nCONTAINS 7\nMOVE 7\nREMOVE 7\nQUIT\n";
 
 pub const ANSWERS: &[u8] = b"TRUE\nFALSE\nTRUE\nBAD\nTRUE\nBYE\n";
 
-/// Lines that ask for the smallest key at or above 7, before and after the key 9 is added. `FOUND` has the answers to
+/// Lines that ask for the smallest key at or above 7, before and after the key 9 is added. `FOUND` lists the answers to
 /// them.
 pub const CEILINGS: &[u8] = b"CEILING 7\nADD 9\nCEILING 7\nQUIT\n";
 

@@ -223,7 +223,7 @@ fn first_line(
 }
 
 /// Returns line 2 of 3: the second call, and whether it needs the key present or absent. If `second` is `None`, the
-/// line has the key's state at the end instead.
+/// line states the key's state at the end instead.
 fn second_line(
     alloc: Global,
     key: u32,

@@ -1,4 +1,4 @@
-//! Writes traces. A trace has a line for each event of a schedule. The line describes the effect of the event.
+//! Writes traces. A trace contains a line for each event of a schedule. The line describes the effect of the event.
 
 mod chunks;
 mod event_line;

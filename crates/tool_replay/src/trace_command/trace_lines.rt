@@ -61,7 +61,7 @@ pub(crate) fn head_of(
     Ok(head)
 }
 
-/// A trace that is being written. `chunk` has the part that has not been written to the destination yet.
+/// A trace that is being written. `chunk` contains the part that has not been written to the destination yet.
 #[derive(Drop)]
 pub struct Lines<'a, S> {
     chunk: Chunk,

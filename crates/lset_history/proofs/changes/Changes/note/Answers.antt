@@ -14,7 +14,7 @@ invariant_of-self c = kept_listed (changes_in c.self.inside.opening.items c.self
     c.self.inside.keys_now
     c.in_err-insert.ensures.err c.self.invariant
 
--- If the second allocation fails, the invariant still holds: only `keys_at` has a new entry.
+-- If the second allocation fails, the invariant still holds: only `keys_at` got a new entry.
 pub invariant_of-self-in_err-insert-2 : goal.invariant_of-self-in_err-insert-2
 invariant_of-self-in_err-insert-2 c = kept_present (changes_in c.self.inside.opening.items c.self.inside.moments) c.insert.new.self c.self.inside.keys_now
     c.insert-2.new.self
