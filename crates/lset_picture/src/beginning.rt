@@ -1,4 +1,4 @@
-//! Finds the moment at which the picture of a rejected order starts. Moments are positions in the history, counted from
+//! Finds the moment when the picture of a rejected order starts. Moments are positions in the history, counted from
 //! 1.
 use crate::picture::Picture;
 use crate::refusal::Refusal;
@@ -29,7 +29,7 @@ fn first_begun(calls: &[CallRecord], key: u32) -> Option<u32> {
     None
 }
 
-/// Returns the moment at which the picture of a rejected order should start. This is the start of the call that the
+/// Returns the moment when the picture of a rejected order should start. This is the start of the call that the
 /// refusal (the reason for rejecting the order) names. If the refusal names two calls, it is the start of the call that
 /// had ended before the other started. If the final keys are wrong, it is the start of the first call on the smallest
 /// differing key.

@@ -1,4 +1,4 @@
-//! Computes the columns of a picture. A column is a moment (a position in the history) at which a call starts, takes
+//! Computes the columns of a picture. A column is a moment (a position in the history) when a call starts, takes
 //! effect or ends.
 use crate::MOST_WIDTH;
 use crate::beginning::clash_begins;

@@ -1,4 +1,4 @@
-//! Finds the moments (positions in the history) at which a call starts, takes effect or ends.
+//! Finds the moments (positions in the history) when a call starts, takes effect or ends.
 
 use crate::MOST_COLUMNS;
 use crate::picture::{Picture, Window, points_of};
@@ -20,7 +20,7 @@ fn sooner(best: Option<u32>, from: u64, moment: u32) -> Option<u32> {
     }
 }
 
-/// Returns the first moment, not before `from`, at which a call starts, takes effect or ends.
+/// Returns the first moment, not before `from`, when a call starts, takes effect or ends.
 pub(crate) fn next_moment(picture: &Picture, from: u64) -> Option<u32> {
     let mut best = None;
     for made in picture.history.calls() {

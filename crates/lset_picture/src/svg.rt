@@ -250,7 +250,7 @@ fn put_below(out: &mut String, threads: u32, below: &str) -> Result<(), AllocErr
     Ok(())
 }
 
-/// Draws a picture as an SVG. Draws the moments in `window`, counted from 1, at which a call starts, takes effect or
+/// Draws a picture as an SVG. Draws the moments in `window`, counted from 1, when a call starts, takes effect or
 /// ends, but at most the first 64 such moments.
 ///
 /// If `window` includes all moments and they do not fit, the drawing of a rejected order starts at the call that caused

@@ -219,7 +219,7 @@ fn put_drawn_rows(
 /// Draws a picture as text: a row for each thread with its calls and their linearization points, the set, and the
 /// order.
 ///
-/// The picture has the moments from `window.from` to `window.to`, counted from 1, at which a call starts, takes effect
+/// The picture has the moments from `window.from` to `window.to`, counted from 1, when a call starts, takes effect
 /// or ends. At most the first 64 such moments are drawn, and only moments that fit into rows of `width` characters, but
 /// at least one. If `window` includes all moments and they do not fit, the drawing of a rejected order starts at the
 /// call that caused the rejection. Returns `AllocError` if an allocation fails. (Pictures with bars and points are due

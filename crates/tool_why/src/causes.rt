@@ -55,7 +55,7 @@ pub enum Cause {
     TwoPlaces,
     /// A removed node is reused while another call still uses it, and the set stays broken.
     Reused,
-    /// Two calls of a key ran at the same time although a lock should exclude this. This is rare.
+    /// Two calls on a key ran at the same time although a lock should exclude this. This is rare.
     Inside,
     /// A table or array is replaced by a larger one while calls still change the old one.
     Outgrown,

@@ -1,5 +1,5 @@
 //! Finds a reason for a refused key if no two calls contradict each other. The reason is a count: the replies of
-//! several calls of the key require more changes than the other calls can have made.
+//! several calls on the key require more changes than the other calls can have made.
 
 use crate::diagnosis::Diagnosis;
 use lset_judge::{Count, StreamCall, find_count};
@@ -11,16 +11,16 @@ use tool_facts::stream_call;
 /// At most this many calls are searched for a contradiction by counting. The search needs quadratic time.
 const MOST_COUNTED: usize = 4_000;
 
-/// The calls of a key that are searched for a contradiction by counting, and the key's presence before these calls.
+/// The calls on a key that are searched for a contradiction by counting, and the key's presence before these calls.
 #[derive(Drop)]
 struct Counted {
     calls: Vec<StreamCall>,
     before: Presence,
-    /// Whether these are all calls of the key since the opening.
+    /// Whether these are all calls on the key since the opening.
     is_from_opening: bool,
 }
 
-/// Returns the calls of a key that had begun by a moment, as known at that moment. Leaves out the calls that ended
+/// Returns the calls on a key that had begun by a moment, as known at that moment. Leaves out the calls that ended
 /// later and changed nothing.
 fn calls_by(
     alloc: Global,
@@ -42,7 +42,7 @@ fn calls_by(
     Ok(calls)
 }
 
-/// Returns all calls of a key. If there are more than `MOST_COUNTED`, returns the calls after a later moment with a
+/// Returns all calls on a key. If there are more than `MOST_COUNTED`, returns the calls after a later moment with a
 /// known state of the key, or `None` if there is no such moment.
 fn calls_to_count(alloc: Global, key: &KeyCalls) -> Result<Option<Counted>, AllocError> {
     let skipped = key.calls.len().saturating_sub(MOST_COUNTED);

@@ -64,7 +64,7 @@ fn room_of_picture(diagnosis: &Diagnosis, room: usize, known: usize) -> usize {
 }
 
 /// Returns the message of a diagnosis, without the verdict. The message and the `used` lines above it have at most 15
-/// lines that are not blank, unless the calls of the key alone need more lines. To fit, some known facts are left out.
+/// lines that are not blank, unless the calls on the key alone need more lines. To fit, some known facts are left out.
 /// Allocates.
 pub fn diagnosis_text(
     alloc: Global,

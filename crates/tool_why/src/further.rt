@@ -37,7 +37,7 @@ pub struct Growth {
 /// The maximum number of contradictions for the guess that a lock rarely fails.
 pub(crate) const MOST_RARE: usize = 7;
 
-/// The maximum number of earlier calls of a key that are checked for an overlap.
+/// The maximum number of earlier calls on a key that are checked for an overlap.
 const MOST_EARLIER: usize = 64;
 
 /// Returns whether two adds or removes overlap, and at least one of the two returned true.

@@ -75,7 +75,7 @@ fn cause_of_effects(evidence: &Evidence) -> Option<Cause> {
     }
 }
 
-/// Returns `true` if keys are lost and return mostly while a smaller key is removed, and the calls of the smallest key
+/// Returns `true` if keys are lost and return mostly while a smaller key is removed, and the calls on the smallest key
 /// have an order.
 fn is_unlinked(evidence: &Evidence) -> bool {
     let (tally, timed) = (&evidence.tally, evidence.tally.timed());
@@ -183,7 +183,7 @@ fn cause_in_one_thread(evidence: &Evidence) -> Option<Cause> {
 /// If two keys differ by at least this much, their difference overflows a signed 32-bit number.
 const WIDE: u32 = 0x8000_0000;
 
-/// Returns whether a check and the later write seem not to be atomic, so that two calls of a key both return true. Such
+/// Returns whether a check and the later write seem not to be atomic, so that two calls on a key both return true. Such
 /// pairs must be many among the contradictions. Fewer are enough if they are only calls of `add` and no key returns, or
 /// if they are calls of both operations and one opposite reply repairs nearly all losses and returns of keys.
 fn is_check_then_act(tally: &Tally) -> bool {
@@ -240,9 +240,9 @@ fn is_missed_beside(tally: &Tally) -> bool {
 /// The minimum number of adds and removes that returned false for the guess that they give up.
 const LEAST_REFUSED: u64 = 8;
 
-/// Returns whether each of a few contradictions is of two calls of a key that overlapped as if each ran alone: two calls
+/// Returns whether each of a few contradictions is of two calls on a key that overlapped as if each ran alone: two calls
 /// of the same operation both returned true, or a change was undone that overlapped a call that found the state before
-/// the change. At least 100 times as many pairs of calls of a key must overlap.
+/// the change. At least 100 times as many pairs of calls on a key must overlap.
 fn is_rarely_inside(evidence: &Evidence, further: &Further) -> bool {
     let tally = &evidence.tally;
     let inside = tally.both().saturating_add(further.restored);

@@ -91,7 +91,7 @@ fn cause_of_misses(odd: &Odd) -> Option<Cause> {
     }
 }
 
-/// Returns the likely cause if `contains` is wrong while other calls run: calls of its own key, if such calls ran during
+/// Returns the likely cause if `contains` is wrong while other calls run: calls on its own key, if such calls ran during
 /// most wrong answers and clearly more often than during other answers, and otherwise changes of other keys.
 fn moved(odd: &Odd) -> Cause {
     let least = odd.usually_same.saturating_add(25).max(75);

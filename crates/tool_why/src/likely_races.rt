@@ -4,7 +4,7 @@ use crate::causes::Cause;
 use crate::shares::{ENOUGH, is_least, is_share, share_of_all};
 use tool_facts::{Evidence, Tally};
 
-/// Returns `true` if all contradictions are among the first calls of their keys.
+/// Returns `true` if all contradictions are among the first calls on their keys.
 pub(crate) fn is_first_use(evidence: &Evidence) -> bool {
     let tally = evidence.tally;
     let calls = evidence.calls.checked_div(evidence.keys).unwrap_or(0);

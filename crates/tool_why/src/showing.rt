@@ -57,10 +57,10 @@ pub(crate) fn with_one_answer(
     KeyCalls::new(alloc, key.key, calls, key.opening, left)
 }
 
-/// If the picture has at least this many calls of the key, less important calls are left out.
+/// If the picture has at least this many calls on the key, less important calls are left out.
 const MOST_SHOWN: usize = 3;
 
-/// How many calls of the key, counted back from the end of a wrong answer, are checked for an overlap with the answer.
+/// How many calls on the key, counted back from the end of a wrong answer, are checked for an overlap with the answer.
 const MOST_EARLIER: usize = 64;
 
 /// The maximum number of changes of other keys in the picture.
@@ -268,7 +268,7 @@ impl Diagnosis {
         if let Some(second) = place.clash.second.filter(|_| is_before) {
             self.mark(second, Mark::Finds(other(place.clash.was)));
         } else if self.evidence.odd.is_some() && self.runs_beside(place.wrong) {
-            // (the facts tell what the next calls of the key found)
+            // (the facts tell what the next calls on the key found)
         } else if !place.is_gone() || has_room {
             self.later = self.call_after(key, &place);
             self.show_later()?;
