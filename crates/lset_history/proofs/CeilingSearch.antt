@@ -15,8 +15,8 @@ use Rattle.lset_history.proofs.ChangeLaws.{present_past}
 abbrev pub CeilingAt : (ℕ → List ℕ) → ℕ → Option ℕ → ℕ → Type 0
 CeilingAt changes key found m = IsCeiling (λ j. is_present changes j m ≡ true) key found
 
--- Holds if no moment of the list is after `a` and at or before `b`. If the list has all moments when a key changes,
--- the key does not change from `a` to `b`.
+-- Holds if no moment of the list is after `a` and at or before `b`. If the list contains all moments when a key
+-- changes, the key does not change from `a` to `b`.
 abbrev IsQuiet : List ℕ → ℕ → ℕ → Type 0
 IsQuiet ms a b = All (λ m. a < m → m ≤ b → ⊥) ms
 

@@ -1,4 +1,5 @@
--- Lemmas about the tree that stores the keys of the sequential set in the code: the tree has the same keys as the set.
+-- Lemmas about the tree that stores the keys of the sequential set in the code: the tree contains the same keys as the
+-- set.
 use Rattle.std.proofs.Common.{◌≡◌, ℕ, ◌<◌, ◌==◌, ◌||◌, false, List, [], ◌∷◌, refl, sym, ap, ◌∙◌, inl, inr, subst}
 use Rattle.std.proofs.Common.{arith}
 use Rattle.std.specs.List.{list_any, AllByRecursion}

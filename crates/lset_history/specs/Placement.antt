@@ -78,8 +78,8 @@ traced_at calls number = slice_index_or calls number no_traced
 abbrev pub place_at : List (Option ℕ) → ℕ → Option ℕ
 place_at places number = slice_index_or places number None
 
--- Holds if the order is the placement of these calls: it has all calls that have a linearization point, sorted by this
--- point.
+-- Holds if the order is the placement of these calls: it lists all calls that have a linearization point, sorted by
+-- this point.
 pub record IsPlacement (quota : ℕ) (calls : List TracedCall) (contents : Contents) (counts : Counts)
     (order : List Placed) : Type 0 where
   -- The moment of each call's linearization point, or `None`.

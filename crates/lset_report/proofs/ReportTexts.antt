@@ -354,7 +354,7 @@ words_in One calls order are places = (
 )
 words_in Two calls order are places = tt
 
--- A report that can be written as text has only words of its format version.
+-- A report that can be written as text uses only words of its format version.
 pub has_words : (r : ReportValue) → IsReport r → HasWordsOfVersion r
 has_words r is = record { opening = is.opening; words = words_in r.version r.history.calls r.order is.calls is.places }
 

@@ -99,7 +99,7 @@ HasCallOfLine version (Go thread steps) = Unit {0}
 abbrev pub HasCallsOfVersion : Plan → Type 0
 HasCallsOfVersion p = AllByRecursion (HasCallOfLine p.version) p.lines
 
--- Holds if a schedule can be written in its format version: the version has all calls of the schedule, and has opening
--- keys if the schedule has any. `IsSchedule` implies this condition (see proofs/VersionLaws.antt).
+-- Holds if a schedule can be written in its format version: the version allows all calls of the schedule and, if the
+-- schedule has opening keys, opening keys. `IsSchedule` implies this condition (see proofs/VersionLaws.antt).
 abbrev pub HasWordsOfVersion : Plan → Type 0
 HasWordsOfVersion p = HasOpening p.version p.opening × HasCallsOfVersion p

@@ -40,7 +40,7 @@ fn put_lines(out: &mut String, lines: &[Line]) -> Result<(), AllocError>
 
 /// Returns the text of a schedule. No other text is read as this schedule. Returns `AllocError` if an allocation fails.
 ///
-/// The schedule may have only calls that its version has, and no opening keys in version 1. Schedules from
+/// The schedule may contain only calls that its version allows, and no opening keys in version 1. Schedules from
 /// `read_schedule` and `generate` satisfy this condition.
 pub fn write_schedule(alloc: Global, schedule: &Schedule) -> Result<Vec<u8>, AllocError>
     requires { HasWordsOfVersion (view schedule.now) }

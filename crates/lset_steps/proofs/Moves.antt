@@ -39,7 +39,7 @@ pub record Inserts (v w : View) (pred own k : ℕ) : Type 0 where
   pub own_published : w.published own
   pub published_from : (i : ℕ) → w.published i → v.published i ⊎ (i ≡ own)
 
--- A marking: marks node `b` with key `k` as removed.
+-- A step that marks node `b`, which has key `k`, as removed. `v` and `w` are the nodes before and after the step.
 pub record Marks (v w : View) (b k : ℕ) : Type 0 where
   pub keys : (i : ℕ) → v.published i → w.key i ≡ v.key i
   pub links : (i : ℕ) → v.published i → i ≢ b → w.link i ≡ v.link i
