@@ -151,7 +151,7 @@ struct range {
 // The lines below are made of words.json by judge/make_words.
 constexpr shape PRESETS[] = {{"few keys", 4, 1, 5000, 4, 1}, {"fresh sets", 4, 40, 10, 4, 1}, {"multiples of 64", 4, 1, 5000, 8, 64}, {"one key", 3, 1, 5000, 1, 1}, {"sets that grow", 4, 20, 125, 64, 1}, {"many keys", 4, 1, 2500, 1000, 1}, {"multiples of 1,000", 8, 1, 2500, 8, 1000}};
 constexpr range RANGES[] = {{"threads", 1, 64}, {"threads times calls", 1, 1000000000}, {"keys", 1, 1048576}, {"pauses", 0, 100}, {"runs", 1, 1000000}, {"seconds", 1, 3600}, {"within", 1, 604800}, {"at_least", 0, 100}, {"the sum of shares", 1, 1000000}};
-constexpr unsigned PART = 20000, LONGEST = 100, HOT = 4, ENOUGH = 5, HARDER = 2, PATIENCE = 10, MEET = 250, AWAKE = 300000, WITHIN = 60, STOPS = 32, PATIENT = 40, MANY = 40, SOON = 4000;
+constexpr unsigned PART = 20000, LONGEST = 100, HOT = 4, ENOUGH = 5, HARDER = 2, PATIENCE = 10, MEET = 250, AWAKE = 300000, WITHIN = 60, STOPS = 32, AGAIN = 4, PATIENT = 40, MANY = 40, SOON = 4000;
 constexpr const char *OK = "ok: %s calls, and %s of them overlapped a change of their key";
 constexpr const char *FEW = "few calls overlapped, so ok means little: %s calls, and %s of them overlapped a change of their key";
 constexpr const char *TOO_FEW = "too few calls overlapped: %s of %s calls overlapped a change of their key, and at_least requires %s of 100. Use fewer keys, more threads, or a less busy machine";
@@ -366,40 +366,63 @@ inline std::pair<std::string, std::string> lines_of(const area &from) {
     return {lines, under_way};
 }
 
-// Interrupts its thread a few microseconds after the start of some calls, by a timer that sends the signal SIGURG. The thread
-// then sleeps for a microsecond. On a busy machine, the thread sleeps repeatedly until other threads have executed calls, at
-// most PATIENT times. Works on Linux only.
+// Interrupts its thread during some calls, by a timer that sends the signal SIGURG. The thread then sleeps for a microsecond.
+// On a busy machine, the thread sleeps repeatedly until other threads have executed calls, at most PATIENT times. A signal
+// between two calls has no effect, and the timer is started again. Works on Linux only.
 struct stops {
 #ifdef __linux__
+    // What the signal handler reads and writes in its thread.
+    struct state {
+        const area *run = nullptr;
+        std::atomic<bool> is_in_call{false}, is_missed{false};
+    };
+    static state &of_thread() {
+        thread_local state it;
+        return it;
+    }
+
+    state &its = of_thread();
     int timer = -1;
     std::mt19937 draw;
 
-    static const area *&run_of_thread() {
-        thread_local const area *run = nullptr;
-        return run;
-    }
-
     static void stop(int) {
+        state &its = of_thread();
+        if (!its.is_in_call) {
+            its.is_missed = true;
+            return;
+        }
         const int before = errno;
         const timespec some = {0, 1000};
-        const area *run = run_of_thread();
-        const unsigned seen = run ? run->tickets.load() : 0;
-        unsigned looks = run && run->interrupts_longer() ? PATIENT : 1;
+        const unsigned seen = its.run->tickets;
+        unsigned looks = its.run->interrupts_longer() ? PATIENT : 1;
         do nanosleep(&some, nullptr);
-        while (--looks > 0 && run->tickets - seen < MANY);
+        while (--looks > 0 && its.run->tickets - seen < MANY);
         errno = before;
     }
 
-    // Starts the timer before a few of `calls` calls. Must be called before each of these calls.
+    // Starts the timer before STOPS of `calls` calls, and after a signal between two calls before one in AGAIN. Must be called
+    // before each of these calls.
     void before_call(uint64_t calls) {
-        if (timer < 0 || draw() % calls >= STOPS) return;
+        const uint64_t starts = its.is_missed ? std::max(calls / AGAIN, uint64_t(STOPS)) : STOPS;
+        if (timer < 0 || draw() % calls >= starts) return;
+        its.is_missed = false;
         itimerspec in = {};
         in.it_value.tv_nsec = long(1 + draw() % SOON);
         syscall(SYS_timer_settime, timer, 0, &in, nullptr);
     }
 
+    // Executes a call of the set. Only here does a signal interrupt the thread.
+    template <class Call> reply in_call(Call call) {
+        its.is_in_call.store(true, std::memory_order_relaxed);
+        std::atomic_signal_fence(std::memory_order_seq_cst);
+        const reply given = call();
+        std::atomic_signal_fence(std::memory_order_seq_cst);
+        its.is_in_call.store(false, std::memory_order_relaxed);
+        return given;
+    }
+
     stops(bool is_asked, const area &run, uint64_t seed) : draw(uint32_t(seed)) {
-        run_of_thread() = &run;
+        its.run = &run;
         struct sigaction rests = {};
         rests.sa_handler = stop;
         rests.sa_flags = SA_RESTART;
@@ -416,12 +439,14 @@ struct stops {
         if (syscall(SYS_timer_create, CLOCK_MONOTONIC, &event, &timer) != 0) timer = -1;
     }
     ~stops() {
+        its.is_in_call = false;  // (a call could have thrown)
         if (timer >= 0) syscall(SYS_timer_delete, timer);
-        run_of_thread() = nullptr;
+        its.run = nullptr;
     }
 #else
     stops(bool, const area &, uint64_t) {}
     void before_call(uint64_t) {}
+    template <class Call> reply in_call(Call call) { return call(); }
 #endif
 };
 
@@ -473,7 +498,7 @@ template <class Make, class K> struct maker {
             for (unsigned pause = draw() % 100 < how.pauses ? unsigned(draw()) % LONGEST : 0; pause > 0; pause--) run.tickets.load();
             own.before_call(uint64_t(run.of.sets) * run.of.calls);
             at->begin.store(++run.tickets, std::memory_order_release);
-            const reply given = call(at->call, its, keys[key]);
+            const reply given = own.in_call([&] { return call(at->call, its, keys[key]); });
             at->answer = given;
             at->end.store(++run.tickets, std::memory_order_release);
             if (given == reply::unknown) number += run.of.threads;

@@ -12,7 +12,7 @@ use std::sync::atomic::Ordering::{Relaxed, Release, SeqCst};
 use std::time::{Duration, Instant};
 
 use crate::memory::Memory;
-use crate::stops::Stops;
+use crate::stops::{in_call, Stops};
 use crate::words::*;
 use crate::{no_verdict, Failure, Options, Replies, Shape, Source};
 
@@ -387,8 +387,8 @@ impl<S: Sync> Play<'_, S> {
                 if !is_met && !self.meet() {
                     return;
                 }
-                let is_due = stopping.below(of.sets * of.calls) < STOPS;
-                if let Some(it) = stops.as_ref().filter(|_| is_due) {
+                let (calls, drawn) = (of.sets * of.calls, stopping.below(of.sets * of.calls));
+                if let Some(it) = stops.as_ref().filter(|it| drawn < it.starts(calls)) {
                     it.after(1 + stopping.below(SOON));
                 }
                 self.call(&area.memory[SLOTS + (thread * rows + row) as usize * SLOT..][..SLOT], &mut number, &mut draws);
@@ -431,7 +431,7 @@ impl<S: Sync> Play<'_, S> {
         [*number, word, self.one * keys + key].into_iter().zip(&slot[2..]).for_each(|(it, to)| to.store(it, Relaxed));
         (0..pause).for_each(|_| _ = area.get(At::Tickets));
         slot[1].store(area.next(At::Tickets), Release);
-        let reply = (self.reply)(self.set, word as u8, key * self.of.times).map_or(UNKNOWN, u32::from);
+        let reply = in_call(|| (self.reply)(self.set, word as u8, key * self.of.times)).map_or(UNKNOWN, u32::from);
         slot[5].store(reply, Relaxed);
         slot[0].store(area.next(At::Tickets), Release);
         if reply == UNKNOWN {

@@ -1,13 +1,15 @@
 //! Interrupts a thread during its calls for at least a microsecond, with a timer that sends SIGURG to the thread. On a busy
-//! machine, the thread then sleeps repeatedly until other threads have executed calls, at most `PATIENT` times.
+//! machine, the thread then sleeps repeatedly until other threads have executed calls, at most `PATIENT` times. A signal
+//! between two calls has no effect, and the timer is started again.
 
 #[cfg(all(target_os = "linux", any(target_arch = "x86_64", target_arch = "aarch64")))]
 mod timer {
     use std::cell::Cell;
     use std::ptr::null;
+    use std::sync::atomic::{compiler_fence, AtomicBool, Ordering::Relaxed, Ordering::SeqCst};
 
     use crate::area::Area;
-    use crate::words::{MANY, PATIENT};
+    use crate::words::{AGAIN, MANY, PATIENT, STOPS};
 
     const URGENT: i32 = 23; // SIGURG
     const MONOTONIC: usize = 1;
@@ -37,6 +39,20 @@ mod timer {
     thread_local! {
         /// The run for which this thread makes calls.
         static RUN: Cell<*const Area> = const { Cell::new(null()) };
+        /// Whether this thread is in a call of the set.
+        static IS_IN_CALL: AtomicBool = const { AtomicBool::new(false) };
+        /// Whether the last signal came between two calls.
+        static IS_MISSED: AtomicBool = const { AtomicBool::new(false) };
+    }
+
+    /// Executes a call of the set. Only here does a signal interrupt the thread.
+    pub fn in_call<R>(call: impl FnOnce() -> R) -> R {
+        IS_IN_CALL.with(|it| it.store(true, Relaxed));
+        compiler_fence(SeqCst);
+        let reply = call();
+        compiler_fence(SeqCst);
+        IS_IN_CALL.with(|it| it.store(false, Relaxed));
+        reply
     }
 
     pub struct Stops(i32);
@@ -57,8 +73,19 @@ mod timer {
             Some(Stops(timer))
         }
 
+        /// Returns before how many of `calls` calls the timer must be started: before `STOPS`, and after a signal between
+        /// two calls before one in `AGAIN`.
+        pub fn starts(&self, calls: u32) -> u32 {
+            if IS_MISSED.with(|it| it.load(Relaxed)) {
+                STOPS.max(calls / AGAIN)
+            } else {
+                STOPS
+            }
+        }
+
         /// Interrupts this thread once after this many nanoseconds, whatever the thread is doing then.
         pub fn after(&self, nanoseconds: u32) {
+            IS_MISSED.with(|it| it.store(false, Relaxed));
             let once = [0i64, 0, 0, i64::from(nanoseconds)];
             // SAFETY: the array has the layout of an `itimerspec`.
             unsafe { syscall(SET, self.0 as usize, 0usize, once.as_ptr(), 0usize) };
@@ -69,11 +96,15 @@ mod timer {
         fn drop(&mut self) {
             // SAFETY: the timer belongs to this thread.
             unsafe { syscall(DELETE, self.0 as usize) };
+            IS_IN_CALL.with(|it| it.store(false, Relaxed)); // (a call could have panicked)
             RUN.with(|run| run.set(null()));
         }
     }
 
     extern "C" fn stop(_: i32) {
+        if !IS_IN_CALL.with(|it| it.load(Relaxed)) {
+            return IS_MISSED.with(|it| it.store(true, Relaxed));
+        }
         // SAFETY: the area outlives the `Stops` of its threads, and a signal handler may read atomic numbers.
         let area = unsafe { RUN.with(Cell::get).as_ref() };
         let seen = area.map_or(0, Area::moment);
@@ -97,8 +128,16 @@ mod timer {
             None
         }
 
+        pub fn starts(&self, _: u32) -> u32 {
+            0
+        }
+
         pub fn after(&self, _: u32) {}
+    }
+
+    pub fn in_call<R>(call: impl FnOnce() -> R) -> R {
+        call()
     }
 }
 
-pub use timer::Stops;
+pub use timer::{in_call, Stops};

@@ -33,6 +33,7 @@ pub const MEET: u32 = 250;
 pub const AWAKE: u32 = 300000;
 pub const WITHIN: u32 = 60;
 pub const STOPS: u32 = 32;
+pub const AGAIN: u32 = 4;
 pub const PATIENT: u32 = 40;
 pub const MANY: u32 = 40;
 pub const SOON: u32 = 4000;
