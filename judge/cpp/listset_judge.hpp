@@ -85,7 +85,7 @@ struct options {
     /// The random seed for the calls, keys and pauses of the first run. Each later run uses the next seed.
     unsigned seed = 1;
     /// If no call begins or ends for this many seconds, a run is considered hung and is cut short: 1 to 3,600.
-    unsigned seconds = 10;
+    unsigned seconds = 30;
     /// The time limit for the test in seconds, 1 to 604,800. No run starts after this time.
     unsigned within = 60;
     /// The verdict is false if less than this percentage of the calls overlap a call that adds or removes the same key.

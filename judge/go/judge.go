@@ -63,7 +63,7 @@ type Options struct {
 
 // DefaultOptions returns the options for 20 runs with the presets.
 func DefaultOptions() Options {
-	return Options{Pauses: 20, Runs: 20, Seed: 1, Seconds: 10, Within: manyWithin, Adds: 1, Removes: 1, Finds: 1}
+	return Options{Pauses: 20, Runs: 20, Seed: 1, Seconds: 30, Within: manyWithin, Adds: 1, Removes: 1, Finds: 1}
 }
 
 func (o Options) check() error {

@@ -119,7 +119,7 @@ public final class Judge {
      */
     public static final class Options implements Serializable, Cloneable {
         private static final long serialVersionUID = 1;
-        private int threads, calls, keys, pauses = 20, runs = 20, seconds = 10, within = WITHIN, atLeast, adds = 1, removes = 1, finds = 1;
+        private int threads, calls, keys, pauses = 20, runs = 20, seconds = 30, within = WITHIN, atLeast, adds = 1, removes = 1, finds = 1;
         private long seed = 1;
         private boolean ownProcess = true, opensWithKeys;
         private String record;

@@ -215,7 +215,7 @@ def number_of(variable: str, other: int | None, least: int, most: int) -> int | 
 
 
 def judge(make: Callable[[], Any], *, threads: int | None = None, calls: int | None = None, keys: int | None = None,
-          key: Callable[[int], Any] | None = None, pauses: int = 20, runs: int = 20, seed: int = 1, seconds: int = 10, within: int = WITHIN,
+          key: Callable[[int], Any] | None = None, pauses: int = 20, runs: int = 20, seed: int = 1, seconds: int = 30, within: int = WITHIN,
           at_least: int = 0, adds: int = 1, removes: int = 1, finds: int = 1, own_process: bool = True,
           opens_with_keys: bool = False, record: str | os.PathLike | None = None) -> Verdict:
     """Judges the sets that `make` creates and returns a Verdict. Raises NotLinearizable if no order explains a run, and

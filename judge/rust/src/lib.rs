@@ -87,7 +87,7 @@ impl Default for Options {
             pauses: 20,
             runs: 20,
             seed: 1,
-            seconds: 10,
+            seconds: 30,
             within: WITHIN,
             at_least: 0,
             shares: [1, 1, 1],
