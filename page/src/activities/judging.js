@@ -147,7 +147,6 @@ class Judging {
 export const judging = new Judging();
 export const drawJudging = () => isJudging() && judging.draw();
 
-// Returns the hint after two wrong attempts: for an example its deciding events, for any other run the events that change the set.
 function hintOfRun() {
   const turns = CLASSICS[exampleShown()]?.turns;
   if (turns !== undefined) return `The deciding events: ${turns.join(", ")}.`;

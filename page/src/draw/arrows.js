@@ -29,7 +29,8 @@ export function drawLink(state, name, places, event) {
   const target = linkTarget(link);
   const [from, to] = [places[name], places[target]];
   if (!to || name === "tail" || (target === "head" && !reached)) return "";
-  const kind = event?.word === `${name}.link` ? "hot" : from.aside ? "out" : "in";
+  const isWrite = event?.deed === "store" || (event?.deed === "exchange" && event.saw === event.from); // (a read has only the ring)
+  const kind = isWrite && event.word === `${name}.link` ? "hot" : from.aside ? "out" : "in";
   const isMarked = link.endsWith("*");
   return tag("g", { class: `link ${kind}${from.aside ? " aside" : ""}`, "data-part": `link ${name}`, "data-to": target },
     title(`${name}.link: ${valueText(link)}`),

@@ -24,7 +24,6 @@ function rowCell(held, kind) {
   return `<b>${held.pc}</b> ${row ? `${row.step} <small>${row.book}</small>` : ""}`;
 }
 
-// Decides whether a register (a variable of a thread) is shown: only if some row of the call writes it.
 const hasRegister = (kind, call, name) => LISTS[kind].calls[call.operation].registers.includes(name);
 
 function registerCell(held, name, moved, event, kind) {

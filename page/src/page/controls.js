@@ -15,7 +15,6 @@ export function stopUnable(event) {
   event.preventDefault();
 }
 
-// Moves the focus past the navigation: to the Step button, or else to the first control.
 function skipToRun() {
   const first = { stage: "#next", scene: "#scene :is(.option, .fig button, .card, #sides-turns button, .foot .primary)" };
   document.querySelector(first[now.place.screen])?.focus();

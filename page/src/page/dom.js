@@ -32,7 +32,6 @@ export function scrollToLine(box, line, above, below) {
   if (y < box.scrollTop + above || y > box.scrollTop + box.clientHeight - below) box.scrollTop = y - box.clientHeight / 2;
 }
 
-// Replaces the HTML of a box. Returns whether the HTML has changed.
 export function setHtml(box, html) {
   if (texts.get(box) === html) return false;
   texts.set(box, html);

@@ -28,7 +28,7 @@ export const GONE = '<p class="welcome" role="status">All saved data has been de
 
 export function welcome(done) {
   const count = SCREENS.filter(({ id }) => done[id]).length;
-  const words = `Welcome back: you have finished ${count} of the ${SCREENS.length} screens. You are where you stopped.`;
+  const words = `Welcome back: you have finished ${count} of the ${SCREENS.length} sections. You are where you stopped.`;
   return `<p class="welcome">${words} <a href="#story=1">From the start</a></p>`;
 }
 
@@ -102,7 +102,7 @@ export function endHtml(done) {
     one more check. If one of these is left out, numbers get lost.</p>
     <table class="five"><thead><tr><th>The list</th><td>Who waits?</td><td>What does it pay for that?</td></tr></thead>
     <tbody>${LISTS_AT_END.map(rowOfList).join("")}</tbody></table>
-    <h2>You have finished ${count} of the ${SCREENS.length} screens. And now?</h2><div class="ways">${ways.join("")}</div>
+    <h2>You have finished ${count} of the ${SCREENS.length} sections. And now?</h2><div class="ways">${ways.join("")}</div>
     <h2>When is the list with one lock fast enough?</h2>
     <p class="prose">While calls are short. With 16 numbers, the extra locks and checks cost more than they save, and only lock-free was faster. With
     1,000 numbers, lazy and lock-free win, and a balanced tree behind one lock beats each list. Hand over hand and

@@ -86,7 +86,7 @@ function looked() {
 // Tells a reader who has reached the fault how to end the run.
 function noteAtFault(figure) {
   const pending = figure.shown.filter((thread) => !figure.run.isIdle(thread) || figure.left(thread).length > 0).map(letterOf);
-  return `There is the fault: see the table. Now press ${pending.join(" and ")} until ${pending.length > 1 ? "both calls return" : "its call returns"}.`;
+  return `There is the fault: compare the two rows. Now press ${pending.join(" and ")} until ${pending.length > 1 ? "both calls return" : "its call returns"}.`;
 }
 
 const FEW = 30; // states that are searched after each press, to report early that nothing can go wrong any more
@@ -153,7 +153,8 @@ function keepPart({ number, at }, { id }) {
 }
 
 function focusOn() {
-  if (!isLecture() && document.activeElement.closest("button, a, input, [tabindex='0']") === null) part("#go-on").focus({ preventScroll: true });
+  const isElsewhere = document.activeElement.closest(":is(button, a, input, [tabindex='0']):not(.again button, .content)") !== null;
+  if (!isLecture() && !isElsewhere) setTimeout(() => part("#go-on")?.focus({ preventScroll: true })); // after the key press, which would press the button too
 }
 
 // Returns the thread to press next to complete the task. If the task can fail, a search finds the thread; otherwise the screen's `help` lists the presses.
@@ -199,7 +200,6 @@ async function goes(by) {
   return true;
 }
 
-// Undoes the last press of a task, or the answer to a question. Returns false if there is nothing to undo.
 function takeBack() {
   const { figure } = scene;
   const { stage } = now.scene;

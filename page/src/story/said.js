@@ -28,7 +28,7 @@ function deedSaid(moment, plain) {
   if (event.deed === "begin") return `begins ${bold(callText(event.call))}.`;
   const owner = ownerIn(event.word);
   const who = nodeName(state, owner);
-  if (isLock(event.word)) return lockSaid(event, who, plain, event.changes.pc === before.pc);
+  if (isLock(event.word)) return lockSaid(event, who, plain, event.changes.pc === before.pc, moment);
   const phase = phaseAt(kind, before.pc, plain);
   const key = event.call.key;
   if (event.deed === "load" && event.word.endsWith(".key")) return keySaid(moment, owner, key, phase);
@@ -37,10 +37,17 @@ function deedSaid(moment, plain) {
   return writeSaid(moment, owner, who);
 }
 
-function lockSaid(event, who, plain, waits) {
+// Decides whether a thread holds the lock that it releases: a broken list can release a lock that it does not hold.
+function isHeld({ trace, event }) {
+  const isTaken = ({ word, deed, saw, from }) => word === event.word && (deed === "store" || saw === from);
+  const last = trace.events().slice(0, event.number - 1).findLast(isTaken);
+  return last?.deed === "exchange" && last.thread === event.thread;
+}
+
+function lockSaid(event, who, plain, waits, moment) {
   if (plain) return event.deed === "store" ? "is done." : "starts.";
   const what = who === undefined || event.word === "list.lock" ? "the lock" : `the lock of ${who}`;
-  if (event.deed === "store") return `releases ${what}.`;
+  if (event.deed === "store") return `releases ${what}${isHeld(moment) ? "" : ", which it does not hold"}.`;
   if (event.saw === event.from) return `takes ${what}.`;
   return `wants ${what}, but ${chipOf(event.saw.slice(1))} holds it. ${bold(waits ? "It waits." : "It continues all the same.")}`;
 }
@@ -58,7 +65,7 @@ function keySaid({ state, event, before, held }, owner, key, phase) {
     if (held.node === held.pred) return "meets its pred: it is still in the list.";
     return held.pc === before.pc + 1 ? `takes this node for its pred, ${bold("since the key is the same.")}` : "walks on: this is not its pred.";
   }
-  const isPlace = isPlaceOf(state, key, owner);
+  const isPlace = event.call.operation === "add" && isPlaceOf(state, key, owner);
   if (owner === "tail") return `has reached the tail${isPlace ? ": here is the place" : ""}.`;
   const seen = Number(event.saw);
   if (seen < key) return `reads ${bold(seen)}: too small, so it walks on.`;

@@ -151,7 +151,6 @@ export function drawLedger(run, count = run.trace.total) {
 
 export const isOddRun = (run) => run.promised().join() !== run.has().join();
 
-// Returns the thread whose letter is this key, or -1 if there is none.
 export function threadOfKey({ key, ctrlKey, metaKey, altKey, repeat }) {
   if (!now.prefs.letters || repeat || ctrlKey || metaKey || altKey || !/^[a-z]$/.test(key)) return -1;
   return key.charCodeAt(0) - "a".charCodeAt(0);
@@ -164,8 +163,8 @@ export function pressThread(event) {
   if (thread === -1 || figure === null) return;
   const { run, spec, isBusy } = figure;
   const isAnswered = spec.free && !isBusy && run.isIdle(thread) && run.trace.calls.some((call) => call.thread === thread);
-  if (isAnswered) figure.say(`${chipOf(thread)} has returned. Press <b>begin</b> for its next call.`);
-  else figure.press(thread);
+  if (!isAnswered) figure.press(thread);
+  else if (part(`[data-begin="${thread}"]`)?.getClientRects().length > 0) figure.say(`${chipOf(thread)} has returned. Press <b>begin</b> for its next call.`);
 }
 
 export const numberOfKey = ({ key }) => (now.prefs.letters && /^[1-9]$/.test(key) ? Number(key) - 1 : -1);

@@ -22,7 +22,6 @@ function inTurn(deed) {
 
 export const pressInScene = (event) => (isLecture() ? inTurn(() => scene.view?.press?.(event)) : scene.view?.press?.(event));
 
-// Opens the next or the previous slide. Returns false if no such slide exists.
 export function toSlide(by) {
   const number = now.place.slide + by;
   if (now.place.slide === 0 || number === 0) return false;

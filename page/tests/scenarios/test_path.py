@@ -101,7 +101,7 @@ def test_no_button_says_that_a_thread_starts_again(visitor, address, keys):
 def test_the_path_counts_its_questions(visitor):
     visitor.open("#story=10")
     questions = visitor.script("return document.querySelectorAll('.dots a:not(.end)').length")
-    assert questions == 9 and f"finished 0 of the {questions} screens" in visitor.text(".end h2")
+    assert questions == 9 and f"finished 0 of the {questions} sections" in visitor.text(".end h2")
 
 
 def test_buttons_do_not_move(visitor):
@@ -204,7 +204,7 @@ def test_a_reader_at_the_fault_learns_what_to_press(visitor):
             if not visitor.is_seen(".reveal"):
                 visitor.step(key)
                 said += visitor.text("#prompt")
-        assert "There is the fault: see the table. Now press" in said, address
+        assert "There is the fault: compare the two rows. Now press" in said, address
 
 
 def test_the_sentence_about_a_change_stays_until_the_next_press(visitor):
@@ -286,7 +286,7 @@ def test_a_returning_visitor_continues_where_they_left(visitor):
     visitor.wait("return location.hash === '#story=4'")
     visitor.settle()
     visitor.open()
-    assert "Welcome back: you have finished 1 of the 9 screens" in visitor.text(".welcome") and visitor.text("h1").startswith("Can each node")
+    assert "Welcome back: you have finished 1 of the 9 sections" in visitor.text(".welcome") and visitor.text("h1").startswith("Can each node")
     visitor.click(".welcome a")
     visitor.wait("return document.querySelector('h1').innerText.startsWith('How does a thread')")
     assert "done" in visitor.script("return document.querySelectorAll('.dots a')[2].className")
