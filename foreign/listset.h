@@ -217,7 +217,7 @@ const char *listset_fault_text(listset_fault fault);
 LISTSET_USED listset_fault listset_open(listset_list kind, uint32_t seats, uint32_t quota, uint64_t number, const uint32_t *keys,
                                         size_t count, listset_seat *out);
 
-/// Splits a seat (the right to call as one thread) off `seat` and stores it in `out`, which must be empty. Returns
+/// Splits a seat (the right to call the set as one thread) off `seat` and stores it in `out`, which must be empty. Returns
 /// LISTSET_NO_MORE if no seat can be split off: `seat` contains no other seat, or has gathered a seat.
 LISTSET_USED listset_fault listset_split(listset_seat *seat, listset_seat *out);
 
@@ -248,7 +248,7 @@ uint64_t listset_most_reads(uint32_t seats, uint32_t quota, uint32_t opening);
 /// thread with any message.
 LISTSET_USED listset_fault listset_receipt_of(listset_seat *seat, listset_receipt *out);
 
-/// Passes a receipt of this set to `seat` (the right to call as one thread). In the order of all calls, later calls of `seat`
+/// Passes a receipt of this set to `seat` (the right to call the set as one thread). In the order of all calls, later calls of `seat`
 /// follow every call that the receipt covers. `given` is empty afterwards.
 LISTSET_USED listset_fault listset_after(listset_seat *seat, listset_receipt *given);
 
@@ -256,7 +256,7 @@ LISTSET_USED listset_fault listset_after(listset_seat *seat, listset_receipt *gi
 /// `*all`. Both numbers are 0 if `seat` is empty or a closed set.
 uint64_t listset_seats_within(listset_seat *seat, uint32_t *all);
 
-/// Merges `from`, including all seats (rights to call as one thread) that it contains, into `into`. `from` is empty
+/// Merges `from`, including all seats (rights to call the set as one thread) that it contains, into `into`. `from` is empty
 /// afterwards.
 LISTSET_USED listset_fault listset_gather(listset_seat *into, listset_seat *from);
 
@@ -268,7 +268,7 @@ LISTSET_USED listset_fault listset_close(listset_seat *seat);
 /// `room`. Returns the number of keys, or SIZE_MAX if `closed` is not a closed set.
 size_t listset_keys(listset_seat *closed, uint32_t *room, size_t places);
 
-/// Gathers all seats (rights to call as one thread) in the array `seats`, which has `places` elements, into its first element,
+/// Gathers all seats (rights to call the set as one thread) in the array `seats`, which has `places` elements, into its first element,
 /// and closes the set. Elements of the array may be empty. If a seat of the set is missing, returns LISTSET_SEATS_OUT and
 /// changes nothing. After LISTSET_OUT_OF_MEMORY nothing is lost, and the call can be repeated.
 LISTSET_USED listset_fault listset_close_all(listset_seat *seats, size_t places);

@@ -279,7 +279,7 @@ inline uint64_t next_number() {
   return sets++;
 }
 
-/// Opens a set with keys in strictly increasing order. Returns a seat (the right to call as one thread) that contains all
+/// Opens a set with keys in strictly increasing order. Returns a seat (the right to call the set as one thread) that contains all
 /// other seats.
 inline seat open(list kind, uint32_t seats, uint32_t quota, const std::vector<uint32_t> &keys = {}) {
   seat made;
@@ -289,7 +289,7 @@ inline seat open(list kind, uint32_t seats, uint32_t quota, const std::vector<ui
   return made;
 }
 
-/// Closes a set, and opens a set of the list `kind` with the same keys. `seats` must contain all seats (rights to call as one
+/// Closes a set, and opens a set of the list `kind` with the same keys. `seats` must contain all seats (rights to call the set as one
 /// thread) of the old set. Afterwards, `seats` contains the `count` seats of the new set, each with this quota. If this
 /// function throws, nothing is lost: `seats` contains all seats or the closed set, and the call can be repeated.
 inline void renew(std::vector<seat> &seats, list kind, uint32_t count, uint32_t quota) {
@@ -495,7 +495,7 @@ public:
     }
   };
 
-  /// Opens a set with 1 to 64 seats (rights to call as one thread) and with keys in strictly increasing order. A seat can add
+  /// Opens a set with 1 to 64 seats (rights to call the set as one thread) and with keys in strictly increasing order. A seat can add
   /// `quota` keys before the set is renewed.
   renewed_set(list kind, uint32_t seats, uint32_t quota, const std::vector<uint32_t> &keys = {},
               std::chrono::nanoseconds patience = std::chrono::nanoseconds::max())
@@ -559,7 +559,7 @@ class shared {
     return places.front();
   }
 
-  // Calls `call` with a free seat (the right to call as one thread). Threads begin their search for a free seat at different
+  // Calls `call` with a free seat (the right to call the set as one thread). Threads begin their search for a free seat at different
   // seats, if there are enough seats.
   template <typename Call> auto by(Call call) {
     first();

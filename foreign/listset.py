@@ -445,7 +445,7 @@ def most_reads(seats, quota, keys=0):
 
 
 def open_set(kind, seats, quota, keys=()):
-    """Opens a set with keys in strictly increasing order. Returns a seat (the right to call as one thread) that contains all
+    """Opens a set with keys in strictly increasing order. Returns a seat (the right to call the set as one thread) that contains all
     other seats.
     """
     made, keys, index = Seat(), list(keys), LISTS.index(_list(kind))
@@ -458,7 +458,7 @@ open = open_set  # listset.open. It is not in __all__: `from listset import *` k
 
 
 def _of_all(seats, call):
-    """Calls `call` with an array of these seats (rights to call as one thread)."""
+    """Calls `call` with an array of these seats (rights to call the set as one thread)."""
     raws = (_Raw * max(len(seats), 1))(*(it.raw for it in seats))
     code = call(raws)
     for seat, raw in zip(seats, raws):

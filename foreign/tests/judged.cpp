@@ -1,4 +1,4 @@
-// Judges `shared` sets with eight seats (rights to call as one thread), of the five lists and of a
+// Judges `shared` sets with eight seats (rights to call the set as one thread), of the five lists and of a
 // wrong set, in the way described in docs/YOUR-SET.md.
 #include "listset.hpp"
 

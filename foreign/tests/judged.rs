@@ -1,4 +1,4 @@
-//! Judges `Shared` sets of the five lists, with eight seats (rights to call as one thread) each, in the way
+//! Judges `Shared` sets of the five lists, with eight seats (rights to call the set as one thread) each, in the way
 //! described in docs/YOUR-SET.md.
 use listset::{Added, List, Shared};
 use listset_judge::Options;

@@ -96,8 +96,8 @@ abbrev pub GathersAt : Bool → Held → Bool → Held → Type 0
 GathersAt true h true h' = Gathers h h'
 GathersAt into h from h' = Unit {0}
 
--- Holds if a seat (the right to call as one thread), together with the seats in the list that can be split off it,
--- holds all seats of the set.
+-- Holds if a seat (the right to call the set as one thread), together with the seats in the list that can be split off
+-- it, holds all seats of the set.
 abbrev pub IsWhole : SetValue → Option SeatValue → List SeatValue → Type 0
 IsWhole set (Some seat) spare = seat.held + length spare ≡ set.shape.threads
 IsWhole set None spare = ⊥

@@ -36,9 +36,9 @@ pub fn fault_code(fault: OpenFault) -> u8 {
     }
 }
 
-/// Makes a call from `seat` (the right to call as one thread) and returns its reply as a number. Returns 255 if `seat`
-/// is empty or contains a receipt or a closed set, or if the call stops after 2^64 - 1 rounds of a loop without a
-/// reply. In this case the seat is lost.
+/// Makes a call from `seat` (the right to call the set as one thread) and returns its reply as a number. Returns 255 if
+/// `seat` is empty or contains a receipt or a closed set, or if the call stops after 2^64 - 1 rounds of a loop without
+/// a reply. In this case the seat is lost.
 pub fn call_from_seat(alloc: Global, seat: &mut CSeat, call: Call) -> u8
     ensures { HasMade seat.old.full seat.old.held call result seat.new.full seat.new.held }
 {

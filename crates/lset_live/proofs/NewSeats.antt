@@ -1,4 +1,4 @@
--- Lemmas about the new seats (rights to call as one thread) of a set that was just opened.
+-- Lemmas about the new seats (rights to call the set as one thread) of a set that was just opened.
 use Rattle.std.proofs.Common.{◌≡◌, ℕ, ◌+◌, List, [], ◌∷◌, ◌++◌, map, length, refl, sym, ◌∙◌, subst, arith, All}
 use Rattle.std.specs.List.{range_with_len}
 use Rattle.std.proofs.lemmas.List.Elements.{All-cons, All-nil}
@@ -11,7 +11,7 @@ use Rattle.lset_live.specs.Dated.{record_of}
 use Rattle.lset_live.specs.Seats.{SeatValue, SetValue, IsOpened, new_seat}
 use Rattle.lset_words.specs.Words.{Opening}
 
--- Returns the value that contracts use for a seat (the right to call as one thread).
+-- Returns the value that contracts use for a seat (the right to call the set as one thread).
 abbrev pub value_of : Seat (Unit {0}) View → SeatValue
 value_of s = record {
   set = record { table = s.table_id; shape = s.me.0.shape };

@@ -1,5 +1,5 @@
--- Proof: the events that a seat (the right to call as one thread) has seen have a linearization that agrees with the
--- seat's record.
+-- Proof: the events that a seat (the right to call the set as one thread) has seen have a linearization that agrees
+-- with the seat's record.
 use Rattle.std.proofs.Common.{◌≡◌, ⊎_elim, inl, ℕ, suc, ◌+◌, ◌<◌, ◌==◌, Bool, true, false, cond, List, [], ◌∷◌, ◌++◌, map, length}
 use Rattle.std.proofs.Common.{Option, Some, None, refl, sym, ap, ◌∙◌, subst, arith, append-nil, append_assoc}
 use Rattle.std.proofs.lemmas.List.{map-append}

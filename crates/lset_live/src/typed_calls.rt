@@ -1,4 +1,4 @@
-//! Calls made from a seat (the right to call as one thread), each with its own result type. The same calls on
+//! Calls made from a seat (the right to call the set as one thread), each with its own result type. The same calls on
 //! `LiveSet` return a `Reply`.
 ghost use Rattle.std.specs.Prelude.{◌≡◌};
 ghost use Rattle.lset_words.specs.declared.Call.TheVariants.{Add, Remove, Contains, Ceiling};

@@ -39,7 +39,7 @@ pub record MayStep (m : Table) (b : Begun) (a : Action) (s : TableSeat) : Type 0
   pub goes_on : (n : ℕ) → (m.feed held n).answer ≡ None
 
 -- After a step that saw the value n, call b is at the row of the step table that follows for this value. s and s' are
--- the seat (the right to call as one thread) before and after the step.
+-- the seat (the right to call the set as one thread) before and after the step.
 pub record HasStepped (m : Table) (b : Begun) (s : TableSeat) (n : ℕ) (s' : TableSeat) : Type 0 where
   pub leads : (l : Local) → Holds m b l s → Holds m b (m.feed l n).local s'
 
@@ -85,8 +85,8 @@ slot_stores own word x = (key_index (slot own), word) ∷ (link_index (slot own)
 abbrev pub put_stores : OwnSlots → ℕ → ℕ → ℕ → List (ℕ × ℕ)
 put_stores own word p x = (key_index (slot own), word) ∷ (link_index (slot own), 2 * x) ∷ (link_index p, 2 * slot own) ∷ []
 
--- Call b has not started yet. No call is pending from seat s (the right to call as one thread), and the thread of the
--- seat has the slots `own` (nodes for the keys that this thread adds).
+-- Call b has not started yet. No call is pending from seat s (the right to call the set as one thread), and the thread
+-- of the seat has the slots `own` (nodes for the keys that this thread adds).
 pub record MayBegin (m : Table) (b : Begun) (own : OwnSlots) (s : TableSeat) : Type 0 where
   pub now : b ≡ begun_at b.call s
   pub may : MayCall m b.table_id b.me.0.shape own s
@@ -95,8 +95,8 @@ pub record MayBegin (m : Table) (b : Begun) (own : OwnSlots) (s : TableSeat) : T
 abbrev pub first : Table → Begun → OwnSlots → Local
 first m b own = m.begin b.call (resting own)
 
--- Call b has ended with reply r. The calling thread has the private state `l`, and its seat (the right to call as one
--- thread) is now s.
+-- Call b has ended with reply r. The calling thread has the private state `l`, and its seat (the right to call the set
+-- as one thread) is now s.
 pub record Answered (m : Table) (b : Begun) (r : Reply) (l : Local) (s : TableSeat) : Type 0 where
   pub seat : (s.table_id ≡ b.table_id) × (s.id ≡ b.id) × (s.me.1 ≡ b.me.1)
   pub makes : Makes m b.call b.me.0 r s.me.0
@@ -114,13 +114,13 @@ abbrev pub StandsAfter : Table → Begun → Fed → TableSeat → Type 0
 StandsAfter m b f s = MatchOption f.answer (Holds m b f.local s) (λ r. Answered m b r f.local s)
 
 -- After a step that saw the value n in its word, call b has ended or continues, as the step table says for this value.
--- s and s' are the seat (the right to call as one thread) before and after the step.
+-- s and s' are the seat (the right to call the set as one thread) before and after the step.
 abbrev pub HasTold : Table → Begun → TableSeat → ℕ → TableSeat → Type 0
 HasTold m b s n s' = (l : Local) → Holds m b l s → (f : Fed) → m.feed l n ≡ f → StandsAfter m b f s'
 
 -- A compare-and-exchange that succeeded saw the value `old`. One that failed saw another value. Call b has then ended
--- or continues, as the step table says for the value seen. s and s' are the seat (the right to call as one thread)
--- before and after the exchange.
+-- or continues, as the step table says for the value seen. s and s' are the seat (the right to call the set as one
+-- thread) before and after the exchange.
 abbrev pub HasExchanged : Table → Begun → ℕ → TableSeat → Bool → TableSeat → Type 0
 HasExchanged m b old s true s' = HasTold m b s old s'
 HasExchanged m b old s false s' = (n : ℕ) × (n ≢ old) × HasTold m b s n s'

@@ -1,5 +1,5 @@
--- Proofs about the view of a seat after each step of its call. A seat is the right to call as one thread; its view is
--- its knowledge of the run.
+-- Proofs about the view of a seat after each step of its call. A seat is the right to call the set as one thread; its
+-- view is its knowledge of the run.
 use Rattle.std.proofs.Common.{◌≡◌, ℕ, ◌+◌, List, [], ◌∷◌, ◌++◌, length, Option, Some, None, MatchOption, ◌<◌, refl, sym, ap, ◌∙◌}
 use Rattle.std.proofs.Common.{subst, append-nil, append_assoc, length-append, false}
 use Rattle.lset_words.specs.declared.Call.{Call}

@@ -1,5 +1,5 @@
--- Proof: if a seat (the right to call as one thread) has as many threads as the set, it has each thread of the set.
--- Therefore, when the set is closed, this seat knows the words exactly.
+-- Proof: if a seat (the right to call the set as one thread) has as many threads as the set, it has each thread of the
+-- set. Therefore, when the set is closed, this seat knows the words exactly.
 use Rattle.std.proofs.Common.{◌≡◌, ◌≢◌, ◌⊎◌, inl, inr, ⊎_elim, ℕ, zero, suc, ◌+◌, ◌<◌, ◌≤◌, List, [], ◌∷◌, length, refl, sym, ap}
 use Rattle.std.proofs.Common.{◌∙◌, subst, arith, ◌++◌, false, append-nil, length-append}
 use mathlib.Core.Logic.{dite}
@@ -115,8 +115,8 @@ no_more m law k v es (e ∷ rest) all r quiet =
     let en : Enabled s e = subst (λ z. Enabled s z) (event_first es rest e) (r.enabled (length es) (omega arith)) in
     absurd (quiet.0 (all (thread_of e) (subst (λ z. thread_of e < z) laws.locals (by_small s e en))))
 
--- When the set is closed, the seat (right to call) that has all threads knows the words exactly: they are the words
--- after the events that the seat has seen.
+-- When the set is closed, the seat (the right to call the set) that has all threads knows the words exactly: they are
+-- the words after the events that the seat has seen.
 pub closes : (m : Table) (law : Lawful m) (k : Opening) (id : ℕ) (v : View) (ws : List ℕ) (xs : List (Unit {0})) → v.shape ≡ k →
     v.spent ≡ false → length v.others + 1 ≡ k.threads → Final (Seen (Holds m k) id v) ws xs
     → ws ≡ (end_of m k v.seen).words

@@ -1,6 +1,6 @@
 -- Proof: splitting and joining seats, and issuing and using receipts, preserve the invariant of the shared words and
--- all seats. A seat is the right to call as one thread. A receipt contains the events that a seat has seen, and is used
--- by another seat.
+-- all seats. A seat is the right to call the set as one thread. A receipt contains the events that a seat has seen, and
+-- is used by another seat.
 use Rattle.std.proofs.Common.{◌≡◌, ◌≢◌, ◌⊎◌, inl, inr, ⊎_elim, ℕ, ◌+◌, ◌<◌, ◌≤◌, ◌==◌, Bool, true, false, cond, List}
 use Rattle.std.proofs.Common.{[], ◌∷◌, ◌++◌, length, set, nat_le, Option, None, refl, sym, ap, ◌∙◌, subst, arith, rules, tests}
 use Rattle.std.proofs.Common.{append-nil, eq-eqb, ne_eqb}
@@ -32,7 +32,7 @@ use Rattle.lset_rule.proofs.MovesKeepRule.{M}
 use Rattle.lset_words.specs.Words.{Opening}
 
 -- If no thread of view v (a seat's knowledge of the run) executed these events, and v has each thread of view w, then
--- no thread of w executed them. A seat is the right to call as one thread.
+-- no thread of w executed them. A seat is the right to call the set as one thread.
 quiet_less : (v w : View) → ((t : ℕ) → HasThread w t → HasThread v t) → (es : List Event) → IsQuiet v es → IsQuiet w es
 quiet_less v w less [] q = tt
 quiet_less v w less (e ∷ es) q = (λ h. q.0 (less (thread_of e) h), quiet_less v w less es q.1)

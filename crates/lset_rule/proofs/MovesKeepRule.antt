@@ -1,5 +1,5 @@
 -- Proof: the start of a call and each step of a call preserve the invariant of the shared words and all seats. A seat
--- is the right to call as one thread.
+-- is the right to call the set as one thread.
 use Rattle.std.proofs.Common.{◌≡◌, ◌≢◌, inl, inr, ℕ, ◌+◌, ◌<◌, ◌≤◌, false, List, [], ◌∷◌, ◌++◌, length, set, slice_index}
 use Rattle.std.proofs.Common.{slice_set, Option, Some, None, refl, sym, ap, ◌∙◌, subst, arith, append-nil, append_assoc, length-append}
 use mathlib.Core.Option.{some}
@@ -160,7 +160,7 @@ module _ (m : Table) where
       is_at = (record { run = h.ran; thread = small; open_call = busy }, local_stood)
 
       -- After the seat with view v (its knowledge of the run) has taken the step at the current row of its call, the
-      -- invariant of the shared words and all seats still holds. A seat is the right to call as one thread.
+      -- invariant of the shared words and all seats still holds. A seat is the right to call the set as one thread.
       pub steps : let a = m.next v.local in
           let n = slice_index s.words (word_named a) in
           let w = gone_view m h.log (found a n) v in
@@ -308,8 +308,8 @@ module _ (m : Table) (law : Lawful m) (v : View) (st : Stands m v) where
     ap (λ (x : Here). x.local) st.own,
   )
 
-  -- After the start of call c and before its first step, the thread of the seat (the right to call as one thread) has
-  -- the registers `m.begin c v.local`.
+  -- After the start of call c and before its first step, the thread of the seat (the right to call the set as one
+  -- thread) has the registers `m.begin c v.local`.
   pub begun_at : (c : Call) → target c < tail_word → IsIdle v → IsAt m v.shape (v.seen ++ Begin v.thread c ∷ []) v.thread
       (m.begin c v.local)
   begun_at c low is_idle =

@@ -1,5 +1,5 @@
--- Proofs that compare two lists: the calls of a thread in the record of a seat (the right to call as one thread), and
--- the calls that the thread has made in the run.
+-- Proofs that compare two lists: the calls of a thread in the record of a seat (the right to call the set as one
+-- thread), and the calls that the thread has made in the run.
 use Rattle.std.proofs.Common.{◌≡◌, ◌≢◌, ◌⊎◌, inl, inr, ℕ, zero, suc, ◌<◌, ◌≤◌, Bool, true, false, if◌then◌else◌, cond, List, [], ◌∷◌}
 use Rattle.std.proofs.Common.{◌++◌, Option, Some, None, refl, sym, ap, ◌∙◌, subst, arith, eq-eqb, ne_eqb, append-nil, append_assoc}
 use Rattle.lset_words.specs.declared.Reply.{Reply}

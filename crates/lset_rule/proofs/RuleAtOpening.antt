@@ -1,5 +1,5 @@
--- Proof: when a set has been opened, the invariant of the shared words and all seats (rights to call as one thread)
--- holds.
+-- Proof: when a set has been opened, the invariant of the shared words and all seats (rights to call the set as one
+-- thread) holds.
 use Rattle.std.proofs.Common.{◌≡◌, ◌≢◌, inl, inr, ⊎_elim, ℕ, zero, suc, ◌+◌, ◌-◌, ◌<◌, ◌≤◌, List, [], ◌∷◌, length, None}
 use Rattle.std.proofs.Common.{refl, sym, ap, ◌∙◌, subst, arith}
 use mathlib.Core.Option.{some, some-injective, some-ne-none}
@@ -31,8 +31,8 @@ fresh k t = record (opener k) { thread = t; local = idle k.quota t; others = [];
 abbrev pub spare : Opening → ℕ → View
 spare k t = record (opener k) { others = asides_from k t (k.threads - 1 - t) }
 
--- Holds if s is a new seat (the right to call as one thread) that was just split off for thread t. The seat has not
--- called yet.
+-- Holds if s is a new seat (the right to call the set as one thread) that was just split off for thread t. The seat has
+-- not called yet.
 abbrev pub IsNew : TableId → Opening → ℕ → Seat (Unit {0}) View → Type 0
 IsNew z k t s = (s.table_id ≡ z) × (s.me ≡ (fresh k t, []))
 

@@ -1,5 +1,6 @@
 -- Lemmas about the list of all seats' views when a view changes or is added: the facts about each view that remain
--- true, and the view of each thread. A seat is the right to call as one thread; its view is its knowledge of the run.
+-- true, and the view of each thread. A seat is the right to call the set as one thread; its view is its knowledge of
+-- the run.
 use Rattle.std.proofs.Common.{◌≡◌, ◌≢◌, ⊎_elim, ℕ, zero, suc, ◌<◌, true, false, List, [], ◌∷◌, ◌++◌, length, set, refl, sym, ap, ◌∙◌, subst}
 use Rattle.std.proofs.lemmas.Bool.{false≢true}
 use mathlib.Core.Option.{some, some-injective, some-ne-none}

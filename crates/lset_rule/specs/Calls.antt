@@ -57,8 +57,8 @@ Starts m c v n w = (log : List Event) × (on : StartsWith log v.seen) × Sees m 
     × (let b = begun_view m log c v in seen_next m (end_of m v.shape b.seen) v.thread ≡ n)
 
 -- `onward` and `starting` are `Goes` and `Starts` in the form that the crate `atomic_table` requires for an access to
--- the shared words. In addition, the access does not change which cells of the table the seat (the right to call)
--- owns.
+-- the shared words. In addition, the access does not change which cells of the table the seat (the right to call the
+-- set) owns.
 abbrev pub onward : Table → Step (Unit {0}) → Me (Unit {0}) View → ℕ → Me (Unit {0}) View → Type 0
 onward m st me n me' = Goes m me.0 n me'.0 × (me'.1 ≡ me.1)
 

@@ -1,5 +1,5 @@
--- The record of a seat (the right to call as one thread): its completed calls, and the records of the seats that were
--- merged into it, oldest first.
+-- The record of a seat (the right to call the set as one thread): its completed calls, and the records of the seats
+-- that were merged into it, oldest first.
 use Rattle.std.specs.Prelude.{◌≡◌, ℕ, ◌⊎◌, ◌<◌, ◌==◌, List, [], ◌∷◌, ◌++◌, cond}
 use denote.Bor.{Bor}
 use Rattle.lset_rule.specs.declared.view.OwnCall.{OwnCall}

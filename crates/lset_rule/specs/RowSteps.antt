@@ -1,5 +1,5 @@
--- One step of an interpreted call: its requirements on the seat (the right to call as one thread) and on the thread's
--- state, and its result.
+-- One step of an interpreted call: its requirements on the seat (the right to call the set as one thread) and on the
+-- thread's state, and its result.
 use Rattle.std.specs.Prelude.{◌≡◌, ℕ}
 use Rattle.atomic_table.specs.Seated.{TableId}
 use Rattle.lset_words.specs.Words.{Opening}

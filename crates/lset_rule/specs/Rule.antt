@@ -1,8 +1,8 @@
 -- The invariant of a list on shared words (the code calls it the rule). It holds between any two steps: some list of
 -- events is a run that ends with the words in memory, and the view of each seat (its knowledge of the run) matches
--- these events. A seat is the right to call as one thread. A receipt contains the events that a seat has seen, and is
--- used by another seat. The definitions after `Holds` are the views after actions that are not events: opening a set,
--- splitting and joining seats, and issuing and using receipts.
+-- these events. A seat is the right to call the set as one thread. A receipt contains the events that a seat has seen,
+-- and is used by another seat. The definitions after `Holds` are the views after actions that are not events: opening a
+-- set, splitting and joining seats, and issuing and using receipts.
 use Rattle.std.specs.Prelude.{◌≡◌, ℕ, zero, suc, ◌+◌, ◌-◌, ◌<◌, ◌≤◌, true, false, List, [], ◌∷◌, ◌++◌, length, None, cond, nat_le}
 use mathlib.Core.Option.{some}
 use lib.ListN.{get_elem?}
@@ -54,8 +54,8 @@ pub record Holds (m : Table) (k : Opening) (s : table.State (Unit {0}) View) : T
   pub placed : (t : ℕ) → t < k.threads → StandsIn s.views (seat_of t) t
   pub known : (j : ℕ) (v : View) → get_elem? s.views j ≡ some v → StartsWith log v.seen
 
--- Returns the spare threads of the first seat: n idle threads, numbered from t. The first seat (right to call) has all
--- threads of the set: it calls as the last thread, and all other threads are spare.
+-- Returns the spare threads of the first seat: n idle threads, numbered from t. The first seat (the right to call the
+-- set) has all threads of the set: it calls as the last thread, and all other threads are spare.
 abbrev pub asides_from : Opening → ℕ → ℕ → List SpareThread
 asides_from k t zero = []
 asides_from k t (suc n) = record { thread = t; local = idle k.quota t } ∷ asides_from k (t + 1) n
@@ -76,7 +76,7 @@ opener k = record {
 
 -- The views of two seats (their knowledge of the run) after a split. The old seat loses its first spare thread. The
 -- new seat calls as this thread, has an empty record, and has seen the same events as the old seat. A seat is the
--- right to call as one thread.
+-- right to call the set as one thread.
 abbrev head_aside : View → List SpareThread → View
 head_aside v [] = record v { spent = true }
 head_aside v (o ∷ os) = record v {
@@ -121,7 +121,7 @@ abbrev pub nobody : View
 nobody = record (opener (record { threads = 0; quota = 0; keys = [] })) { spent = true }
 
 -- The view of a new receipt (its knowledge of the run). It has no threads, and has seen the same events as the seat
--- (right to call) that issued the receipt. The view of this seat does not change.
+-- (the right to call the set) that issued the receipt. The view of this seat does not change.
 abbrev pub without_thread : View → View
 without_thread v = record v { spent = true }
 

@@ -1,5 +1,5 @@
--- The seat of a call (the right to call as one thread): the requirements of a call on its seat, and how the call
--- changes the seat.
+-- The seat of a call (the right to call the set as one thread): the requirements of a call on its seat, and how the
+-- call changes the seat.
 use Rattle.std.specs.Prelude.{◌≡◌}
 use Rattle.atomic_table.specs.declared.shared.Seat.{Seat}
 use Rattle.atomic_table.specs.Seated.{TableId}
@@ -13,7 +13,7 @@ use Rattle.lset_rule.specs.OwnSlots.{slots_of}
 use Rattle.lset_rule.specs.Views.{IsIdle, Stands}
 use Rattle.lset_rule.specs.Calls.{Makes}
 
--- A seat: the right to call as one thread, together with its view (its knowledge of the run).
+-- A seat: the right to call the set as one thread, together with its view (its knowledge of the run).
 abbrev pub TableSeat : Type 0
 TableSeat = Seat (Unit {0}) View
 
@@ -26,8 +26,8 @@ IsOf z k s = (s.table_id ≡ z) × (s.me.0.shape ≡ k) × (z.words ≡ word_cou
 abbrev pub IsSeat : TableSeat → TableSeat → Type 0
 IsSeat s s' = (s'.table_id ≡ s.table_id) × (s'.id ≡ s.id) × (s'.me.1 ≡ s.me.1)
 
--- The requirements of a call on its seat s (the right to call as one thread): s belongs to the shared words z, and its
--- thread has no pending call and has the slots `own` (nodes for keys that it adds).
+-- The requirements of a call on its seat s (the right to call the set as one thread): s belongs to the shared words z,
+-- and its thread has no pending call and has the slots `own` (nodes for keys that it adds).
 pub record MayCall (m : Table) (z : TableId) (k : Opening) (own : OwnSlots) (s : TableSeat) : Type 0 where
   pub place : IsOf z k s
   pub idle : IsIdle s.me.0

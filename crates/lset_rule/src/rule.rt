@@ -1,5 +1,6 @@
 //! The invariant of the shared words and all seats, and how each action changes a view (a seat's knowledge of the run).
-//! A seat is the right to call as one thread. A receipt contains the events that one seat has seen, for another seat.
+//! A seat is the right to call the set as one thread. A receipt contains the events that one seat has seen, for another
+//! seat.
 ghost use Rattle.lset_words.specs.declared.Call.{Call};
 ghost use Rattle.lset_words.specs.declared.Call.TheVariants.{Contains};
 ghost use Rattle.lset_rule.specs.Rule.{Holds, opener, left_view, right_view, joined, nobody, learned, without_thread, informed};

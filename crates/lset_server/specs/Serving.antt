@@ -7,8 +7,8 @@ use Rattle.lset_server.specs.declared.channel.Tally.{Tally}
 use Rattle.lset_server.specs.Tallies.{ReceivedOnce}
 use Rattle.lset_words.specs.Words.{Opening}
 
--- Returns the records of the seats (rights to call as one thread), each followed by the calls that were made on the
--- seat afterwards.
+-- Returns the records of the seats (rights to call the set as one thread), each followed by the calls that were made on
+-- the seat afterwards.
 abbrev pub followed : List Record → List (List CallMade) → List Record
 followed [] more = []
 followed (r ∷ rs) [] = r ∷ rs

@@ -71,8 +71,8 @@ fn next<R: Wait>(
     }
 }
 
-/// Serves one client in a session on `seat` (the right to call as one thread), and prepares the connection for closing.
-/// Returns the number of calls made. A read or write error ends only this session.
+/// Serves one client in a session on `seat` (the right to call the set as one thread), and prepares the connection for
+/// closing. Returns the number of calls made. A read or write error ends only this session.
 fn hold<R: Wait + Clock, M: Running>(
     rt: &R,
     stream: &TcpStream,
@@ -91,7 +91,7 @@ fn hold<R: Wait + Clock, M: Running>(
     ended.calls
 }
 
-/// Serves connections on `seat` (the right to call as one thread), until no more connections arrive or `most`
+/// Serves connections on `seat` (the right to call the set as one thread), until no more connections arrive or `most`
 /// connections have been received.
 fn work<R: Wait + Clock, M: Running>(
     rt: &R,
@@ -125,8 +125,8 @@ fn work<R: Wait + Clock, M: Running>(
     }
 }
 
-/// The sums of all workers' sessions and calls, and the seat (the right to call as one thread) that results from
-/// merging their seats.
+/// The sums of all workers' sessions and calls, and the seat (the right to call the set as one thread) that results
+/// from merging their seats.
 #[derive(Drop)]
 pub(crate) struct Gathered<M: Running> {
     pub seat: Option<Seat<M>>,

@@ -138,7 +138,7 @@ impl<O: Sink> Sink for Buffered<'_, O> {
 
 /// Serves one client as `session` does, but buffers up to 4,096 bytes of answers. Writes them before each read of
 /// `reader`, when the buffer is full, and at the end of the session. `reader` and `writer` must not have failed, and
-/// `seat` (the right to call as one thread) must belong to `set`.
+/// `seat` (the right to call the set as one thread) must belong to `set`.
 ///
 /// If a write fails, the session ends with `WriteFault` and writes nothing more. The bytes written are then a prefix of
 /// the answers. A call counts as made even if its answer was not written. Blocks when its set, its reader or its writer

@@ -28,8 +28,8 @@ worked (r ∷ rs) [] replies = []
 worked (r ∷ rs) (p ∷ ps) [] = []
 worked (r ∷ rs) (p ∷ ps) (a ∷ more) = with_calls r (made p a) ∷ worked rs ps more
 
--- There are as many programs as seats. These seats (rights to call as one thread), including the seats merged into
--- them, are all seats of the set.
+-- There are as many programs as seats. These seats (rights to call the set as one thread), including the seats merged
+-- into them, are all seats of the set.
 abbrev pub Fit : SetValue → List SeatValue → ℕ → Type 0
 Fit set seats programs = (programs ≡ length seats) × (sum_by (λ (s : SeatValue). s.held) seats ≡ set.shape.threads)
 
@@ -53,8 +53,8 @@ abbrev pub HasSeenAll : Option SeatValue → SeatValue → Type 0
 HasSeenAll None s = ⊥
 HasSeenAll (Some last) s = StartsWith last.events s.events
 
--- Holds if the programs have run on the seats (rights to call as one thread), and all seats have been merged into
--- `last`.
+-- Holds if the programs have run on the seats (rights to call the set as one thread), and all seats have been merged
+-- into `last`.
 pub record HaveRun (set : SetValue) (seats : List SeatValue) (programs : List (List Call)) (last : Option SeatValue)
     (replies : List (List Reply)) : Type 0 where
   pub fit : length programs ≡ length seats

@@ -1,5 +1,5 @@
 //! Runs programs of calls on a running set at the same time, one program and one thread for each seat. A seat is the
-//! right to call as one thread.
+//! right to call the set as one thread.
 #![tactic(auto)]
 
 mod gate;

@@ -12,8 +12,8 @@ use std::snapshot::Snapshot;
 use std::sync::Wait;
 use std::thread::{Promise, PromisedHandle, Scope, Threads};
 
-/// The result of a thread: its seat (the right to call as one thread), and the replies to the calls of its program, or
-/// `None` if the gate (which decides before each call whether to make it) has stopped the program.
+/// The result of a thread: its seat (the right to call the set as one thread), and the replies to the calls of its
+/// program, or `None` if the gate (which decides before each call whether to make it) has stopped the program.
 #[derive(Drop)]
 pub(crate) struct Done<M: Running> {
     pub seat: Seat<M>,
@@ -163,7 +163,8 @@ impl<'s, R: Wait + Sync, M: Running + Send + Sync, G: Gate + Sync> Shared<'s, R,
     }
 }
 
-/// The replies of all programs, and the seat (the right to call as one thread) that results from merging all seats.
+/// The replies of all programs, and the seat (the right to call the set as one thread) that results from merging all
+/// seats.
 #[derive(Drop)]
 pub(crate) struct Gathered<M: Running> {
     pub seat: Option<Seat<M>>,

@@ -22,7 +22,7 @@ pub enum WorkCause {
 }
 
 /// The error of `work`. After `Programs` and `Memory`, no thread was started, and `back` contains the set and the seats
-/// (a seat is the right to call as one thread), unchanged. After the other causes, `back` is `None`.
+/// (a seat is the right to call the set as one thread), unchanged. After the other causes, `back` is `None`.
 #[derive(Drop, Error)]
 #[error("{cause}")]
 pub struct WorkFault<M: Running> {

@@ -1,5 +1,5 @@
-//! Runs programs of calls on the seats of a running set, all at the same time. A seat is the right to call as one
-//! thread.
+//! Runs programs of calls on the seats of a running set, all at the same time. A seat is the right to call the set as
+//! one thread.
 ghost use Rattle.std.specs.Prelude.{◌≡◌, ◌<◌, ◌^◌, ◌↔◌, IfOk, IfErr, IsOk, MatchResult, All, map, length, true};
 ghost use Rattle.lset_live.specs.Explained.{IsOneLegalOrder};
 ghost use Rattle.lset_work.specs.Programs.{Fit, GivesBack, HaveRun, IsOfThreads, IsWorkInTime, worked};
@@ -18,7 +18,7 @@ use std::thread::{Scope, Threads};
 /// The outcome of `work`.
 #[derive(Drop)]
 pub struct Outcome {
-    /// The replies to the calls of each program, in the order of the seats (rights to call as one thread).
+    /// The replies to the calls of each program, in the order of the seats (rights to call the set as one thread).
     pub replies: Vec<Vec<Reply>>,
     /// The final keys of the set, in increasing order.
     pub keys: Vec<u32>,

@@ -50,7 +50,7 @@ pub fn make_calls<M: Running, R: Host>(
     }
 }
 
-/// Merges all seats (rights to call as one thread) into one seat. Returns `None` if `seats` is empty.
+/// Merges all seats (rights to call the set as one thread) into one seat. Returns `None` if `seats` is empty.
 pub fn gathered<M: Machine>(set: &LiveSet<M>, mut seats: Vec<Seat<M>>) -> Option<Seat<M>> {
     let mut all = None;
     while let Some(seat) = seats.pop() {

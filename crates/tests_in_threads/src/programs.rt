@@ -1,5 +1,5 @@
 //! Tests of programs in threads, and of the gates that can stop a program before a call. Each program runs on a seat:
-//! the right to call as one thread.
+//! the right to call the set as one thread.
 
 use crate::meeting::Meeting;
 use crate::opened::{last_of, make_calls, two_seats};
@@ -29,7 +29,7 @@ fn in_a_row<M: Running, R: Abort>(rt: &R, alloc: Global, seats: u32) -> (LiveSet
     open::<M>(alloc, seats, 4).expect(rt, "not opened")
 }
 
-/// Runs these programs on a set with two seats (rights to call as one thread) and returns the error of `work`.
+/// Runs these programs on a set with two seats (rights to call the set as one thread) and returns the error of `work`.
 fn fault_of<R: Host, G: Gate + Sync>(
     rt: &R,
     alloc: Global,
@@ -143,8 +143,8 @@ fn a_program_can_be_empty(rt: HostRuntime) {
     assert!(rt; are_as_wanted(&outcome, &[&[Reply::True], &[]], &[5]));
 }
 
-/// A gate that refuses one call of one seat (the right to call as one thread). `counts` has how often the gate was
-/// asked: an entry for each of the first three calls of the seats 0 to 2, and one entry for all other calls.
+/// A gate that refuses one call of one seat (the right to call the set as one thread). `counts` has how often the gate
+/// was asked: an entry for each of the first three calls of the seats 0 to 2, and one entry for all other calls.
 #[derive(Drop)]
 struct Shut {
     seat: u32,
@@ -204,8 +204,8 @@ fn a_gate_that_refuses_a_call_ends_only_its_program(rt: HostRuntime) {
     }
 }
 
-/// Opens a set with three seats (rights to call as one thread), and merges seat 1 into seat 2. Returns the set, and the
-/// seats 2 and 0, in this order.
+/// Opens a set with three seats (rights to call the set as one thread), and merges seat 1 into seat 2. Returns the set,
+/// and the seats 2 and 0, in this order.
 fn two_before_zero<M: Running, R: Abort>(rt: &R, alloc: Global) -> (LiveSet<M>, Vec<Seat<M>>) {
     let (set, mut seats) = in_a_row::<M, R>(rt, alloc, 3);
     let mut two = last_of(rt, &set, &mut seats);
@@ -233,8 +233,8 @@ fn seats_work_in_any_order(rt: HostRuntime) {
     assert!(rt; are_as_wanted(&outcome, &[&[Reply::True], &[Reply::False]], &[2]));
 }
 
-/// Returns a program of two adds for each seat (the right to call as one thread). Different programs add different
-/// keys.
+/// Returns a program of two adds for each seat (the right to call the set as one thread). Different programs add
+/// different keys.
 fn two_adds_each<R: Abort>(rt: &R, alloc: Global, seats: u32) -> Vec<Vec<Call>> {
     let mut programs = Vec::new(alloc);
     for seat in 0..seats {
