@@ -1,7 +1,7 @@
 ghost use Rattle.std.specs.List.Sorted.{IsStrictlyIncreasing};
 
 use crate::recording_lines::Section;
-use lset_judge::Judge;
+use lset_judge::{Judge, StreamCall};
 use std::alloc::Global;
 
 /// The state of a reader after some lines of a recording.
@@ -13,6 +13,8 @@ pub(crate) struct Judging {
     // The judge of the calls, or `None` before the first call.
     pub(crate) judge: Option<Judge>,
     pub(crate) calls: u64,
+    // The calls that `take_calls` returns next, or `None` if it has never been called.
+    pub(crate) untaken: Option<Vec<StreamCall>>,
     pub(crate) keys: Vec<u32>,
     pub(crate) cut_off: bool,
     // The number of the next line.

@@ -10,6 +10,7 @@ use crate::quick::quick_line;
 use crate::recording_judge::RecordingAnswer;
 use crate::recording_lines::{LONGEST_LINE, Line};
 use arrayvec::ArrayVec;
+use lset_judge::StreamCall;
 use lset_text::{Cause, LineFault};
 use memchr::memchr;
 use std::alloc::Global;
@@ -208,6 +209,16 @@ impl RecordingReader {
                 Err(fault)
             }
         }
+    }
+
+    /// Removes the calls that were read since the last `take_calls`, and returns them in the order of their lines. The
+    /// first `take_calls` returns no calls: only after it, the reader keeps calls, and its memory grows with their number.
+    pub fn take_calls(&mut self) -> Vec<StreamCall>
+        ensures { (bytes : List ℕ) → IsRead bytes self.old → IsRead bytes self.new }
+    {
+        let alloc = self.judging.alloc;
+        let untaken = std::mem::replace(&mut self.judging.untaken, Some(Vec::new(alloc)));
+        untaken.unwrap_or(Vec::new(alloc))
     }
 
     /// Ends the text. Returns the verdict and the counts, or an error if the text is not complete. `finish` calls this

@@ -107,6 +107,18 @@ fn create_judge(alloc: Global, opening: &[u32], place: &mut Option<Judge>) -> Re
     Ok(())
 }
 
+/// Appends a call to the calls that are kept, if calls are kept. If an allocation fails, returns `AllocError`.
+#[inline(always)]
+fn store_untaken(
+    untaken: &mut Option<Vec<StreamCall>>,
+    call: StreamCall,
+) -> Result<(), AllocError> {
+    if let Some(calls) = untaken {
+        calls.push(call)?;
+    }
+    Ok(())
+}
+
 impl Judging {
     pub(crate) fn new(alloc: Global) -> Judging
         ensures { IsJudging nothing_told result }
@@ -117,6 +129,7 @@ impl Judging {
             opening: Vec::new(alloc),
             judge: None,
             calls: 0,
+            untaken: None,
             keys: Vec::new(alloc),
             cut_off: false,
             number: FIRST_LINE,
@@ -155,6 +168,7 @@ impl Judging {
             None => unreachable!(),
         }
         self.calls = self.calls.saturating_add(1);
+        store_untaken(&mut self.untaken, call)?;
         Ok(())
     }
 

@@ -1,7 +1,7 @@
 //! Implements the command `stats`, which counts the calls of a recording.
 
 use lset_judge::StreamCall;
-use lset_recording::{Line, RecordingReader, Section, line_told};
+use lset_recording::RecordingReader;
 use lset_words::{Call, Reply};
 use std::alloc::{AllocError, Global};
 use std::collections::{BTreeMap, BTreeSet};
@@ -170,61 +170,6 @@ fn put_replies(out: &mut String, word: &str, replies: Replies) -> Result<(), All
     Ok(())
 }
 
-/// Counts the calls of a text that is read in pieces. `RecordingReader` checks the text.
-#[derive(Drop)]
-struct Counter {
-    alloc: Global,
-    counts: Counts,
-    section: Section,
-    /// The line that has not ended yet.
-    line: Vec<u8>,
-}
-
-impl Counter {
-    fn new(alloc: Global) -> Counter {
-        Counter {
-            alloc,
-            counts: Counts::new(alloc),
-            section: Section::Title,
-            line: Vec::new(alloc),
-        }
-    }
-
-    fn read_line(&mut self, line: &[u8]) -> Result<(), AllocError> {
-        let Ok(line) = line_told(self.section, line) else {
-            return Ok(());
-        };
-        self.section = line.section();
-        match line {
-            Line::Call(call) => self.counts.add(call),
-            _ => Ok(()),
-        }
-    }
-
-    fn end_line(&mut self, last: &[u8]) -> Result<(), AllocError> {
-        if self.line.is_empty() {
-            return self.read_line(last);
-        }
-        self.line.extend_from_slice(last)?;
-        let whole = std::mem::replace(&mut self.line, Vec::new(self.alloc));
-        self.read_line(&whole)
-    }
-
-    /// Reads the next piece of the text.
-    fn feed(&mut self, piece: &[u8]) -> Result<(), AllocError> {
-        let mut rest = piece;
-        for _ in 0..piece.len() {
-            let Some((line, more)) = lset_text::cut(rest, b'\n') else {
-                break;
-            };
-            self.end_line(line)?;
-            rest = more;
-        }
-        self.line.extend_from_slice(rest)?;
-        Ok(())
-    }
-}
-
 /// Counts the calls of a recording: by operation and reply, the pending calls, the threads and keys, the calls that
 /// overlap another call, and the most calls that are pending at one moment. Allocates. Blocks while reading the input.
 ///
@@ -232,20 +177,22 @@ impl Counter {
 ///
 /// Returns the errors of `judge_input`.
 pub fn stats_input<R: Read>(alloc: Global, input: &mut R) -> Result<Answer, Trouble> {
-    let mut judge = RecordingReader::new(alloc);
-    let mut counter = Counter::new(alloc);
+    let mut reader = RecordingReader::new(alloc);
+    let mut counts = Counts::new(alloc);
     let mut buffer = [0u8; READ_SIZE];
     for _ in 0..u64::MAX {
+        for call in reader.take_calls().as_slice() {
+            counts.add(*call)?;
+        }
         let Ok(count) = input.read(&mut buffer) else {
             return Err(Trouble::CannotRead);
         };
         if count == 0 {
-            let _judged = judge.finish()?;
-            let text = counter.counts.text(alloc)?.into_bytes();
+            let _judged = reader.finish()?;
+            let text = counts.text(alloc)?.into_bytes();
             return Ok(Answer { text, status: 0 });
         }
-        judge.feed(&buffer[..count])?;
-        counter.feed(&buffer[..count])?;
+        reader.feed(&buffer[..count])?;
     }
     Err(Trouble::CannotRead)
 }
