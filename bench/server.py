@@ -62,7 +62,7 @@ def redis(program, _kind, _clients):
 
 
 def loaded(load, protocol, server, clients, at_once):
-    """Returns the requests per second, and the 99th percentile of the microseconds per write."""
+    """Returns the requests per second and the 99th percentile of the time of a write, in microseconds."""
     with server(clients) as port:
         words = [load, protocol, port, str(clients), str(at_once), REQUESTS[at_once], KEYS]
         told = subprocess.run(words, stdout=subprocess.PIPE, text=True, check=True, timeout=LOAD_ENDS_WITHIN).stdout

@@ -96,9 +96,9 @@ size_t listset_judge(const char *recording, size_t length, char *room, size_t si
 /// to the first error, and blocks while reading. If `room` is too short, the answer is lost; 8,192 bytes are enough.
 size_t listset_judge_from(int32_t file, char *room, size_t size, uint8_t *status);
 
-/// Returns a diagnosis of a recording that `listset_judge` refuses, with LISTSET_WRONG_TEXT: calls that show the error,
-/// which operation is wrong and how often, and a likely cause. Returns an empty text with LISTSET_OK if some order
-/// explains the recording or the text is not a recording. Tested, not proved.
+/// Diagnoses a recording that `listset_judge` refuses. Returns LISTSET_WRONG_TEXT and a text that names the calls that
+/// show the error, the operation that is wrong and how often, and a likely cause. Returns an empty text and LISTSET_OK if
+/// some order explains the recording, or if the text is not a recording. Tested, not proved.
 size_t listset_why(const char *recording, size_t length, char *room, size_t size, uint8_t *status);
 
 /// Returns `ok` if the order in a report explains its calls, otherwise the first error of the order.

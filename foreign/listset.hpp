@@ -68,9 +68,9 @@ inline said replay(std::string_view schedule) { return of_text(listset_replay, s
 /// Judges a recording. Returns `ok N calls` if some order explains its calls, otherwise calls that show that no order
 /// does.
 inline said judge_text(std::string_view recording) { return of_text(listset_judge, recording); }
-/// Returns a diagnosis of a recording that `judge_text` refuses, with LISTSET_WRONG_TEXT: calls that show the error,
-/// which operation is wrong and how often, and a likely cause. Returns an empty text if some order explains the
-/// recording or the text is not a recording.
+/// Diagnoses a recording that `judge_text` refuses. The result has the status LISTSET_WRONG_TEXT and a text that names
+/// the calls that show the error, the operation that is wrong and how often, and a likely cause. The text is empty if
+/// some order explains the recording, or if the argument is not a recording.
 inline said why(std::string_view recording) { return of_text(listset_why, recording); }
 /// Returns `ok` if the order in a report explains its calls, otherwise the first error of the order.
 inline said check(std::string_view report) { return of_text(listset_check, report); }

@@ -279,7 +279,7 @@ function answerTo(engine, { name, functions, inPieces, isJudge, isExplain, isOn,
   return tried.status === WRONG ? tried : ask(bytesOf(opened(values[0])));
 }
 
-// Returns what explain prints about a file, or about an unreadable file. `name` is the name of the file in this text.
+// Returns the output of `explain` for a file, or a line that says why the file cannot be read. `name` is what the output calls the file.
 function explained(engine, file = "-", name = file === "-" ? "FILE" : file) {
   try {
     return engine.askBytes("listset_explain", Buffer.from(name), bytesOf(opened(file)));

@@ -66,8 +66,8 @@ def ran_where(refuse, number, *words, **how):
 
 
 def answers(program, refuse):
-    """Runs CALLS repeatedly. In each run, a different allocation fails. Stops when the failing allocation comes after
-    all calls. Returns the names of the calls that CALLS prints.
+    """Runs the program CALLS repeatedly. In each run, a different allocation fails, and the program prints the name of the
+    call that made it. Returns these names. Stops at the first run in which all calls end before an allocation fails, and leaves this run out.
     """
     told = []
     for number in range(1, REFUSED):

@@ -78,8 +78,8 @@ LACKING = {
 # that is the value.
 ROWS_OF_ONE_LOCK = {3: 4, 4: 5, 5: 3, 12: 13}
 
-# The conditions in a table. The arguments are a thread, the value s that its step saw, the key word K, and the value
-# that an exchange expects.
+# The conditions in the step tables, as functions of a thread, the value s that its step saw, the key word K, and the
+# value that an exchange expects.
 TESTS = {
     "below K": lambda it, s, key, old: s < key,
     "K": lambda it, s, key, old: s == key,

@@ -117,7 +117,7 @@ def printed_by_commands(page, steps, program, room):
 
 
 def is_as_shown(told, printed):
-    """Returns whether the lines of a page match the printed lines. A line .. of the page matches any number of lines."""
+    """Returns whether the lines shown on a page match the printed lines. A line `..` on the page matches any number of printed lines."""
     pieces = [re.escape(line) + "\n" if line != LEFT_OUT else "(?:.*\n)*?" for line in told]
     return re.fullmatch("".join(pieces), "".join(f"{line}\n" for line in printed))
 

@@ -146,8 +146,8 @@ impl All<'_> {
 }
 
 impl RenewedSet {
-    /// Opens a set with 1 to 64 seats (rights to call the set as one thread) and with keys in strictly increasing order. A seat can
-    /// add `quota` keys before the set is renewed.
+    /// Opens a set that contains `keys`, which must be in strictly increasing order. The set has `seats` seats, 1 to 64. A seat
+    /// is the right to call the set as one thread. Each seat can add `quota` keys before the set has to be renewed.
     pub fn open(list: List, seats: u32, quota: u32, keys: &[u32]) -> Result<RenewedSet, Fault> {
         let mut all = vec![open(list, seats, quota, keys)?];
         while all.len() < seats as usize {

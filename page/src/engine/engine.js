@@ -58,7 +58,7 @@ function answerOf(engine, name, given) {
   return { status: answer.status, text: new TextDecoder().decode(answer.bytes), bytes: answer.bytes };
 }
 
-// Copies texts into the module's memory, and returns the block and length of each. (A function's last three parameters are for its answer.)
+// Copies the texts into the module's memory, and returns the address and length of each. (Each text takes two of a function's parameters.)
 function textsOf(engine, parameters, given) {
   return Array.from({ length: (parameters - 3) / 2 }, (_, at) => {
     const text = given[at] ?? new Uint8Array(0);
