@@ -933,7 +933,7 @@ const OF_OWN = [
   [/^Still missing: (.*)\.$/, (it, [told]) => {
     const isSaid = (call) => it.level !== "replies" || it.answer.replies.has(call.id);
     const lacking = it.calls.filter((call) => call.ended !== null && !(it.answer.points.has(call.id) && isSaid(call)));
-    return lacking.map((call) => `the moment${isSaid(call) ? "" : " and the reply"} of ${nameIn(call)}`).join(", ") === told;
+    return lacking.map((call) => `the moment${isSaid(call) ? "" : " and the reply"} of ${nameAlone(it, call)}`).join(", ") === told;
   }],
   [/^Right: in this order every reply is correct, and the calls leave the numbers of this run \(checked by a program that is proved correct\)\.$/, (it) => faultsOf(it).length === 0],
   [/^The program that made this run has the same order\.$/, (it) => it.answer.order().map(({ call }) => call.id).join() === it.places.map(({ call }) => call).join()],
@@ -952,6 +952,7 @@ const OF_OWN = [
 ];
 
 const nameIn = (call) => `${call.operation}(${call.key}) of ${"ABCD"[call.thread]}`;
+const nameAlone = ({ calls }, call) => `${nameIn(call)}${calls.filter((other) => nameIn(other) === nameIn(call)).length > 1 ? ` from event ${call.begun}` : ""}`;
 
 // Returns the steps of the reader's order: each call with the call before it, the set before and after it, the reader's reply and the correct reply.
 function stepsOf(it) {

@@ -84,7 +84,7 @@ class Judging {
     if (this.verdict.isRight === false) this.tries++;
     if (this.verdict.isRight) this.keep();
     this.draw();
-    judgePart("verdict").scrollIntoView({ block: "nearest" });
+    if (this.verdict.isRight !== null) judgePart("verdict").scrollIntoView({ block: "nearest" });
   }
 
   keep() {

@@ -34,7 +34,7 @@ function askHtml() {
   const cardOf = ({ name, list, title, question }) => ({ href: `#ask=${name}`, list: LIST_WORDS[list], title, says: question, state: asks[name] });
   const next = QUESTIONS.find((item) => !seen.includes(item)) ?? QUESTIONS[0];
   const score = `<b>${right}</b> of ${QUESTIONS.length} guessed right at the first try, ${seen.length} seen`;
-  const words = "Eleven runs. Each stops just before the decisive step. Predict what happens next; then the run continues, and you can change it.";
+  const words = "Eleven runs. Each stops just before the decisive step. Predict what happens next; then the run continues, and you can change it. A key is a number in the set.";
   return `${head("", "Guess, then see", lead(words, seen.length === 0 ? "" : score), "title")}${cards(QUESTIONS.map(cardOf))}
     <h2>Seven more</h2><p class="prose">These lists have a fourth operation. <b>ceiling(k)</b> returns the smallest number that is at least k.
     And each thread can add only a limited number of keys (its quota).</p>${cards(APPENDIX.map(cardOf))}
@@ -45,12 +45,12 @@ function breakHtml() {
   const cardOf = (name) => {
     const { story, lacks } = BREAK_LEVELS[name];
     const state = isBrokenOnce(name) ? { says: lacks, state: "done" } : {};
-    return { href: `#break=${numberOfLevel(name)}`, list: LIST_WORDS[LACKING[name]], title: story, ...state };
+    return { href: `#break=${numberOfLevel(name)}`, list: `${numberOfLevel(name)} · ${LIST_WORDS[LACKING[name]]}`, title: story, ...state };
   };
   const count = TEN.filter(isBrokenOnce).length;
   const next = TEN.find((name) => !isBrokenOnce(name)) ?? TEN[0];
-  const words = `Ten lists, from one lock to none. Each lacks one check. Let A and B step until a number is lost, or two
-    answers cannot both be right. Then name the missing check.`;
+  const words = `Ten lists, from one lock to none, and three more. Each lacks one check. Let A and B step until a number is lost, or two
+    answers cannot both be right. Then name the missing check. A key is a number in the set.`;
   const top = lead(words, count === 0 ? "" : `<b>${count}</b> of ${TEN.length} broken`);
   return `${head("", "Break it", top, "title")}${cards(TEN.map(cardOf))}
     <h2>Three more</h2>${cards(THREE_MORE.map(cardOf))}${foot("", goOn(`#break=${numberOfLevel(next)}`, count, Infinity))}`;
@@ -98,8 +98,8 @@ function judgeHtml() {
     const { title, question } = itemOf({ id: name });
     return { href: `#example=${name}&judge`, list: LIST_WORDS[kind], title, says: question, state };
   };
-  const words = `You see a run without its replies. Choose what each call returns, and when it takes effect: one moment between its start and its end.
-    If in the order of these moments every reply is correct, your answer is right. A program that is proved correct checks it.`;
+  const words = `You see a run without its replies. Choose what each call returns, and when it takes effect: one moment between its start and its end. Your
+    answer is right if every reply is correct in the order of these moments. (A key is a number in the set. An add without a free node returns full.)`;
   const top = `${lead(words)}<p class="line"><button data-do="recorded">Judge calls recorded from your own set ↓</button></p>`;
   const lists = Object.entries(LIST_WORDS).map(([kind, name]) => tag("option", { value: kind }, name)).join("");
   return `${head("", "Judge", top, "title")}<div class="start-row"><label>list <select id="judge-seed-list">${lists}</select></label>

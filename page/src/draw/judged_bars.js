@@ -47,7 +47,7 @@ function drawJudgedCall(call, { answer, exercise, verdict, scale }) {
     "aria-label": `when ${nameOfCall(call)}, ${reply === "?" ? "reply not chosen yet" : reply}, takes effect`,
     "aria-valuemin": call.begun, "aria-valuemax": lastMoment(exercise, call), "aria-valuenow": point?.at ?? call.begun,
     "aria-valuetext": `${where}${isClash ? ", and clashes there" : ""}`,
-    class: `bar own ${colourOf(call.thread)}${isClash ? " clash" : ""}${call.ended === null ? " open" : ""}`,
+    class: `bar own ${colourOf(call.thread)}${isClash || verdict?.missing?.includes(call.id) ? " clash" : ""}${call.ended === null ? " open" : ""}`,
   };
   const bar = drawJudgedBar(call, reply, scale, y);
   return tag("g", slider, bar, point === undefined ? "" : drawOwnPoint(call, point.at, y, scale));

@@ -65,10 +65,13 @@ export class OwnAnswer {
     return placed.map(({ call, at }) => ({ call, at, reply: this.replyOf(call) }));
   }
 
+  // Returns what is not stated yet. Two calls with one name are told apart by their first events.
   unsaid() {
+    const { calls } = this.exercise;
+    const nameIn = (call) => nameOfCall(call) + (calls.filter((other) => nameOfCall(other) === nameOfCall(call)).length > 1 ? ` from event ${call.begun}` : "");
     const lackOf = (call) => [this.points.has(call.id) ? "" : "moment", this.replyOf(call) === null ? "reply" : ""].filter((it) => it !== "");
-    const lacking = this.exercise.calls.filter((call) => call.ended !== null && lackOf(call).length > 0);
-    return lacking.map((call) => `the ${lackOf(call).join(" and the ")} of ${nameOfCall(call)}`);
+    const lacking = calls.filter((call) => call.ended !== null && lackOf(call).length > 0);
+    return lacking.map((call) => ({ id: call.id, says: `the ${lackOf(call).join(" and the ")} of ${nameIn(call)}` }));
   }
 }
 
@@ -81,7 +84,7 @@ export function reportOfAnswer(answer) {
 export function verdictOn(ask, answer) {
   const unsaid = answer.unsaid();
   const nothing = { isRight: null, clash: null, report: null };
-  if (unsaid.length > 0) return { ...nothing, says: `Still missing: ${unsaid.join(", ")}.` };
+  if (unsaid.length > 0) return { ...nothing, missing: unsaid.map(({ id }) => id), says: `Still missing: ${unsaid.map(({ says }) => says).join(", ")}.` };
   const report = reportOfAnswer(answer);
   const { kind, fault, order } = readVerdict(ask("listset_check_record", report));
   if (kind === "fault") return { ...nothing, says: `This order is not judged: ${fault.says}.` };

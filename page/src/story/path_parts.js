@@ -6,7 +6,7 @@ import { LISTS_AT_END, SCREENS } from "./path.js";
 import { drawLedger, drawOn, optionButtons, part, partsOfQuestion, replyTo } from "./scene.js";
 
 export const HERO = `<div class="hero"><p class="kicker">Concurrent lists, from nothing</p><p class="title">Why not just one lock?</p>
-  <p class="lead">Two threads share one list. Each press makes one thread take a step. <span class="roomy">In twenty minutes you break it, mend it, and meet
+  <p class="lead">Two threads share one list. Each press makes one thread take a step. <span class="roomy">In 25 minutes you break it, mend it, and meet
   the five list sets of Herlihy and Shavit.</span></p></div>`;
 
 export function dots(number, done) {
@@ -28,8 +28,7 @@ export const GONE = '<p class="welcome" role="status">All saved data has been de
 
 export function welcome(done) {
   const count = SCREENS.filter(({ id }) => done[id]).length;
-  const words = `Welcome back: you have finished ${count} of the ${SCREENS.length} sections. You are where you stopped.`;
-  return `<p class="welcome">${words} <a href="#story=1">From the start</a></p>`;
+  return `<p class="welcome">Welcome back: you have finished ${count} of the ${SCREENS.length} sections. You are where you stopped. <a href="#story=1">From the start</a></p>`;
 }
 
 const asked = (text, note = "") => `<p class="ask">${text}</p>${note === "" ? "" : `<p class="again">${note}</p>`}`;

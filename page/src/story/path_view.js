@@ -28,7 +28,9 @@ const PLACES = Array.from({ length: LAST }, (_, index) => partsOf(index + 1).map
 
 function goBy(by) {
   if (now.place.slide > 0) return toSlide(by); // a slide has only the first part of a screen
-  location.hash = `#story=${PLACES[PLACES.indexOf(now.place.id) + by]}`;
+  let to = PLACES.indexOf(now.place.id) + by;
+  if (!here()?.isExtra) while (screenOf({ id: PLACES[to] })?.isExtra) to += by;
+  location.hash = `#story=${PLACES[to]}`;
 }
 
 function html(place) {
@@ -145,10 +147,10 @@ function done() {
   focusOn();
 }
 
-// Stores that a part of a screen is finished. The screen is finished when all its parts are.
+// Stores that a part of a screen is finished. The screen is finished when all its parts are, apart from the extra ones.
 function keepPart({ number, at }, { id }) {
   const done = { ...keptStory().done, [`${id}.${at}`]: true };
-  if (partsOf(number).every((_, index) => done[`${id}.${index + 1}`])) done[id] = true;
+  if (partsOf(number).every(({ isExtra }, index) => isExtra || done[`${id}.${index + 1}`])) done[id] = true;
   keepStory({ done });
 }
 

@@ -71,7 +71,7 @@ SENTENCES = """window.told = []; const said = document.querySelector(".said");
         .observe(said, { subtree: true, childList: true, characterData: true })"""
 
 
-@pytest.mark.parametrize(("address", "keys"), [("#story=2", "abaabb"), ("#story=5", "aabb"), ("#story=4.2", "bbaab")])
+@pytest.mark.parametrize(("address", "keys"), [("#story=2", "abaabb"), ("#story=5", "aabb"), ("#story=4.2", "aaab")])
 def test_each_step_of_fast_presses_is_seen(visitor, address, keys):
     told = []
     for pressed in (visitor.step, lambda keys: visitor.press(*keys)):
@@ -87,7 +87,7 @@ def test_each_step_of_fast_presses_is_seen(visitor, address, keys):
         assert all(after - before > 100 for (_, before), (_, after) in zip(told[1], told[1][1:]))
 
 
-@pytest.mark.parametrize(("address", "keys"), [("#story=4.3", "bbbaaaabbb"), ("#story=4.2", "bbbaaaabbb"), ("#story=3", "3")])
+@pytest.mark.parametrize(("address", "keys"), [("#story=4.3", "bbbaaaabbb"), ("#story=4.2", "aaaabb"), ("#story=3", "3")])
 def test_no_button_says_that_a_thread_starts_again(visitor, address, keys):
     visitor.open(address)
     visitor.script("""window.labels = []; new MutationObserver(() => document.querySelectorAll(".step").forEach((it) => window.labels.push(it.innerText)))
@@ -128,7 +128,7 @@ def test_the_story_shows_why_two_locks_are_needed(visitor):
     guess(visitor, "2")
     visitor.click("#go-on")
     visitor.wait("return location.hash === '#story=4.2'")
-    visitor.step("bbbaaaabbb")
+    visitor.step("aaaabb")
     visitor.revealed()
     assert visitor.text(".why b") == "The remove of 8 is lost: B’s call returned true, and 8 is still in the list."
     assert visitor.text(".ledger .odd") == "8" and visitor.is_seen(".list .lost")
@@ -136,7 +136,7 @@ def test_the_story_shows_why_two_locks_are_needed(visitor):
     assert not visitor.is_seen(".reveal") and not visitor.is_seen(".list .lost")
     visitor.step("b")
     visitor.revealed()
-    visitor.click("#go-on")
+    visitor.click(".why a", "Three more questions")
     visitor.wait("return location.hash === '#story=4.3'")
     visitor.step("bbbaaaabbb")
     visitor.revealed()
@@ -154,8 +154,20 @@ def test_the_story_shows_why_two_locks_are_needed(visitor):
     assert visitor.text(".why b").startswith("5 is lost") and visitor.is_seen(".list .lost")
     visitor.click("#go-on")
     visitor.wait("return location.hash === '#story=5'")
+
+
+def test_the_path_leads_past_the_extra_questions(visitor):
+    visitor.open("#story=4")
+    guess(visitor, "2")
+    visitor.click("#go-on")
+    visitor.wait("return location.hash === '#story=4.2'")
+    visitor.step("aaaabb")
+    visitor.revealed()
+    visitor.click("#go-on")
+    visitor.wait("return location.hash === '#story=5'")
+    assert visitor.script("return document.querySelectorAll('.dots a')[3].className") == "done"
     visitor.press("Left")
-    visitor.wait("return location.hash === '#story=4.5'")
+    visitor.wait("return location.hash === '#story=4.2'")
 
 
 def test_a_screen_is_finished_when_all_its_parts_are(visitor):
@@ -197,7 +209,7 @@ def test_a_reply_does_not_reveal_the_answer_before_it_is_seen(visitor):
 
 
 def test_a_reader_at_the_fault_learns_what_to_press(visitor):
-    for address, keys, threads in (("#story=4.2", "bbbaaab", "A and B"), ("#story=4.3", "bbbaaab", "A and B"), ("#story=5", "abbbbaa", "A")):
+    for address, keys, threads in (("#story=4.2", "aaab", "A and B"), ("#story=4.3", "bbbaaab", "A and B"), ("#story=5", "abbbbaa", "A")):
         visitor.open(address)
         said = ""
         for key in keys + "ab":
@@ -209,21 +221,21 @@ def test_a_reader_at_the_fault_learns_what_to_press(visitor):
 
 def test_the_sentence_about_a_change_stays_until_the_next_press(visitor):
     visitor.open("#story=4.2")
-    visitor.step("bbbaaa")
+    visitor.step("aaa")
     assert visitor.text(".said") == "A makes the head point to 8: 7 is unlinked."
     assert visitor.text("[data-step='0']").startswith("release, and return")
 
 
 def test_the_label_of_a_press_names_each_of_its_deeds(visitor):
     for address, keys, words in (("#story=6", "aa", "walk, then lock pred and curr"), ("#story=7.2", "aa", "walk, then lock pred and curr"), ("#story=7", "", "walk to 5, read its mark, return"),
-                                 ("#story=4.2", "b", "read the next; lock it to pass"), ("#story=4.3", "b", "lock the next node")):
+                                 ("#story=4.2", "a", "read the next; lock it to pass"), ("#story=4.3", "b", "lock the next node")):
         visitor.open(address)
         visitor.step(keys)
         assert words in visitor.text(".dock"), address
 
 
 def test_show_a_step_continues_from_the_current_event(visitor):
-    for address, keys in (("#story=2", "a"), ("#story=5", "ab"), ("#story=4.2", "bb")):
+    for address, keys in (("#story=2", "a"), ("#story=5", "ab"), ("#story=4.2", "a")):
         visitor.open(address)
         visitor.step(keys)
         for _ in range(20):
