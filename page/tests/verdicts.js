@@ -300,6 +300,18 @@ function guiltyIn(why, says) {
   return known.length === 1 && isMet(known[0]) && why.guilty.every((call) => call === known[0]) ? sentence : `${says} (not in the picture)`;
 }
 
+// Decides whether no other change of another key, by the same operation, overlaps the first contradicting call and ends between this call and the next
+// call that contradicts it. (Several changes that fit equally are not suspected.)
+function isOnlySuspect(it, why, guilty) {
+  const first = why.shown.find(({ mark }) => mark.startsWith("leaves "))?.call;
+  const second = why.shown.find(({ call, mark }) => first !== undefined && call.begun > first.ended && needsKey(call) !== leaves(first) && mark !== "-")?.call;
+  if (second === undefined || why.isOfOdd) return true;
+  const isSmaller = (key) => key < first.key || !why.because.some(({ says }) => says.includes("a smaller key was removed"));
+  const isRival = (call) => call.key !== first.key && call.operation === guilty.operation && call.reply === "true" && isChange(call) && isSmaller(call.key)
+    && inTime(call, first.begun, first.ended) && call.ended > first.ended && call.ended <= second.ended;
+  return it.calls.every((call) => call === guilty || !isRival(call));
+}
+
 // Decides whether any two bars of a picture share a column if and only if their calls overlap in time.
 function doBarsMeet(lines) {
   const bars = lines.flatMap((line) => {
@@ -565,7 +577,7 @@ const OF_WHY = [
   [/^headline (?:key (\d+) (was lost|came back): )?(add|remove|contains)\((\d+)\) returned (true|false)(?:, expected (true|false))?$/, (it, found, why) => isHeadline(it, why, found)],
   [/^headline (?:key (\d+) (was lost|came back): )?key (\d+) is (present|absent) at the end$/, (it, [key, gone, ofEnd, state]) =>
     it.keys !== null && leftOf(it, Number(ofEnd)) === (state === "present") && !hasOrderOf(it, Number(ofEnd)) && (gone === undefined || (key === ofEnd && isGone(it, Number(key), gone === "was lost", null)))],
-  [/^headline the calls of key (\d+) have no order$/, (it, [key]) => !hasOrder(ofKey(it, Number(key)), Number(key), opens(it, Number(key)))],
+  [/^headline the calls of key (\d+) have no order$/, (it, [key], why) => why.shown.length > 0 && !hasOrder(ofKey(it, Number(key)), Number(key), opens(it, Number(key)))],
   [/^headline (add|remove)\((\d+)\) returned true twice at the same time, expected at most once$/, (it, [operation, key], why) => {
     const both = why.shown.filter(({ mark }) => mark === "either").map(({ call }) => call);
     return both.length === 2 && both.every((call) => call.operation === operation && call.key === Number(key) && call.reply === "true") && inTime(both[0], both[1].begun, both[1].ended);
@@ -587,11 +599,11 @@ const OF_WHY = [
     return !hasOrder([...ofKey(it, call.key).filter(({ begun }) => begun < next), look], call.key, opens(it, call.key));
   }],
   [/^(?:call|also) suspected$/, (it, found, why, { call }) => call.operation !== "contains" && why.guilty.length === 1 && why.because.some(({ says }) => says.includes(`; here ${call.operation} ${call.key} of thread ${call.thread}, `))],
-  [/^also(?: suspected)?$/, (it, found, why, { call }) => {
+  [/^also(?: suspected)?$/, (it, found, why, { call, says }) => {
     const shown = why.shown.map((one) => one.call);
     const marked = why.shown.filter(({ mark }) => mark !== "-").map((one) => one.call);
     const isChosen = why.isOfOdd ? marked.some(({ begun, ended }) => inTime(call, begun, ended ?? LAST)) : inTime(call, Math.min(...shown.map(({ begun }) => begun)), Math.max(...shown.map(({ ended }) => ended ?? LAST)));
-    return isChange(call) && shown.every(({ key }) => key !== call.key) && isChosen;
+    return isChange(call) && shown.every(({ key }) => key !== call.key) && isChosen && (says === "also" || isOnlySuspect(it, why, call));
   }],
   [/^fact only (add|remove|contains)( that returned false)? is wrong: (at least )?(\d+) of its (\d+) answers(?: \((?:(found|missed) an? (?:absent|present) key(?:, and never (?:found|missed) an? (?:absent|present) key)?|the key was (absent|present))\))?(; the final keys are (?:put aside|ignored))?$/,
     (it, [operation, , atLeast, count, of, way, keyWas, aside], why) => {
@@ -621,7 +633,7 @@ const OF_WHY = [
     const isBeside = keysOf(it).some((key) => !hasOrderOf(it, key) && it.calls.some((one) => one.key !== key && isChange(one) && one.reply === "true"));
     return Number(some) <= Number(all) && Number(all) <= tally.lost + tally["came back"] && isBeside && Number(some) * 100 >= Number(all) * (Number(usual) + 25);
   }],
-  [/^fact (\d+) of the (\d+) times that a key was lost or came back, this happened to another key, too, meanwhile \(by chance: (\d+) of 100\)$/, (it, [some, all, usual]) =>
+  [/^(?:because|fact) (\d+) of the (\d+) times that a key was lost or came back, this happened to another key, too, meanwhile \(by chance: (\d+) of 100\)$/, (it, [some, all, usual]) =>
     Number(some) <= Number(all) && keysOf(it).filter((key) => !hasOrderOf(it, key)).length >= 2 && Number(some) * 100 >= Number(all) * (Number(usual) + 25)],
   [/^fact (?:before moment \d+ the calls had an order; from then on )?(at least )?(\d+) contradictions?: (.*)$/, (it, [atLeast, count, listed], why) => {
     const told = listed.split("; ");
@@ -631,17 +643,19 @@ const OF_WHY = [
   }],
   [/^fact (another add or remove of their key|a change of another key|another add or remove of their key, or a change of another key,) ran during (\d+) of the (\d+) wrong answers(.*)$/, (it, [what, count, all, rest], { told }) => {
     const isSo = { "another add or remove of their key": isSame, "a change of another key": isBeside }[what] ?? ((...both) => isSame(...both) || isBeside(...both));
-    const [, rate, alone] = /^(.*?)(?:; during (\d+) of these no other add or remove of their own key ran)?$/.exec(rest);
+    const [, rate, alone, own, other] = /^(.*?)(?:; during (\d+) of these no other add or remove of their own key ran)?(?:; of their own key during (\d+), of another key during (\d+))?$/.exec(rest);
+    if (own !== undefined && [isSame, isBeside].some((isSuch, i) => told.wrong.filter((call) => isSuch(it, call)).length !== Number([own, other][i]))) return false;
     const isAlone = (call) => isBeside(it, call) && !isSame(it, call);
     const isTrue = told.wrong.length === Number(all) && told.wrong.filter((call) => isSo(it, call)).length === Number(count);
     return isTrue && isRate(rate, count, all) && (alone === undefined || (what === "a change of another key" && told.wrong.filter(isAlone).length === Number(alone)));
   }],
   [/^fact during (\d+) of the (\d+) wrong answers no other add or remove of their key ran, and no change of another key(.*)$/, (it, [count, all, rate], { told }) =>
     told.wrong.length === Number(all) && told.wrong.filter((call) => !isSame(it, call) && !isBeside(it, call)).length === Number(count) && isRate(rate, count, all)],
-  [/^fact an? (add|remove)( and a remove)? of the key ran during it$/, (it, [operation, both], { told }) => {
+  [/^fact an? (add|remove)( and a remove)? of the key ran during it( \(not in the picture\))?$/, (it, [operation, both, hidden], { told, shown }) => {
     const operations = both === undefined ? [operation] : ["add", "remove"];
     const isSaid = (call) => ["add", "remove"].every((one) => runsDuring(it, call, (other) => other.key === call.key && other.operation === one) === operations.includes(one));
-    return told.wrong.some(isSaid);
+    const isDrawn = (answer) => shown.some(({ call }) => call !== answer && call.operation !== "contains" && inTime(call, answer.begun, answer.ended));
+    return told.wrong.some((answer) => isSaid(answer) && isDrawn(answer) === (hidden === undefined));
   }],
   [/^fact a change of another key ran during it, and no other add or remove of its own key$/, (it, found, { told }) =>
     told.wrong.some((call) => !runsDuring(it, call, (one) => one.key === call.key) && runsDuring(it, call, (one) => one.key !== call.key && one.reply === "true"))],
@@ -675,15 +689,23 @@ const OF_WHY = [
     const isOfFirst = ({ call }) => hasOrder(knownBy(ofKey(it, call.key), first), call.key, opens(it, call.key));
     return why.isOfEnd || why.shown.some(isOfFirst) || Math.max(...why.shown.map(({ call }) => call.ended ?? LAST)) !== first;
   }],
-  [/^(?:fact|because) during (\d+) of (\d+) contradictions no two calls overlapped(?:: perhaps one thread alone is enough)?$/, (it, [some, all]) => Number(some) <= Number(all) && isWrongAlone(it)],
+  [/^(?:fact|because) during (\d+) of (\d+) contradictions no two calls overlapped(: perhaps one thread alone is enough)?$/, (it, [some, all, alone], why) =>
+    Number(some) <= Number(all) && isWrongAlone(it) && (alone === undefined || why.because.length === 0)],
+  [/^because (add|remove|contains)\((\d+)\) of thread (\d+) and (add|remove|contains)\((\d+)\) of thread (\d+) ran at the same time, and the reply of each was expected of the other$/, (it, found) => {
+    const wrong = (operation, key, thread) => it.calls.filter((call) => call.operation === operation && call.key === Number(key) && call.thread === Number(thread) && call.ended !== null && isExpected(it, call));
+    const [ones, twos] = [wrong(...found.slice(0, 3)), wrong(...found.slice(3))];
+    return found[1] !== found[4] && found[2] !== found[5] && ones.some((one) => twos.some((two) => one.reply !== two.reply && inTime(one, two.begun, two.ended)));
+  }],
+  [/^because another call began before and ended after (\d+) of the (\d+) wrong answers, but only (\d+) of 100 other answers$/, (it, [some, all, usual], { told }) => {
+    const isOutlasted = (answer) => [...it.calls, ...it.padding].some((call) => call.begun < answer.begun && (call.ended ?? LAST) > answer.ended);
+    return told.wrong.length === Number(all) && told.wrong.filter(isOutlasted).length === Number(some) && Number(usual) <= 25;
+  }],
   [/^because no two calls overlapped during (\d+) of (\d+) wrong answers, nor since the calls that these contradict$/, (it, [some, all], { told }) =>
     Number(all) <= told.wrong.length && told.wrong.filter((answer) => isAlone(it, answer)).length >= Number(some)],
   [/^because (\d+) of (\d+) contradictions are two (add|remove)s that both returned true, \d+ are two (?:add|remove)s$/, (it, [some, all, operation]) => Number(some) <= Number(all) &&
     it.calls.some((one) => one.operation === operation && one.reply === "true" && it.calls.some((two) => two !== one && two.key === one.key && two.operation === operation && two.reply === "true"))],
   [/^because (\d+) of (\d+) contradictions are two overlapping calls that both returned true$/, (it, [some, all]) => Number(some) <= Number(all) &&
     it.calls.some((one) => isChange(one) && one.reply === "true" && it.calls.some((two) => two !== one && two.key === one.key && two.operation === one.operation && two.reply === "true"))],
-  [/^because (\d+) of the (\d+) times that a key was lost or came back, this happened to another key, too, meanwhile$/, (it, [some, all]) =>
-    Number(some) <= Number(all) && keysOf(it).filter((key) => !hasOrderOf(it, key)).length >= 2],
   [/^likely (.*)$/, (it, found, why) => why.because.length === 1],
   [/^because an? (add|remove) of the key was still running at the wrong answer$/, (it, [operation], { told }) => told !== null && told.wrong.some((call) => runsBeside(it, call, operation))],
   [/^because (?:it (?:only )?finds absent keys, and )?at (\d+) of (?:the )?(\d+) (?:wrong answers|of these answers) an? (add|remove) of the key (?:was still running|still ran)$/,

@@ -3,8 +3,10 @@
 use crate::causes::Cause;
 use crate::diagnosis::Diagnosis;
 use crate::further::{Further, Growth};
+use crate::likely_odd::is_outlasted_each;
+use crate::likely_races::is_rarely_together;
 use std::alloc::{AllocError, Global};
-use tool_calls::NEVER;
+use tool_calls::{Made, NEVER};
 use tool_facts::{Evidence, Odd, Tally};
 
 /// Writes the fact that supports `cause`, if `contains` finds absent keys, or both finds absent keys and misses present
@@ -424,10 +426,11 @@ fn put_because_of_gone(
     let (swapped, undone) = (tally.swapped, tally.undone);
     let (silent, gone) = (tally.silent, tally.gone());
     let (removed, together) = (tally.removed, tally.together);
+    let usually = tally.usually_together;
     match cause {
-        Cause::ReplacedAtOnce => writeln!(
+        Cause::ReplacedAtOnce | Cause::OldCopyAtOnce => writeln!(
             out,
-            "{together} of the {timed} times that a key was lost or came back, this happened to another key, too, meanwhile"
+            "{together} of the {timed} times that a key was lost or came back, this happened to another key, too, meanwhile (by chance: {usually} of 100)"
         ),
         Cause::CarriedOutTwice => writeln!(
             out,
@@ -482,6 +485,30 @@ pub(crate) fn because_text(
     Ok(out)
 }
 
+/// Writes the fact that supports the cause `OtherReply`, if two overlapping calls have each other's reply.
+fn put_because_of_swap(out: &mut String, one: Made, two: Made) -> Result<(), AllocError> {
+    let (first, second) = (one.operation.word(), two.operation.word());
+    let (key, other) = (one.key, two.key);
+    let (thread, beside) = (one.thread, two.thread);
+    writeln!(
+        out,
+        "{first}({key}) of thread {thread} and {second}({other}) of thread {beside} ran at the same time, and the reply of each was expected of the other"
+    )
+}
+
+/// Writes the fact that supports the cause `AddGivesUp`, if another call outlasts each wrong answer.
+fn put_because_of_outlasted(
+    out: &mut String,
+    odd: &Odd,
+    further: &Further,
+) -> Result<(), AllocError> {
+    let (some, wrong, usual) = (further.outlasted, odd.wrong, further.usually_outlasted);
+    writeln!(
+        out,
+        "another call began before and ended after {some} of the {wrong} wrong answers, but only {usual} of 100 other answers"
+    )
+}
+
 /// Writes the fact that supports the likely cause.
 fn put_because(out: &mut String, diagnosis: &Diagnosis, cause: Cause) -> Result<(), AllocError> {
     let evidence = &diagnosis.evidence;
@@ -495,7 +522,13 @@ fn put_because(out: &mut String, diagnosis: &Diagnosis, cause: Cause) -> Result<
         if matches!(cause, Cause::UnlinkLost) {
             return put_because_of_unlinks(out, &diagnosis.further);
         }
+        if matches!(cause, Cause::AddGivesUp) && is_outlasted_each(odd, &diagnosis.further) {
+            return put_because_of_outlasted(out, odd, &diagnosis.further);
+        }
         return put_because_of_odd(out, odd, cause);
+    }
+    if let (Cause::OtherReply, Some((one, two))) = (cause, diagnosis.further.swap) {
+        return put_because_of_swap(out, one, two);
     }
     match cause {
         Cause::FirstUse
@@ -514,6 +547,9 @@ fn put_because(out: &mut String, diagnosis: &Diagnosis, cause: Cause) -> Result<
         | Cause::Reused => put_because_of_calls(out, &evidence.tally, cause),
         Cause::Displaced | Cause::Batch | Cause::Evicted => {
             put_because_of_lost(out, &evidence.tally, cause)
+        }
+        Cause::OldCopyAtOnce if !is_rarely_together(&evidence.tally) => {
+            put_because_of_adds(out, &evidence.tally, Cause::SharedPlace)
         }
         Cause::AddLost | Cause::SharedPlace | Cause::BehindUnlinked => {
             put_because_of_adds(out, &evidence.tally, cause)

@@ -87,6 +87,8 @@ pub enum Cause {
     NoLock,
     /// A copy of the whole set overwrites newer changes.
     OldCopy,
+    /// A copy of the whole set overwrites newer changes, since several keys are lost or return at the same time.
+    OldCopyAtOnce,
     /// A link is written without a check that the link is still current.
     OldLink,
     /// A node is linked to a node that is being removed.

@@ -174,6 +174,7 @@ fn shows(place: &Place, cause: Option<Cause>, is_odd: bool, neighbours: &Neighbo
         Some(
             Cause::OldLink
             | Cause::OldCopy
+            | Cause::OldCopyAtOnce
             | Cause::OtherKey
             | Cause::SharedWord
             | Cause::SharedPlace

@@ -46,20 +46,26 @@ fn put_some(out: &mut String, known: &str, extra: usize) -> Result<(), AllocErro
 }
 
 /// Returns the number of lines for the picture. `room` lines are free, and `known` facts follow the picture. To show a
-/// change of another key, the picture can take the lines of facts: all but the first or, if an operation alone is wrong,
+/// change of another key or, if a cause is named, up to three of them, the picture can take the lines of facts: all but the first or, if an operation alone is wrong,
 /// all but the first two.
 fn room_of_picture(diagnosis: &Diagnosis, room: usize, known: usize) -> usize {
-    let wanted = diagnosis.shown.len().saturating_add(2);
+    let beside = diagnosis.beside.len();
+    let beside = if diagnosis.cause.is_some() {
+        beside.min(3)
+    } else {
+        1
+    };
+    let wanted = diagnosis.shown.len().saturating_add(1);
     let kept = if diagnosis.evidence.odd.is_some() {
         2
     } else {
         1
     };
     let most = room.saturating_add(known.saturating_sub(kept));
-    if diagnosis.beside.is_empty() || wanted > most {
+    if diagnosis.beside.is_empty() || wanted >= most {
         room
     } else {
-        room.max(wanted)
+        room.max(wanted.saturating_add(beside).min(most))
     }
 }
 
@@ -90,7 +96,9 @@ pub fn diagnosis_text(
     put_headline(&mut out, diagnosis)?;
     put_first(&mut out, diagnosis)?;
     out.push_str(picture.as_str())?;
-    out.push_str("\n")?;
+    if facts > 0 {
+        out.push_str("\n")?;
+    }
     put_some(&mut out, known.as_str(), lines.saturating_sub(MOST_LINES))?;
     out.push_str(guess.as_str())?;
     Ok(out)

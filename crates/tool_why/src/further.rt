@@ -2,8 +2,11 @@
 
 use lset_words::Presence;
 use std::alloc::{AllocError, Global};
-use tool_calls::{Fullness, KeyCalls, Made, NEVER, Neighbours, Operation, Place, Runs, other};
-use tool_facts::Found;
+use tool_calls::{
+    Fullness, KeyCalls, Made, NEVER, Neighbours, Operation, Place, Runs, is_expected, other,
+    stretches_of,
+};
+use tool_facts::{Found, Odd, is_answer};
 
 /// Further facts about a refused recording.
 #[derive(Clone, Copy)]
@@ -18,6 +21,14 @@ pub struct Further {
     pub unseen: u64,
     /// The part of `unseen` that overlaps a successful remove of another key.
     pub unseen_beside: u64,
+    /// If only `add` is wrong, and each wrong answer is checked: the number of wrong answers that another call outlasts. The
+    /// other call begins earlier and ends later. Otherwise 0.
+    pub outlasted: u64,
+    /// The percentage of the other answers of `add` that another call outlasts. 100 if there are none.
+    pub usually_outlasted: u64,
+    /// The two wrong replies of the only two contradictions, if they are of overlapping calls, of two threads and two keys,
+    /// and each is the reply that was expected of the other.
+    pub swap: Option<(Made, Made)>,
     /// The numbers of keys, if many keys are added during the recording.
     pub growth: Option<Growth>,
 }
@@ -160,6 +171,90 @@ fn add_unseen(
     Ok(())
 }
 
+/// Returns the call of a contradiction that was expected to return the opposite reply.
+fn expected_in(alloc: Global, runs: &Runs<'_>, place: &Place) -> Result<Option<Made>, AllocError> {
+    let key = runs.calls_of(place.key)?;
+    let stretches = stretches_of(alloc, &key)?;
+    let calls = [place.wrong, place.silent, place.clash.second];
+    for call in calls.into_iter().flatten() {
+        if is_expected(alloc, &key, &stretches, &place.clash, call)? {
+            return Ok(Some(call));
+        }
+    }
+    Ok(None)
+}
+
+/// Returns the two wrong replies of the only two contradictions, if they are of overlapping calls, of two threads and two
+/// keys, and each is the reply that was expected of the other.
+fn swap_of(
+    alloc: Global,
+    runs: &Runs<'_>,
+    found: &Found,
+) -> Result<Option<(Made, Made)>, AllocError> {
+    let (Some(first), Some(second), None) = (
+        found.places.get(0),
+        found.places.get(1),
+        found.places.get(2),
+    ) else {
+        return Ok(None);
+    };
+    if first.key == second.key {
+        return Ok(None);
+    }
+    let one = expected_in(alloc, runs, first)?;
+    let two = expected_in(alloc, runs, second)?;
+    let (Some(one), Some(two)) = (one, two) else {
+        return Ok(None);
+    };
+    let is_met = one.begun < two.ended && two.begun < one.ended;
+    let are_opposite = one.reply.is_some() && two.reply.is_some() && one.reply != two.reply;
+    let is_swap = is_met && are_opposite && one.thread != two.thread;
+    Ok(is_swap.then_some((one, two)))
+}
+
+/// Returns the begins of the wrong answers in increasing order, each once.
+fn begins_of_wrong(alloc: Global, found: &Found) -> Result<Vec<u64>, AllocError> {
+    let mut begins = Vec::new(alloc);
+    for answer in found.places.iter().filter_map(|place| place.wrong) {
+        begins.push(answer.begun)?;
+    }
+    begins.sort_unstable();
+    begins.dedup();
+    Ok(begins)
+}
+
+/// Adds how many wrong answers, and what percentage of the other answers, another call outlasts. `calls` must be ordered by
+/// begin.
+fn add_outlasted(
+    further: &mut Further,
+    alloc: Global,
+    calls: &[Made],
+    found: &Found,
+    odd: &Odd,
+) -> Result<(), AllocError> {
+    let begins = begins_of_wrong(alloc, found)?;
+    if u64::try_from(begins.len()).unwrap_or(0) != odd.wrong {
+        return Ok(());
+    }
+    let (mut last, mut wrong, mut others, mut all) = (0u64, 0u64, 0u64, 0u64);
+    for call in calls {
+        if is_answer(*call, odd.operation) {
+            let is_wrong = begins.binary_search(&call.begun).is_ok();
+            let is_outlasted = u64::from(last > call.ended);
+            if is_wrong {
+                wrong = wrong.saturating_add(is_outlasted);
+            } else {
+                others = others.saturating_add(is_outlasted);
+                all = all.saturating_add(1);
+            }
+        }
+        last = last.max(call.ended);
+    }
+    further.outlasted = wrong;
+    further.usually_outlasted = others.saturating_mul(100).checked_div(all).unwrap_or(100);
+    Ok(())
+}
+
 /// Many keys are added only if the recording has at least this many keys.
 const MANY_KEYS: usize = 64;
 
@@ -216,15 +311,20 @@ pub(crate) fn further_of(
         restored: 0,
         unseen: 0,
         unseen_beside: 0,
+        outlasted: 0,
+        usually_outlasted: 100,
+        swap: None,
         growth: None,
     };
     match found.odd {
         Some(odd) if odd.operation == Operation::Add => {
             add_unseen(&mut further, runs, found, neighbours)?;
+            add_outlasted(&mut further, alloc, &runs.recorded.calls, found, &odd)?;
         }
         Some(_) => {}
         None => {
             add_few(&mut further, runs, keys, found)?;
+            further.swap = swap_of(alloc, runs, found)?;
             further.growth = growth_of(alloc, runs, keys, moment)?;
         }
     }

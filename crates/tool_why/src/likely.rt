@@ -5,7 +5,7 @@ use crate::further::Further;
 use crate::likely_odd::cause_of_odd;
 use crate::likely_races::{
     FEW_KEYS, LEAST_BOTH, MANY_CALLS, cause_of_races, has_crossed_replies, has_other_replies,
-    is_first_use, is_with,
+    is_first_use, is_old_copy_at_once, is_with,
 };
 use crate::shares::{ENOUGH, is_least, is_share, share_of_all};
 use tool_facts::{Evidence, Tally};
@@ -361,7 +361,11 @@ pub(crate) fn likely(evidence: &Evidence, further: &Further) -> Option<Cause> {
         Some(cause) => Some(cause),
         None => cause_of_races(evidence),
     };
-    or_outgrown(evidence, further, cause)
+    match or_outgrown(evidence, further, cause) {
+        None if further.swap.is_some() => Some(Cause::OtherReply),
+        None if is_old_copy_at_once(evidence) => Some(Cause::OldCopyAtOnce),
+        cause => cause,
+    }
 }
 
 /// Returns the cause `Outgrown` in place of no cause, or in place of a table that is replaced, if many keys are added and

@@ -207,6 +207,15 @@ fn is_passing_often(odd: &Odd) -> bool {
     odd.wrong >= LEAST_WRONG && is_passing(odd)
 }
 
+/// Returns whether another call outlasts each of at least five wrong answers, and the chance of that is less than one in a
+/// thousand.
+pub(crate) fn is_outlasted_each(odd: &Odd, further: &Further) -> bool {
+    odd.wrong >= ENOUGH
+        && further.outlasted == odd.wrong
+        && further.usually_outlasted <= 25
+        && share_of_all(further.usually_outlasted, odd.wrong) < 1_000
+}
+
 /// Returns the likely cause if only `add` is wrong.
 fn cause_of_add(odd: &Odd, further: &Further) -> Option<Cause> {
     if odd
@@ -219,6 +228,8 @@ fn cause_of_add(odd: &Odd, further: &Further) -> Option<Cause> {
     }
     if is_for_good(odd, further) {
         Some(Cause::UnlinkLost)
+    } else if is_outlasted_each(odd, further) {
+        Some(Cause::AddGivesUp)
     } else if needs_no_overlap(odd)
         || is_lasting(odd)
         || odd.running.saturating_mul(2) >= odd.wrong

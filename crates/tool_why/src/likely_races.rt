@@ -238,6 +238,40 @@ fn cause_of_gone(evidence: &Evidence) -> Option<Cause> {
     cause_of_old_state(evidence)
 }
 
+/// Returns whether keys are lost or return at the same time as another key, and this is rare at other times.
+pub(crate) fn is_rarely_together(tally: &Tally) -> bool {
+    tally.together >= 2
+        && tally.usually_together <= RARE
+        && is_least(tally.together, tally.timed(), 35)
+}
+
+/// Returns whether the adds of all lost keys overlap an add and a remove of other keys, and this is rare among all adds.
+fn is_rarely_beside(tally: &Tally) -> bool {
+    let is_each = tally.with_add == tally.placed && tally.with_remove == tally.placed;
+    is_each
+        && tally.placed >= 2
+        && tally.usually_with_add <= RARE
+        && tally.usually_with_remove <= RARE
+}
+
+/// An event is rare if it happens at most this often, in percent.
+const RARE: u64 = 5;
+
+/// Returns whether a copy of a small set seems to overwrite newer changes of several keys: keys come back, several keys
+/// are undone at once, although this is rare by chance, and wrong replies are few.
+pub(crate) fn is_old_copy_at_once(evidence: &Evidence) -> bool {
+    let tally = &evidence.tally;
+    let replies = tally.missed.saturating_add(tally.found);
+    tally.timed() >= 4
+        && tally.came_back > 0
+        && evidence.keys <= FEW_KEYS
+        && tally.beside.saturating_mul(10) >= tally.timed().saturating_mul(9)
+        && tally.others.saturating_mul(2) <= tally.places
+        && replies.saturating_mul(10) <= tally.places
+        && !is_first_use(evidence)
+        && (is_rarely_together(tally) || is_rarely_beside(tally))
+}
+
 /// Returns `true` if replies seem to be determined by an earlier read, not by the changes themselves.
 pub(crate) fn is_earlier_look(tally: &Tally) -> bool {
     let (both, gone) = (tally.both(), tally.gone());

@@ -292,6 +292,15 @@ fn put_split(out: &mut String, split: &Split) -> Result<(), AllocError> {
     writeln!(out, "{removes} remove absent, {votes} contains {state}")
 }
 
+/// Returns whether something happened clearly more often while keys were lost or came back than at other times.
+fn is_told_beside(tally: &Tally) -> bool {
+    tally.timed() >= LEAST_TIMED
+        && (is_more(tally.beside, tally.timed(), tally.usual)
+            || is_more(tally.together, tally.timed(), tally.usually_together)
+            || is_more(tally.with_add, tally.placed, tally.usually_with_add)
+            || is_more(tally.with_remove, tally.placed, tally.usually_with_remove))
+}
+
 /// Writes during how many contradictions no two calls overlapped, if it is at least 10 percent. Writes nothing if most
 /// contradictions are unclear, since after an early error many later calls disagree.
 fn put_apart(out: &mut String, tally: &Tally) -> Result<(), AllocError> {
@@ -349,8 +358,8 @@ fn put_gone_beside(out: &mut String, tally: &Tally) -> Result<(), AllocError> {
     Ok(())
 }
 
-/// Writes which calls ran during the only wrong answer, and whether the next call was right.
-fn put_around_one(out: &mut String, odd: &Odd) -> Result<(), AllocError> {
+/// Writes which calls ran during the only wrong answer, whether the picture shows those of its key, and whether the next call was right.
+fn put_around_one(out: &mut String, diagnosis: &Diagnosis, odd: &Odd) -> Result<(), AllocError> {
     let word = odd.operation.word();
     if odd.same > 0 {
         let other = match (odd.same_adds, odd.same_removes) {
@@ -358,7 +367,12 @@ fn put_around_one(out: &mut String, odd: &Odd) -> Result<(), AllocError> {
             (_, 0) => "an add",
             _ => "an add and a remove",
         };
-        writeln!(out, "{other} of the key ran during it")?;
+        let place = if diagnosis.draws_writer() {
+            ""
+        } else {
+            " (not in the picture)"
+        };
+        writeln!(out, "{other} of the key ran during it{place}")?;
     } else if odd.active > 0 {
         out.push_str(
             "a change of another key ran during it, and no other add or remove of its own key\n",
@@ -431,6 +445,11 @@ fn put_meanwhile(out: &mut String, odd: &Odd) -> Result<(), AllocError> {
     } else if is_more(active, wrong, usually) || active.saturating_mul(2) > wrong {
         let what = "another add or remove of their key, or a change of another key,";
         put_ran(out, odd, what, active, usually)?;
+        let beside = odd.beside;
+        write!(
+            out,
+            "; of their own key during {same}, of another key during {beside}"
+        )?;
     } else {
         let count = wrong.saturating_sub(active);
         write!(
@@ -443,9 +462,9 @@ fn put_meanwhile(out: &mut String, odd: &Odd) -> Result<(), AllocError> {
 }
 
 /// Writes which calls ran during the wrong answers, and whether the next calls were right.
-fn put_around(out: &mut String, odd: &Odd) -> Result<(), AllocError> {
+fn put_around(out: &mut String, diagnosis: &Diagnosis, odd: &Odd) -> Result<(), AllocError> {
     if odd.wrong == 1 {
-        return put_around_one(out, odd);
+        return put_around_one(out, diagnosis, odd);
     }
     put_meanwhile(out, odd)?;
     put_unseen(out, odd)?;
@@ -586,7 +605,7 @@ pub(crate) fn cause_text(cause: Cause) -> &'static str {
             "a change is carried out twice (by a helper, or repeated), and the second time undoes a later change",
         Cause::NoLock =>
             "calls of one key do not exclude each other (two locks, a lock that fails, a load and then a store)",
-        Cause::OldCopy =>
+        Cause::OldCopy | Cause::OldCopyAtOnce =>
             "an older copy is written over newer changes of other keys (copy on write, a whole table, a shared word)",
         Cause::SharedPlace =>
             "two adds at the same time take the same place, and one overwrites the other (a free slot given out twice, a head stored over another)",
@@ -631,7 +650,7 @@ pub(crate) fn put_known(out: &mut String, diagnosis: &Diagnosis) -> Result<(), A
     match &diagnosis.evidence.odd {
         Some(odd) => {
             put_odd(out, odd)?;
-            put_around(out, odd)?;
+            put_around(out, diagnosis, odd)?;
         }
         None => put_tally(out, diagnosis)?,
     }
@@ -640,7 +659,7 @@ pub(crate) fn put_known(out: &mut String, diagnosis: &Diagnosis) -> Result<(), A
     }
     if let Some(split) = diagnosis.evidence.split.filter(|split| split.is_long()) {
         put_split(out, &split)?;
-    } else if !matches!(diagnosis.cause, Some(Cause::OneThread | Cause::Overflow)) {
+    } else if diagnosis.cause.is_none() && !is_told_beside(&diagnosis.evidence.tally) {
         put_apart(out, &diagnosis.evidence.tally)?;
     }
     if diagnosis.evidence.is_part {

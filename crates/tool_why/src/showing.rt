@@ -63,8 +63,11 @@ const MOST_SHOWN: usize = 3;
 /// How many calls on the key, counted back from the end of a wrong answer, are checked for an overlap with the answer.
 const MOST_EARLIER: usize = 64;
 
+/// The maximum number of calls in a picture that shows no two contradicting calls.
+const MOST_LAST: usize = 7;
+
 /// The maximum number of changes of other keys in the picture.
-const MOST_BESIDE: usize = 3;
+const MOST_BESIDE: usize = 5;
 
 /// The maximum number of changes of other keys that are counted.
 pub(crate) const MOST_AROUND: usize = 1_000;
@@ -116,8 +119,9 @@ fn at_calls(alloc: Global, changes: Vec<Made>, clash: &Clash) -> Result<Vec<Made
 }
 
 /// Returns the weight of a change of another key for the choice of changes in the picture: changes that the likely
-/// cause names are chosen first, then those that overlap the first contradicting call, then the longest.
-fn weight(change: &Made, key: u32, cause: Option<Cause>, first: Option<Made>) -> u64 {
+/// cause names are chosen first, then those that overlap the first contradicting call, then those that end after it and
+/// during the contradiction, then the longest.
+fn weight(change: &Made, key: u32, cause: Option<Cause>, clash: &Clash) -> u64 {
     let is_named = match cause {
         Some(Cause::Unlinked | Cause::WrittenBack) => {
             change.operation == Operation::Remove && change.key < key
@@ -130,13 +134,27 @@ fn weight(change: &Made, key: u32, cause: Option<Cause>, first: Option<Made>) ->
         _ => false,
     };
     let length = change.ended.saturating_sub(change.begun);
-    let beside = if is_at(first, change) { AT_FIRST } else { 0 };
+    let beside = if is_at(clash.first, change) {
+        AT_FIRST
+    } else {
+        0
+    };
+    let since = clash.first.map_or(0, |first| first.ended);
+    let is_in = since < change.ended && change.ended <= clash.until;
+    let ends = if is_in { ENDS_IN } else { 0 };
     let named = if is_named { OTHER_KEY } else { 0 };
-    length.saturating_add(beside).saturating_add(named)
+    length
+        .saturating_add(beside)
+        .saturating_add(ends)
+        .saturating_add(named)
 }
 
 /// The weight of a change of another key that overlaps the first of two contradicting calls.
 const AT_FIRST: u64 = 1_000_000_000;
+
+/// The weight of a change of another key that ends after the first of two contradicting calls and by the end of the
+/// second.
+const ENDS_IN: u64 = 100_000_000;
 
 /// Adds a call to the picture unless the picture already contains the call.
 fn add(shown: &mut Vec<Shown>, call: Made) -> Result<(), AllocError> {
@@ -194,6 +212,27 @@ impl Diagnosis {
                 self.show(alloc, &key, place, neighbours)?;
             }
         }
+        if self.shown.is_empty() && self.second.is_none() {
+            self.show_last(&runs.calls_of(self.first_key)?)?;
+        }
+        Ok(())
+    }
+
+    /// Fills the picture with the last call that had begun by the first moment such that the key's calls have no order, and
+    /// with earlier changes that overlap the calls in the picture.
+    fn show_last(&mut self, key: &KeyCalls) -> Result<(), AllocError> {
+        let end = key.begun_by(self.first_moment);
+        let earlier = key.calls.get(..end).unwrap_or(&[]);
+        let mut since = NEVER;
+        for call in earlier.iter().rev().take(MOST_EARLIER) {
+            let is_first = self.shown.is_empty();
+            let is_met = call.changes() && call.ended >= since;
+            if (is_first || is_met) && self.shown.len() < MOST_LAST {
+                add(&mut self.shown, *call)?;
+                since = since.min(call.begun);
+            }
+        }
+        self.shown.sort_unstable_by_key(|one| one.call.begun);
         Ok(())
     }
 
@@ -252,17 +291,7 @@ impl Diagnosis {
         self.show_calls(alloc, key, &place)?;
         self.show_marks(alloc, key, &place)?;
         if place.clash.until < NEVER {
-            let (since, until) = time_of(&place, neighbours, self.cause);
-            let (key, cause, first) = (place.key, self.cause, place.clash.first);
-            let changes = neighbours.around(alloc, key, since, until, MOST_AROUND)?;
-            self.beside = match cause {
-                Some(Cause::Displaced | Cause::Batch | Cause::Evicted) => changes,
-                _ => at_calls(alloc, changes, &place.clash)?,
-            };
-            self.beside_count = self.beside.len();
-            self.beside
-                .sort_unstable_by_key(|call| !weight(call, key, cause, first));
-            self.beside.truncate(MOST_BESIDE);
+            self.show_beside(alloc, &place, neighbours)?;
         }
         let has_room = self.beside.is_empty() || self.shown.len() < MOST_SHOWN;
         if let Some(second) = place.clash.second.filter(|_| is_before) {
@@ -274,8 +303,39 @@ impl Diagnosis {
             self.show_later()?;
         }
         self.shown.sort_unstable_by_key(|one| one.call.begun);
-        self.guilty = self.guilty_of(&place);
+        self.guilty = self.guilty.or(self.guilty_of(&place));
         self.mark_guilty();
+        if self.lacks_guilty() {
+            self.cause = None;
+        }
+        Ok(())
+    }
+
+    /// Adds changes of other keys that ran at the same time, with the one that is probably guilty first.
+    fn show_beside(
+        &mut self,
+        alloc: Global,
+        place: &Place,
+        neighbours: &Neighbours,
+    ) -> Result<(), AllocError> {
+        let (since, until) = time_of(place, neighbours, self.cause);
+        let (key, cause, clash) = (place.key, self.cause, place.clash);
+        let changes = neighbours.around(alloc, key, since, until, MOST_AROUND)?;
+        self.beside = match cause {
+            Some(Cause::Displaced | Cause::Batch | Cause::Evicted) => changes,
+            _ => at_calls(alloc, changes, &place.clash)?,
+        };
+        self.beside_count = self.beside.len();
+        let guilty = self.guilty_beside(place);
+        self.guilty = guilty;
+        self.beside.sort_unstable_by_key(|call| {
+            if guilty == Some(*call) {
+                0
+            } else {
+                !weight(call, key, cause, &clash)
+            }
+        });
+        self.beside.truncate(MOST_BESIDE);
         Ok(())
     }
 
