@@ -41,8 +41,8 @@ fn explanation<R: Read>(
     }
 }
 
-/// Appends an explanation to the answer if the answer refuses the recording in the file at `path`. Allocates. Blocks while
-/// reading the file.
+/// Appends an explanation to the answer if the answer refuses the recording in the file at `path`. Allocates. Blocks
+/// while reading the file.
 pub(crate) fn explained<H: Files>(
     rt: &H,
     alloc: Global,

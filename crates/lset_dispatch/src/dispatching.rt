@@ -61,8 +61,8 @@ fn lacks_help(alloc: Global) -> Result<String, AllocError> {
 ///
 /// # Errors
 ///
-/// The error has the text for the user: the help or the version if the user asked for it (`exit_code` 0), or the mistake in
-/// the command line (`exit_code` 2). If `is_out_of_memory` returns `true`, an allocation failed.
+/// The error has the text for the user: the help or the version if the user asked for it (`exit_code` 0), or the
+/// mistake in the command line (`exit_code` 2). If `is_out_of_memory` returns `true`, an allocation failed.
 pub fn tool_words(alloc: Global, words: &[&str]) -> Result<Words, Error>
     ensures taken { IfOk result (λ w. choice_in w ≡ choice_of (subcommand_of listset (texts words.entry.now))) }
     ensures refused { FailsBy (fault_of listset (texts words.entry.now)) result }
@@ -96,8 +96,8 @@ fn explain_file<H: Files>(rt: &H, alloc: Global, path: &str) -> Result<Answer, T
 }
 
 /// Runs the program with this command line, which does not contain the program's name, and returns the exit status.
-/// Reads the named file through `rt`, or reads `input` if the file is `-` or no file is named. Writes the result to `output`,
-/// or an error to `stderr`.
+/// Reads the named file through `rt`, or reads `input` if the file is `-` or no file is named. Writes the result to
+/// `output`, or an error to `stderr`.
 ///
 /// `serve` opens its set with the keys in FILE or, if FILE is `-`, in `input`; without FILE, it reads nothing. If an
 /// argument is wrong, no file is opened. Allocates. `run` and `serve` start threads on `rt` and block until these end.

@@ -67,8 +67,8 @@ fn judge_verdict<R: Read, W: Write, E: Write>(
     deliver(made, output, stderr)
 }
 
-/// Judges the recording in `file`, which is open. If the recording is refused, reads the file at `path` again and prints an
-/// explanation.
+/// Judges the recording in `file`, which is open. If the recording is refused, reads the file at `path` again and
+/// prints an explanation.
 fn judge_file<H: Files, R: Read, W: Write, E: Write>(
     rt: &H,
     alloc: Global,

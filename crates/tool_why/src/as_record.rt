@@ -34,8 +34,8 @@ fn put_lines(out: &mut String, word: &str, text: &str) -> Result<(), AllocError>
 /// Returns the record of a diagnosis. It has, in this order: `headline TEXT`; `call THREAD OPERATION KEY BEGIN END
 /// REPLY MARK` for each call of the key that is shown (MARK is `-`, `expected BOOL`, `leaves STATE`, `finds STATE`,
 /// `either` or `suspected`); `also THREAD OPERATION KEY BEGIN END REPLY` for each change of another key in the picture,
-/// perhaps followed by `suspected`; `fact TEXT` for each fact; and, if there is a likely cause, `likely TEXT` and `because
-/// TEXT`. Allocates.
+/// perhaps followed by `suspected`; `fact TEXT` for each fact; and, if there is a likely cause, `likely TEXT` and
+/// `because TEXT`. Allocates.
 pub fn diagnosis_record(alloc: Global, diagnosis: &Diagnosis) -> Result<String, AllocError> {
     let mut out = String::from_str(alloc, "headline ")?;
     put_headline(&mut out, diagnosis)?;

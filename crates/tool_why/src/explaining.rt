@@ -46,8 +46,8 @@ fn put_some(out: &mut String, known: &str, extra: usize) -> Result<(), AllocErro
 }
 
 /// Returns the number of lines for the picture. `room` lines are free, and `known` facts follow the picture. To show a
-/// change of another key or, if a cause is named, up to three of them, the picture can take the lines of facts: all but the first or, if an operation alone is wrong,
-/// all but the first two.
+/// change of another key or, if a cause is named, up to three of them, the picture can take the lines of facts: all but
+/// the first or, if an operation alone is wrong, all but the first two.
 fn room_of_picture(diagnosis: &Diagnosis, room: usize, known: usize) -> usize {
     let beside = diagnosis.beside.len();
     let beside = if diagnosis.cause.is_some() {

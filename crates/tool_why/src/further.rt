@@ -21,13 +21,13 @@ pub struct Further {
     pub unseen: u64,
     /// The part of `unseen` that overlaps a successful remove of another key.
     pub unseen_beside: u64,
-    /// If only `add` is wrong, and each wrong answer is checked: the number of wrong answers that another call outlasts. The
-    /// other call begins earlier and ends later. Otherwise 0.
+    /// If only `add` is wrong, and each wrong answer is checked: the number of wrong answers that another call
+    /// outlasts. The other call begins earlier and ends later. Otherwise 0.
     pub outlasted: u64,
     /// The percentage of the other answers of `add` that another call outlasts. 100 if there are none.
     pub usually_outlasted: u64,
-    /// The two wrong replies of the only two contradictions, if they are of overlapping calls, of two threads and two keys,
-    /// and each is the reply that was expected of the other.
+    /// The two wrong replies of the only two contradictions, if they are of overlapping calls, of two threads and two
+    /// keys, and each is the reply that was expected of the other.
     pub swap: Option<(Made, Made)>,
     /// The numbers of keys, if many keys are added during the recording.
     pub growth: Option<Growth>,
@@ -184,8 +184,8 @@ fn expected_in(alloc: Global, runs: &Runs<'_>, place: &Place) -> Result<Option<M
     Ok(None)
 }
 
-/// Returns the two wrong replies of the only two contradictions, if they are of overlapping calls, of two threads and two
-/// keys, and each is the reply that was expected of the other.
+/// Returns the two wrong replies of the only two contradictions, if they are of overlapping calls, of two threads and
+/// two keys, and each is the reply that was expected of the other.
 fn swap_of(
     alloc: Global,
     runs: &Runs<'_>,
@@ -223,8 +223,8 @@ fn begins_of_wrong(alloc: Global, found: &Found) -> Result<Vec<u64>, AllocError>
     Ok(begins)
 }
 
-/// Adds how many wrong answers, and what percentage of the other answers, another call outlasts. `calls` must be ordered by
-/// begin.
+/// Adds how many wrong answers, and what percentage of the other answers, another call outlasts. `calls` must be
+/// ordered by begin.
 fn add_outlasted(
     further: &mut Further,
     alloc: Global,

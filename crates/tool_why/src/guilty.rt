@@ -88,8 +88,8 @@ impl Diagnosis {
         })
     }
 
-    /// Returns whether the likely cause follows from one wrong answer during a change of its key, and this change is not in
-    /// the picture, since it began long before.
+    /// Returns whether the likely cause follows from one wrong answer during a change of its key, and this change is
+    /// not in the picture, since it began long before.
     pub(crate) fn lacks_guilty(&self) -> bool {
         let is_one = self.evidence.odd.is_some_and(|odd| odd.wrong == 1);
         is_one
@@ -97,8 +97,8 @@ impl Diagnosis {
             && matches!(self.cause, Some(Cause::MarkNotRead | Cause::NotSeenYet))
     }
 
-    /// Returns the first other change of the key in the picture that overlaps a call. If an operation is given, considers
-    /// only its changes.
+    /// Returns the first other change of the key in the picture that overlaps a call. If an operation is given,
+    /// considers only its changes.
     fn change_during(&self, call: Made, operation: Option<Operation>) -> Option<Made> {
         for one in &self.shown {
             let is_sought = operation.unwrap_or(one.call.operation) == one.call.operation;
@@ -110,8 +110,8 @@ impl Diagnosis {
         None
     }
 
-    /// Returns the only change of another key that overlaps a call and ends in a period. If no change does, returns the only
-    /// change that overlaps the call. Returns `None` if several changes fit equally.
+    /// Returns the only change of another key that overlaps a call and ends in a period. If no change does, returns the
+    /// only change that overlaps the call. Returns `None` if several changes fit equally.
     fn beside_during(&self, call: Made, sought: Sought) -> Option<Made> {
         let mut found = None;
         let mut best = 0u64;
@@ -129,8 +129,8 @@ impl Diagnosis {
         found.filter(|_| count == 1)
     }
 
-    /// Returns the call of the key in the picture that returned false, overlaps a change, and found the state before the
-    /// change.
+    /// Returns the call of the key in the picture that returned false, overlaps a change, and found the state before
+    /// the change.
     fn refusal_during(&self, change: Made) -> Option<Made> {
         for one in &self.shown {
             if is_refusal_during(one.call, change) {
@@ -155,9 +155,9 @@ impl Diagnosis {
         None
     }
 
-    /// Returns the change of another key that is probably guilty. Returns `None` if the likely cause names no such change, or
-    /// if several changes fit equally. If a change was undone, the change that undid it probably ends after the undone
-    /// change and before the call that shows it.
+    /// Returns the change of another key that is probably guilty. Returns `None` if the likely cause names no such
+    /// change, or if several changes fit equally. If a change was undone, the change that undid it probably ends after
+    /// the undone change and before the call that shows it.
     pub(crate) fn guilty_beside(&self, place: &Place) -> Option<Made> {
         let (wrong, first) = (place.wrong, place.clash.first);
         let sought = Sought {
@@ -187,8 +187,8 @@ impl Diagnosis {
         }
     }
 
-    /// Returns the call of the key in the picture that is probably guilty. Returns `None` if the likely cause names no such
-    /// call, or if the picture has no such call.
+    /// Returns the call of the key in the picture that is probably guilty. Returns `None` if the likely cause names no
+    /// such call, or if the picture has no such call.
     pub(crate) fn guilty_of(&self, place: &Place) -> Option<Made> {
         let (wrong, first) = (place.wrong, place.clash.first);
         match self.cause? {

@@ -103,8 +103,8 @@ fn needs_no_race(tally: &Tally) -> bool {
     tally.gone() >= 2 * ENOUGH && tally.apart >= ENOUGH && is_share(tally.apart, tally.places, 10)
 }
 
-/// Returns `true` if many contradictions occur without overlapping calls, and most are losses, returns or pairs of calls
-/// that both returned true.
+/// Returns `true` if many contradictions occur without overlapping calls, and most are losses, returns or pairs of
+/// calls that both returned true.
 fn is_mostly_apart(tally: &Tally) -> bool {
     needs_no_race(tally)
         && is_least(tally.apart, tally.places, 30)
@@ -240,9 +240,9 @@ fn is_missed_beside(tally: &Tally) -> bool {
 /// The minimum number of adds and removes that returned false for the guess that they give up.
 const LEAST_REFUSED: u64 = 8;
 
-/// Returns whether each of a few contradictions is of two calls on a key that overlapped as if each ran alone: two calls
-/// of the same operation both returned true, or a change was undone that overlapped a call that found the state before
-/// the change. At least 100 times as many pairs of calls on a key must overlap.
+/// Returns whether each of a few contradictions is of two calls on a key that overlapped as if each ran alone: two
+/// calls of the same operation both returned true, or a change was undone that overlapped a call that found the state
+/// before the change. At least 100 times as many pairs of calls on a key must overlap.
 fn is_rarely_inside(evidence: &Evidence, further: &Further) -> bool {
     let tally = &evidence.tally;
     let inside = tally.both().saturating_add(further.restored);
@@ -368,8 +368,8 @@ pub(crate) fn likely(evidence: &Evidence, further: &Further) -> Option<Cause> {
     }
 }
 
-/// Returns the cause `Outgrown` in place of no cause, or in place of a table that is replaced, if many keys are added and
-/// few of them are hit.
+/// Returns the cause `Outgrown` in place of no cause, or in place of a table that is replaced, if many keys are added
+/// and few of them are hit.
 fn or_outgrown(evidence: &Evidence, further: &Further, cause: Option<Cause>) -> Option<Cause> {
     let is_open = matches!(cause, None | Some(Cause::Replaced | Cause::ReplacedAtOnce));
     if is_open && is_outgrown(evidence, further) {

@@ -91,8 +91,8 @@ fn cause_of_misses(odd: &Odd) -> Option<Cause> {
     }
 }
 
-/// Returns the likely cause if `contains` is wrong while other calls run: calls on its own key, if such calls ran during
-/// most wrong answers and clearly more often than during other answers, and otherwise changes of other keys.
+/// Returns the likely cause if `contains` is wrong while other calls run: calls on its own key, if such calls ran
+/// during most wrong answers and clearly more often than during other answers, and otherwise changes of other keys.
 fn moved(odd: &Odd) -> Cause {
     let least = odd.usually_same.saturating_add(25).max(75);
     if is_least(odd.same, odd.wrong, least) {
@@ -207,8 +207,8 @@ fn is_passing_often(odd: &Odd) -> bool {
     odd.wrong >= LEAST_WRONG && is_passing(odd)
 }
 
-/// Returns whether another call outlasts each of at least five wrong answers, and the chance of that is less than one in a
-/// thousand.
+/// Returns whether another call outlasts each of at least five wrong answers, and the chance of that is less than one
+/// in a thousand.
 pub(crate) fn is_outlasted_each(odd: &Odd, further: &Further) -> bool {
     odd.wrong >= ENOUGH
         && further.outlasted == odd.wrong

@@ -245,7 +245,8 @@ pub(crate) fn is_rarely_together(tally: &Tally) -> bool {
         && is_least(tally.together, tally.timed(), 35)
 }
 
-/// Returns whether the adds of all lost keys overlap an add and a remove of other keys, and this is rare among all adds.
+/// Returns whether the adds of all lost keys overlap an add and a remove of other keys, and this is rare among all
+/// adds.
 fn is_rarely_beside(tally: &Tally) -> bool {
     let is_each = tally.with_add == tally.placed && tally.with_remove == tally.placed;
     is_each

@@ -229,8 +229,8 @@ fn put_few(out: &mut String, few: &[Place]) -> Result<(), AllocError> {
 /// An error is late if it shows at this moment or later.
 const LATE: u64 = 200;
 
-/// Returns whether most contradictions are unclear, as after a late error that breaks the set for good. The first error is
-/// then the finding.
+/// Returns whether most contradictions are unclear, as after a late error that breaks the set for good. The first error
+/// is then the finding.
 fn is_from_one_moment(diagnosis: &Diagnosis) -> bool {
     let tally = &diagnosis.evidence.tally;
     let moment = diagnosis.first_moment;
@@ -358,7 +358,8 @@ fn put_gone_beside(out: &mut String, tally: &Tally) -> Result<(), AllocError> {
     Ok(())
 }
 
-/// Writes which calls ran during the only wrong answer, whether the picture shows those of its key, and whether the next call was right.
+/// Writes which calls ran during the only wrong answer, whether the picture shows those of its key, and whether the
+/// next call was right.
 fn put_around_one(out: &mut String, diagnosis: &Diagnosis, odd: &Odd) -> Result<(), AllocError> {
     let word = odd.operation.word();
     if odd.same > 0 {

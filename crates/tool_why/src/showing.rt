@@ -218,8 +218,8 @@ impl Diagnosis {
         Ok(())
     }
 
-    /// Fills the picture with the last call that had begun by the first moment such that the key's calls have no order, and
-    /// with earlier changes that overlap the calls in the picture.
+    /// Fills the picture with the last call that had begun by the first moment such that the key's calls have no order,
+    /// and with earlier changes that overlap the calls in the picture.
     fn show_last(&mut self, key: &KeyCalls) -> Result<(), AllocError> {
         let end = key.begun_by(self.first_moment);
         let earlier = key.calls.get(..end).unwrap_or(&[]);
