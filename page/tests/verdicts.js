@@ -655,7 +655,8 @@ const OF_WHY = [
     const operations = both === undefined ? [operation] : ["add", "remove"];
     const isSaid = (call) => ["add", "remove"].every((one) => runsDuring(it, call, (other) => other.key === call.key && other.operation === one) === operations.includes(one));
     const isDrawn = (answer) => shown.some(({ call }) => call !== answer && call.operation !== "contains" && inTime(call, answer.begun, answer.ended));
-    return told.wrong.some((answer) => isSaid(answer) && isDrawn(answer) === (hidden === undefined));
+    const isWhereSaid = (answer) => shown.length === 0 || isDrawn(answer) === (hidden === undefined); // (of a long recording no picture is checked)
+    return told.wrong.some((answer) => isSaid(answer) && isWhereSaid(answer));
   }],
   [/^fact a change of another key ran during it, and no other add or remove of its own key$/, (it, found, { told }) =>
     told.wrong.some((call) => !runsDuring(it, call, (one) => one.key === call.key) && runsDuring(it, call, (one) => one.key !== call.key && one.reply === "true"))],
