@@ -61,7 +61,10 @@ function factsAfter(state, event, others) {
   const linkOf = (name) => state.nodes[name].link;
   const keys = keysInChain(state);
   const keyOf = (name) => String(state.nodes[name].key);
-  return { ...others, event, thread: `t${event.thread}`, chain, keys, keyOf, lockOf, linkOf, locks: state.locks() };
+  const nameOf = (name) => ({ head: "the head", tail: "the tail" })[name] ?? keyOf(name);
+  const locked = Object.keys(state.nodes).filter((name) => lockOf(name) === `t${event.thread}`);
+  locked.sort((one, other) => numberOf(keyOf(one)) - numberOf(keyOf(other)));
+  return { ...others, event, thread: `t${event.thread}`, lockedKeys: locked.map(nameOf), chain, keys, keyOf, lockOf, linkOf, locks: state.locks() };
 }
 
 // Patterns and tests of the short sentences of the path, the tour with live lists (story/said.js), in the same form as CLAIMS.
@@ -76,8 +79,11 @@ const SHORT_CLAIMS = [
   [/: \S+ stays\./, (_, { chain, before }) => !chain.includes(before.curr)],
   [/marks \S+: (\d+) is removed\./, ([key], { event, linkOf, keyOf }) => !linkOf(ownerOf(event)).endsWith("*") || event.call.operation !== "remove" || keyOf(ownerOf(event)) !== key],
   [/ returns (\w+)\.$/, ([reply], { event }) => event.answer.replace("at-", "") !== reply],
-  [/takes the lock(?: of \S+)?\./, (_, { event, lockOf, thread }) => lockOf(lockName(event)) !== thread],
-  [/releases the lock(?: of \S+)?\./, (_, { event, lockOf }) => lockOf(lockName(event)) !== "free"],
+  [/takes the lock(?: of [^:.]+)?[:.]/, (_, { event, lockOf, thread }) => lockOf(lockName(event)) !== thread],
+  [/releases the lock(?: of [^.]+)?\./, (_, { event, lockOf }) => lockOf(lockName(event)) !== "free"],
+  [/(?:: it|^[A-C]) holds (.*?)(?:\.|, and sees)/, ([names], { lockedKeys }) => lockedKeys.length < 2 || names !== lockedKeys.join(" and ")],
+  [/has released both locks\./, (_, { event, lockedKeys, lastOwn }) => lockedKeys.length > 0 || lastOwn.word === event.word || ![lastOwn, event].every(({ released }) => released)],
+  [/It does not lock (\S+)\./, ([key], { event, lockOf, next, keyOf, lacks, thread }) => lacks === null || keyOf(ownerOf(event)) !== key || lockOf(ownerOf(event)) === thread || next?.word === `${ownerOf(event)}.lock`],
   [/wants the lock.*, but ([A-C]) holds it/, ([other], { event, lockOf, thread }) => inPage("holderOf")(lockOf(lockName(event))) !== other || lockOf(lockName(event)) === thread],
   [/ It waits\./, (_, { event, next }) => next !== null && next.word !== event.word],
   [/It continues all the same/, (_, { event, next }) => next !== null && next.word === event.word],
@@ -109,6 +115,17 @@ const SHORT_CLAIMS = [
   [/but (?:its|the) arrow has changed/, (_, { event, linkOf }) => linkOf(ownerOf(event)) === event.from],
   [/[Ww]alks? again\./, (_, { next }) => !isNextOn(next, "link", "head")],
 ];
+
+// Marks each event that stores "free" in the lock of a node while its thread holds this lock.
+function markReleases(events) {
+  const held = {};
+  for (const event of events.filter(({ word }) => word?.endsWith(".lock"))) {
+    const isFree = event.deed === "store";
+    event.released = isFree && held[event.word] === event.thread;
+    if (isFree || event.saw === event.from) held[event.word] = isFree ? null : event.thread;
+  }
+}
+
 const lockName = ({ word }) => (word === "list.lock" ? "the list" : ownerOf({ word }));
 
 function falseIn(claims, sentence, facts) {
@@ -125,14 +142,16 @@ const seen = new Set(); // the claims that some sentence has made
 function readRun(trace) {
   const state = new (inPage("State"))(trace);
   const events = trace.events();
+  markReleases(events);
   return events.map((event, index) => {
     const next = events.slice(index + 1).find(({ thread }) => thread === event.thread) ?? null;
     state.moveTo(event.number - 1);
     const chainBefore = state.chain();
     const nextWalk = events.slice(index + 1).find(({ thread, word }) => thread === event.thread && /\.link$/.test(word ?? "")) ?? null;
-    const before = { next, nextWalk, chainBefore, keysBefore: keysInChain(state), eventAt: (number) => events[number - 1], lacks: trace.lacks };
+    const lastOwn = events.slice(0, index).findLast(({ thread }) => thread === event.thread);
+    const before = { next, nextWalk, lastOwn, chainBefore, keysBefore: keysInChain(state), eventAt: (number) => events[number - 1], lacks: trace.lacks };
     const moment = inPage("momentAt")(state, event.number);
-    const [sentence, short] = ["sentenceOf", "saidOf"].map((name) => inPage(name)(moment).replace(/<[^>]*>/g, ""));
+    const [sentence, short] = [inPage("sentenceOf")(moment), inPage("saidOf")(moment, { isPath: true })].map((text) => text.replace(/<[^>]*>/g, ""));
     const facts = factsAfter(state, event, before);
     const ofLong = trace.lacks === null ? falseIn(CLAIMS, sentence, facts) : []; // the page shows them of correct lists alone
     const wrong = [...ofLong, ...falseIn(SHORT_CLAIMS, short, { ...facts, before: moment.before })];

@@ -966,6 +966,11 @@ const OF_OWN = [
       nameIn(call) === name && said === reply && (before === null ? other === undefined : nameIn(before) === other) && keys.join(", ") === set && answer === due && due !== reply)],
   [/^(\S+ of [A-D]) does not return (\S+) in this run\.$/, (it, [name, reply]) => it.answer.order().some(({ call, reply: said }) => nameIn(call) === name && said === reply && call.reply !== said)],
   [/^Look at what its thread sees before the call returns\.$/, () => true],
+  [/^\(Your order is possible, but it is not this run\.\)$/, (it) => stepsOf(it).slice(1).every(({ answer, said }) => answer === said) && faultsOf(it).length > 0],
+  [/^Choose the (two|three|four|five|six|seven|eight|nine|ten) replies first\.$/, (it, [count]) => {
+    const asked = it.calls.filter(({ ended }) => ended !== null);
+    return it.level === "replies" && NUMBERS[count] === asked.length && asked.every(({ id }) => !it.answer.replies.has(id));
+  }],
   [/^(\S+ of [A-D]) begins at event (\d+), and in your order it comes before (\S+ of [A-D]), which ended at event (\d+)\.$/, (it, [name, begun, other, ended]) => {
     const order = it.answer.order().map(({ call }) => call);
     const isOther = (call) => nameIn(call) === other && call.ended === Number(ended) && call.ended < Number(begun);
@@ -974,6 +979,7 @@ const OF_OWN = [
   [/^Your order leaves the set {(.*)}; at the end of this run it is {(.*)}\.$/, (it, [left, keys]) => stepsOf(it).at(-1).after.join(", ") === left && keys === it.keys.join(", ") && left !== keys],
 ];
 
+const NUMBERS = { two: 2, three: 3, four: 4, five: 5, six: 6, seven: 7, eight: 8, nine: 9, ten: 10 };
 const nameIn = (call) => `${call.operation}(${call.key}) of ${"ABCD"[call.thread]}`;
 const nameAlone = ({ calls }, call) => `${nameIn(call)}${calls.filter((other) => nameIn(other) === nameIn(call)).length > 1 ? ` from event ${call.begun}` : ""}`;
 
@@ -1019,6 +1025,7 @@ function checkOwn(ask) {
   const report = ask("listset_replay", schedule).text;
   const exercise = exerciseOf(report, pick(["points", "replies"]));
   const answer = draw(2) === 0 ? placedAnswer(exercise) : writtenAnswer(exercise);
+  if (draw(6) === 0) answer.replies.clear();
   const it = { ...exercise, quota: 2, answer, text: `${report}${answer.order().map(({ call, reply }) => `${call.id}-${reply}`)}` };
   const { says } = verdictOn(ask, answer);
   checkSentences(OF_OWN, it, says.startsWith("Still") ? [says] : says.split(/(?<=\.) /));

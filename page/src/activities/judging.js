@@ -84,7 +84,7 @@ class Judging {
     if (this.verdict.isRight === false) this.tries++;
     if (this.verdict.isRight) this.keep();
     this.draw();
-    if (this.verdict.isRight !== null) judgePart("verdict").scrollIntoView({ block: "nearest" });
+    judgePart("verdict").scrollIntoView({ block: "nearest" });
   }
 
   keep() {
@@ -100,7 +100,7 @@ class Judging {
     const zoom = isSlide ? innerHeight / 450 : 1;
     judgePart("bars").style.setProperty("--zoom", String(zoom));
     this.scale = judgeScale(this.exercise, Math.max(300, judgePart("bars").clientWidth / zoom), isSlide ? { bar: 20, grown: GROWN } : { grown: isNarrow() ? SMALL_GROWN : WIDE_GROWN });
-    judgePart("of").textContent = itemOf({ id: exampleShown() })?.question ?? "Your answer is right if, in the order of your moments, every reply is correct.";
+    judgePart("of").textContent = itemOf({ id: exampleShown() })?.question ?? `Your answer is right if the replies${calls.some(({ ended }) => ended === null) ? " and the last set" : ""} are those of this run, and each reply is correct in the order of your moments.`;
     judgePart("task").textContent = `${now.task.kind === "seed" ? `Run ${partsOfSeed(now.task.id).number}. ` : ""}${LEVELS[level].task}`;
     redraw(judgePart("bars"), drawJudged(this));
     const asked = level === "replies" ? calls.filter((call) => call.ended !== null) : [];

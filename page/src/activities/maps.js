@@ -99,7 +99,7 @@ function judgeHtml() {
     return { href: `#example=${name}&judge`, list: LIST_WORDS[kind], title, says: question, state };
   };
   const words = `You see a run without its replies. Choose what each call returns, and when it takes effect: one moment between its start and its end. Your
-    answer is right if every reply is correct in the order of these moments. (A key is a number in the set. An add without a free node returns full.)`;
+    answer is right if the replies are those of this run, and each is correct in the order of these moments. (A key is a number in the set. An add without a free node returns full.)`;
   const top = `${lead(words)}<p class="line"><button data-do="recorded">Judge calls recorded from your own set ↓</button></p>`;
   const lists = Object.entries(LIST_WORDS).map(([kind, name]) => tag("option", { value: kind }, name)).join("");
   return `${head("", "Judge", top, "title")}<div class="start-row"><label>list <select id="judge-seed-list">${lists}</select></label>

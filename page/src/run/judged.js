@@ -44,13 +44,8 @@ export class OwnAnswer {
     if (this.points.get(call.id)?.at !== within) this.points.set(call.id, { at: within, turn: this.turn++ });
   }
 
-  take(call) {
-    this.points.delete(call.id);
-  }
-
-  setReply(call, reply) {
-    this.replies.set(call.id, reply);
-  }
+  take = (call) => this.points.delete(call.id);
+  setReply = (call, reply) => this.replies.set(call.id, reply);
 
   // Returns the reply that a call has in the reader's order. A pending call has no reply in the history, but is in the order if it has changed the set.
   replyOf(call) {
@@ -75,22 +70,34 @@ export class OwnAnswer {
   }
 }
 
-export function reportOfAnswer(answer) {
-  const { head, callLines, keyLines } = answer.exercise;
+export function reportOfAnswer(answer, callLines = answer.exercise.callLines) {
+  const { head, keyLines } = answer.exercise;
   const places = answer.order().map(({ call, reply }) => `place ${call.id} ${reply}`);
   return [...head, ...callLines, ...places, ...keyLines, "end", ""].join("\n");
 }
 
 export function verdictOn(ask, answer) {
   const unsaid = answer.unsaid();
+  const asked = answer.exercise.calls.filter(({ ended }) => ended !== null && answer.exercise.level === "replies");
   const nothing = { isRight: null, clash: null, report: null };
+  if (asked.length > 1 && asked.every(({ id }) => !answer.replies.has(id))) return { ...nothing, says: `Choose the ${COUNTS[asked.length] ?? asked.length} replies first.` };
   if (unsaid.length > 0) return { ...nothing, missing: unsaid.map(({ id }) => id), says: `Still missing: ${unsaid.map(({ says }) => says).join(", ")}.` };
   const report = reportOfAnswer(answer);
   const { kind, fault, order } = readVerdict(ask("listset_check_record", report));
   if (kind === "fault") return { ...nothing, says: `This order is not judged: ${fault.says}.` };
   if (order === null) return { isRight: true, clash: null, report, says: rightInWords(answer) };
   const clash = order.call === undefined ? null : Number(order.call);
-  return { isRight: false, clash, report, says: faultInWords(answer, order) };
+  const isOther = order.fault === "HistoryReply" && isPossible(ask, answer) ? " (Your order is possible, but it is not this run.)" : "";
+  return { isRight: false, clash, report, says: faultInWords(answer, order) + isOther };
+}
+const COUNTS = ["", "", "two", "three", "four", "five", "six", "seven", "eight", "nine", "ten"];
+
+// Decides whether the reader's order explains a run of these calls with the reader's replies. That run can leave other numbers.
+function isPossible(ask, answer) {
+  const { calls, callLines } = answer.exercise;
+  const ownLines = callLines.map((line, at) => (calls[at].ended === null ? line : line.replace(/\S+$/, answer.replyOf(calls[at]))));
+  const { kind, order } = readVerdict(ask("listset_check_record", reportOfAnswer(answer, ownLines)));
+  return kind !== "fault" && (order === null || order.fault === "WrongSet");
 }
 
 function rightInWords(answer) {

@@ -70,9 +70,7 @@ export class Figure {
     markBusy(false);
   }
 
-  part(name) {
-    return this.box.querySelector(`.${name}`);
-  }
+  part = (name) => this.box.querySelector(`.${name}`);
 
   set(given) {
     Object.assign(this, given);

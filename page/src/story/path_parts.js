@@ -99,13 +99,13 @@ export function endHtml(done) {
   return `<section class="screen end"><h1 class="title" tabindex="-1">So, why not just one lock?</h1>
     <p class="lead">Because while one thread works, all others wait. Each list removes some of that waiting, and pays for it with more locks or
     one more check. If one of these is left out, numbers get lost.</p>
+    <h2>You have finished ${count} of the ${SCREENS.length} sections. And now?</h2><div class="ways">${ways.join("")}</div>
     <table class="five"><thead><tr><th>The list</th><td>Who waits?</td><td>What does it pay for that?</td></tr></thead>
     <tbody>${LISTS_AT_END.map(rowOfList).join("")}</tbody></table>
-    <h2>You have finished ${count} of the ${SCREENS.length} sections. And now?</h2><div class="ways">${ways.join("")}</div>
     <h2>When is the list with one lock fast enough?</h2>
     <p class="prose">While calls are short. With 16 numbers, the extra locks and checks cost more than they save, and only lock-free was faster. With
     1,000 numbers, lazy and lock-free win, and a balanced tree behind one lock beats each list. Hand over hand and
-    optimistic were slower than one lock at both sizes: hand over hand locks every node on its way, and optimistic walks twice.</p>
+    optimistic were slower than one lock at both sizes: hand over hand locks every node on its way, and optimistic walks at least twice.</p>
     <table class="five"><caption>Millions of calls a second, measured with four threads on four processors, one third each of add, remove and contains</caption>
     <thead><tr><th>The list</th><td>16 numbers</td><td>1,000 numbers</td></tr></thead>
     <tbody>${[...LISTS_AT_END, TREE].map(([name, , , , , few, many]) => rowOf(name, few, many)).join("")}</tbody></table>${byId("truth").innerHTML}

@@ -155,8 +155,8 @@ function keepPart({ number, at }, { id }) {
 }
 
 function focusOn() {
-  const isElsewhere = document.activeElement.closest(":is(button, a, input, [tabindex='0']):not(.again button, .content)") !== null;
-  if (!isLecture() && !isElsewhere) setTimeout(() => part("#go-on")?.focus({ preventScroll: true })); // after the key press, which would press the button too
+  const isElsewhere = () => document.activeElement.closest(":is(button, a, input, [tabindex='0']):not(.again button, .content)")?.getClientRects().length > 0; // (a low window hides the buttons of threads)
+  if (!isLecture()) setTimeout(() => isElsewhere() || part("#go-on")?.focus({ preventScroll: true })); // after the key press, which would press the button too
 }
 
 // Returns the thread to press next to complete the task. If the task can fail, a search finds the thread; otherwise the screen's `help` lists the presses.

@@ -13,13 +13,19 @@ const nodeName = (state, name) => {
 };
 export const answerText = (answer) => answer.replace(/^at-/, "");
 
-export function saidOf(moment, { plain = false } = {}) {
+export function saidOf(moment, { plain = false, isPath = false } = {}) {
   const { event } = moment;
   if (event === null) return "";
-  const said = deedSaid(moment, plain);
+  const said = deedSaid(moment, plain) + (isPath ? lockLeftOut(moment) : "");
   const { call } = event;
   const answer = event.answer === undefined ? "" : ` ${bold(`${callText(call)} returns ${answerText(event.answer)}.`)}`;
   return `${chipOf(event.thread)} ${said}${answer}`;
+}
+
+// Tells that a remove does not lock its node. Only the path tells this: in Break, it would name the missing check.
+function lockLeftOut({ trace, event: { call, word, saw } }) {
+  const isFound = trace.lacks === "second-lock" && call.operation === "remove" && word?.endsWith(".key") && Number(saw) === call.key;
+  return isFound ? ` It does not lock ${saw}.` : "";
 }
 
 function deedSaid(moment, plain) {
@@ -37,6 +43,9 @@ function deedSaid(moment, plain) {
   return writeSaid(moment, owner, who);
 }
 
+// Returns the names of the nodes with locks that the event's thread holds after the event.
+const lockedBy = ({ state, event }) => (state.locks()[`t${event.thread}`] ?? []).map((word) => nodeName(state, ownerIn(word)));
+
 // Decides whether a thread holds the lock that it releases: a broken list can release a lock that it does not hold.
 function isHeld({ trace, event }) {
   const isTaken = ({ word, deed, saw, from }) => word === event.word && (deed === "store" || saw === from);
@@ -44,11 +53,18 @@ function isHeld({ trace, event }) {
   return last?.deed === "exchange" && last.thread === event.thread;
 }
 
+// Decides whether a thread releases a lock that it holds, just after another one.
+function isSecond({ trace, event }) {
+  const last = trace.events().slice(0, event.number - 1).findLast(({ thread }) => thread === event.thread);
+  return last.deed === "store" && isLock(last.word) && last.word !== event.word && [last, event].every((one) => isHeld({ trace, event: one }));
+}
+
 function lockSaid(event, who, plain, waits, moment) {
   if (plain) return event.deed === "store" ? "is done." : "starts.";
   const what = who === undefined || event.word === "list.lock" ? "the lock" : `the lock of ${who}`;
-  if (event.deed === "store") return `releases ${what}${isHeld(moment) ? "" : ", which it does not hold"}.`;
-  if (event.saw === event.from) return `takes ${what}.`;
+  const locked = lockedBy(moment);
+  if (event.deed === "store") return locked.length === 0 && isSecond(moment) ? "has released both locks." : `releases ${what}${isHeld(moment) ? "" : ", which it does not hold"}.`;
+  if (event.saw === event.from) return `takes ${what}${locked.length > 1 ? `: it holds ${locked.join(" and ")}` : ""}.`;
   return `wants ${what}, but ${chipOf(event.saw.slice(1))} holds it. ${bold(waits ? "It waits." : "It continues all the same.")}`;
 }
 
@@ -90,7 +106,8 @@ function linkSaid(moment, owner, who, phase) {
   }
   if (phase === "again") {
     if (!isPred || before.pc !== 8) return `walks from ${who} once more.`;
-    if (held.pc !== 14 || held.reply !== "none") return "sees that pred still points to curr.";
+    const locked = lockedBy(moment);
+    if (held.pc !== 14 || held.reply !== "none") return `${locked.length > 1 ? `holds ${locked.join(" and ")}, and ` : ""}sees that pred still points to curr.`;
     const why = state.chain().includes(before.curr) ? "something was linked in between." : "curr was unlinked.";
     return `sees that ${who} points to ${to} now: ${bold(why)} It starts again.`;
   }

@@ -228,7 +228,7 @@ def test_the_sentence_about_a_change_stays_until_the_next_press(visitor):
 
 def test_the_label_of_a_press_names_each_of_its_deeds(visitor):
     for address, keys, words in (("#story=6", "aa", "walk, then lock pred and curr"), ("#story=7.2", "aa", "walk, then lock pred and curr"), ("#story=7", "", "walk to 5, read its mark, return"),
-                                 ("#story=4.2", "a", "read the next; lock it to pass"), ("#story=4.3", "b", "lock the next node")):
+                                 ("#story=4.2", "a", "read the next node"), ("#story=4.3", "b", "lock the next node")):
         visitor.open(address)
         visitor.step(keys)
         assert words in visitor.text(".dock"), address
@@ -325,7 +325,7 @@ def test_the_reader_finds_the_moment_before_it_is_shown(visitor):
     visitor.script("document.querySelectorAll('.content')[1].focus()")
     visitor.press("Enter")
     visitor.revealed()
-    definition = "Each call appears to take effect at one moment between its start and its end, and in the order of these moments every answer is correct."
+    definition = "Each call appears to take effect at one moment between its start and its end, and in the order of these moments every answer is the one a set used by one thread would give."
     assert "linearizable" in visitor.text(".reveal") and definition in visitor.text(".why")
 
 
