@@ -1027,8 +1027,10 @@ function checkOwn(ask) {
   const report = ask("listset_replay", schedule).text;
   const exercise = exerciseOf(report, pick(["points", "replies"]));
   const answer = draw(2) === 0 ? placedAnswer(exercise) : writtenAnswer(exercise);
+  const it = { ...exercise, quota: 2, answer, text: "" };
   if (++own.count % 6 === 0) answer.replies.clear();
-  const it = { ...exercise, quota: 2, answer, text: `${report}${answer.order().map(({ call, reply }) => `${call.id}-${reply}`)}` };
+  if (own.count % 6 === 3) stepsOf(it).slice(1).forEach((step) => answer.setReply(step.call, step.answer)); // the replies that are correct in the reader's order
+  it.text = `${report}${answer.order().map(({ call, reply }) => `${call.id}-${reply}`)}`;
   const { says } = verdictOn(ask, answer);
   checkSentences(OF_OWN, it, says.startsWith("Still") ? [says] : says.split(/(?<=\.) /));
 }
