@@ -66,13 +66,13 @@ export function showStrip(figure) {
   Object.assign(scale, { edge: scale.edge + room, width: wide });
   figure.scale = scale;
   figure.part("strip").style.cssText = `--zoom:${zoomOf(figure)};--grown:${grown}`;
-  setHtml(figure.part("strip"), tag("div", { class: "calls" }, drawCalls(run.trace, scale)) + drawContents(run.trace, scale) + LEGEND);
+  setHtml(figure.part("strip"), tag("div", { class: "calls" }, drawCalls(run.trace, scale)) + drawContents(run.trace, scale) + legendOf(figure.spec));
 }
 const isLow = ({ spec }) => (isLecture() ? spec.prompt !== false : innerHeight < 760 && !spec.isPath); // (the narrow bars of two lists have no room for labels)
 // The path draws its bars larger, and aligns the list with them.
 const zoomOf = ({ spec, stripWide }) => (isLecture() ? innerHeight / 450 : !spec.isPath ? 1 : stripWide < 600 ? 1.34 : stripWide < 1500 ? 1.35 : 1.55);
 export const barEnds = (figure) => [(HISTORY_LEFT - 6) * zoomOf(figure), 16 * zoomOf(figure)];
-const LEGEND = '<p class="small legend">● the call changes the set · ○ earliest moment when its answer is correct</p>';
+const legendOf = ({ isTimed }) => `<p class="small legend">● the call changes the set · ○ ${isTimed ? "a" : "earliest"} moment when its answer is correct</p>`;
 const MOST_CALLS = 400; // pixels; if the bars are higher, they scroll
 
 export function scrollToLane(figure) {

@@ -135,7 +135,10 @@ function pressedMoment(contents, index) {
   const stretches = figure.part("strip").querySelectorAll(".content");
   stretches.forEach((stretch) => stretch.classList.remove("press"));
   stretches[index].classList.add("found");
+  const middleOf = (part) => part.getBBox().x + part.getBBox().width / 2;
   figure.box.classList.remove("hides-points");
+  const by = middleOf(stretches[index].querySelector("rect")) - middleOf(figure.part("strip").querySelector(".hole"));
+  figure.part("strip").querySelectorAll(".point:has(.hole), .stem.thread-0").forEach((drawn) => drawn.setAttribute("transform", `translate(${by})`)); // to the pressed time
   done();
 }
 
