@@ -61,9 +61,15 @@ function checkByHand(ask) {
   [[first, 10], [contains, 39], [remove, 23], [second, 36]].forEach(([call, at]) => answer.place(call, at));
   [first, remove, second].forEach((call) => answer.setReply(call, "true"));
   const says = () => verdictOn(ask, answer).says;
+  const without = verdictOn(ask, new OwnAnswer(answer.exercise));
+  check(`no reply is chosen: ${without.says}`, without.says === "Choose the four replies first." && without.missing === undefined);
   check(`a reply is missing: ${says()}`, says() === "Still missing: the reply of contains(5) of A.");
   answer.setReply(contains, "true");
-  check(`the wrong reply: ${says()}`, says().startsWith("contains(5) of A does not return true in this run."));
+  const isPossible = () => says().endsWith(" (Your order is possible, but it is not this run.)");
+  check(`the wrong reply: ${says()}`, says().startsWith("contains(5) of A does not return true in this run.") && isPossible());
+  answer.place(contains, 23.5);
+  check(`the wrong reply, and no set returns it: ${says()}`, says().startsWith("contains(5) of A does not return true in this run.") && !isPossible());
+  answer.place(contains, 39);
   answer.setReply(contains, "false");
   const set = "after add(5) of B in your order the set is {5}, and the call would return true.";
   const wrong = `contains(5) of A cannot return false there: ${set}`;

@@ -19,7 +19,21 @@ def test_replies_and_button_are_above_the_bar(visitor, size):
 def test_an_answer_without_point_and_reply_is_reported(visitor):
     visitor.open("#example=snip&judge")
     visitor.click("#judge-ask")
-    assert "moment" in visitor.text("#judge-verdict") and "reply" in visitor.text("#judge-verdict")
+    assert visitor.text("#judge-verdict") == "Choose the three replies first." and not visitor.is_seen("#judge-bars .clash")
+    visitor.choose("#judge-replies select", "true")
+    visitor.click("#judge-ask")
+    assert "the moment of" in visitor.text("#judge-verdict") and "the moment and the reply of" in visitor.text("#judge-verdict")
+
+
+def test_an_answer_without_replies_is_reported_above_the_bar(visitor):
+    fit(visitor, 1366, 640)
+    visitor.open("#seed=coarse.2.5.2.9&judge")
+    for choose in (False, True):
+        if choose:
+            visitor.choose("#judge-replies select", "true")
+        visitor.script("document.getElementById('judge-ask').click()")
+        bottom = "document.getElementById('judge-verdict').getBoundingClientRect().bottom"
+        visitor.wait(f"return {bottom} <= document.getElementById('dock').getBoundingClientRect().top")
 
 
 def test_judge_uses_the_words_of_the_path(visitor):

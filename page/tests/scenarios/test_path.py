@@ -3,6 +3,7 @@
 import time
 
 import pytest
+from test_stage import fit
 
 
 def guess(visitor, key):
@@ -102,6 +103,25 @@ def test_the_path_counts_its_questions(visitor):
     visitor.open("#story=10")
     questions = visitor.script("return document.querySelectorAll('.dots a:not(.end)').length")
     assert questions == 9 and f"finished 0 of the {questions} sections" in visitor.text(".end h2")
+
+
+def test_the_last_screen_shows_its_choices_first(visitor):
+    fit(visitor, 1366, 640)
+    visitor.open("#story=10")
+    assert visitor.script("""const foot = document.querySelector(".foot").getBoundingClientRect().top;
+        return [...document.querySelectorAll(".way")].map((it) => it.getBoundingClientRect().bottom <= foot)""") == [True] * 5
+
+
+def test_enter_continues_after_the_focused_button_is_hidden(visitor):
+    fit(visitor, 1366, 640)
+    visitor.open("#story=7")
+    visitor.step("a")
+    visitor.click("#show-me", "Start over")
+    visitor.step("ba")
+    visitor.revealed()
+    visitor.settle()
+    visitor.press("Enter")
+    visitor.wait("return location.hash === '#story=7.2'")
 
 
 def test_buttons_do_not_move(visitor):
@@ -263,7 +283,7 @@ def test_a_mark_warns_an_add_and_a_thread_helps(visitor):
 
 def test_the_answer_about_a_marked_node_depends_on_the_order(visitor):
     visitor.open("#story=7")
-    for keys, said in (("a", "not marked yet"), ("bba", "had unlinked 5 already"), ("ba", "with the mark, 5 has left the set")):
+    for keys, said in (("a", "not marked yet"), ("bb", "has unlinked 5 already"), ("bba", "had unlinked 5 already"), ("ba", "with the mark, 5 has left the set")):
         visitor.step(keys)
         assert said in visitor.text("#prompt"), keys
         if keys != "ba":
@@ -327,6 +347,9 @@ def test_the_reader_finds_the_moment_before_it_is_shown(visitor):
     visitor.revealed()
     definition = "Each call appears to take effect at one moment between its start and its end, and in the order of these moments every answer is the one a set used by one thread would give."
     assert "linearizable" in visitor.text(".reveal") and definition in visitor.text(".why")
+    assert visitor.script("""const at = (what) => document.querySelector(what).getBoundingClientRect();
+        const [found, ring] = [at(".content.found rect"), at(".point .hole")];
+        return ring.left > found.left + 4 && ring.right < found.right""")
 
 
 def test_tab_visits_the_moments_of_the_set(visitor):
