@@ -62,9 +62,11 @@ function factsAfter(state, event, others) {
   const keys = keysInChain(state);
   const keyOf = (name) => String(state.nodes[name].key);
   const nameOf = (name) => ({ head: "the head", tail: "the tail" })[name] ?? keyOf(name);
-  const locked = Object.keys(state.nodes).filter((name) => lockOf(name) === `t${event.thread}`);
-  locked.sort((one, other) => numberOf(keyOf(one)) - numberOf(keyOf(other)));
-  return { ...others, event, thread: `t${event.thread}`, lockedKeys: locked.map(nameOf), chain, keys, keyOf, lockOf, linkOf, locks: state.locks() };
+  const lockedKeys = () => {
+    const locked = Object.keys(state.nodes).filter((name) => lockOf(name) === `t${event.thread}`);
+    return locked.sort((one, other) => numberOf(keyOf(one)) - numberOf(keyOf(other))).map(nameOf);
+  };
+  return { ...others, event, thread: `t${event.thread}`, lockedKeys, chain, keys, keyOf, lockOf, linkOf, locks: state.locks() };
 }
 
 // Patterns and tests of the short sentences of the path, the tour with live lists (story/said.js), in the same form as CLAIMS.
@@ -81,8 +83,8 @@ const SHORT_CLAIMS = [
   [/ returns (\w+)\.$/, ([reply], { event }) => event.answer.replace("at-", "") !== reply],
   [/takes the lock(?: of [^:.]+)?[:.]/, (_, { event, lockOf, thread }) => lockOf(lockName(event)) !== thread],
   [/releases the lock(?: of [^.]+)?\./, (_, { event, lockOf }) => lockOf(lockName(event)) !== "free"],
-  [/(?:: it|^[A-C]) holds (.*?)(?:\.|, and sees)/, ([names], { lockedKeys }) => lockedKeys.length < 2 || names !== lockedKeys.join(" and ")],
-  [/has released both locks\./, (_, { event, lockedKeys, lastOwn }) => lockedKeys.length > 0 || lastOwn.word === event.word || ![lastOwn, event].every(({ released }) => released)],
+  [/(?:: it|^[A-C]) holds (.*?)(?:\.|, and sees)/, ([names], { lockedKeys }) => lockedKeys().length < 2 || names !== lockedKeys().join(" and ")],
+  [/has released both locks\./, (_, { event, lockedKeys, lastOwn }) => lockedKeys().length > 0 || lastOwn().word === event.word || ![lastOwn(), event].every(({ released }) => released)],
   [/It does not lock (\S+)\./, ([key], { event, lockOf, next, keyOf, lacks, thread }) => lacks === null || keyOf(ownerOf(event)) !== key || lockOf(ownerOf(event)) === thread || next?.word === `${ownerOf(event)}.lock`],
   [/wants the lock.*, but ([A-C]) holds it/, ([other], { event, lockOf, thread }) => inPage("holderOf")(lockOf(lockName(event))) !== other || lockOf(lockName(event)) === thread],
   [/ It waits\./, (_, { event, next }) => next !== null && next.word !== event.word],
@@ -148,7 +150,7 @@ function readRun(trace) {
     state.moveTo(event.number - 1);
     const chainBefore = state.chain();
     const nextWalk = events.slice(index + 1).find(({ thread, word }) => thread === event.thread && /\.link$/.test(word ?? "")) ?? null;
-    const lastOwn = events.slice(0, index).findLast(({ thread }) => thread === event.thread);
+    const lastOwn = () => events.slice(0, index).findLast(({ thread }) => thread === event.thread);
     const before = { next, nextWalk, lastOwn, chainBefore, keysBefore: keysInChain(state), eventAt: (number) => events[number - 1], lacks: trace.lacks };
     const moment = inPage("momentAt")(state, event.number);
     const [sentence, short] = [inPage("sentenceOf")(moment), inPage("saidOf")(moment, { isPath: true })].map((text) => text.replace(/<[^>]*>/g, ""));

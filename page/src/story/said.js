@@ -47,23 +47,25 @@ function deedSaid(moment, plain) {
 const lockedBy = ({ state, event }) => (state.locks()[`t${event.thread}`] ?? []).map((word) => nodeName(state, ownerIn(word)));
 
 // Decides whether a thread holds the lock that it releases: a broken list can release a lock that it does not hold.
-function isHeld({ trace, event }) {
+function isHeld(event, events) {
   const isTaken = ({ word, deed, saw, from }) => word === event.word && (deed === "store" || saw === from);
-  const last = trace.events().slice(0, event.number - 1).findLast(isTaken);
+  const last = events.slice(0, event.number - 1).findLast(isTaken);
   return last?.deed === "exchange" && last.thread === event.thread;
 }
 
 // Decides whether a thread releases a lock that it holds, just after another one.
-function isSecond({ trace, event }) {
-  const last = trace.events().slice(0, event.number - 1).findLast(({ thread }) => thread === event.thread);
-  return last.deed === "store" && isLock(last.word) && last.word !== event.word && [last, event].every((one) => isHeld({ trace, event: one }));
+function isSecond(event, events) {
+  const last = events.slice(0, event.number - 1).findLast(({ thread }) => thread === event.thread);
+  return last.deed === "store" && isLock(last.word) && last.word !== event.word && [last, event].every((one) => isHeld(one, events));
 }
 
 function lockSaid(event, who, plain, waits, moment) {
   if (plain) return event.deed === "store" ? "is done." : "starts.";
   const what = who === undefined || event.word === "list.lock" ? "the lock" : `the lock of ${who}`;
   const locked = lockedBy(moment);
-  if (event.deed === "store") return locked.length === 0 && isSecond(moment) ? "has released both locks." : `releases ${what}${isHeld(moment) ? "" : ", which it does not hold"}.`;
+  const events = event.deed === "store" ? moment.trace.events() : [];
+  if (event.deed === "store" && locked.length === 0 && isSecond(event, events)) return "has released both locks.";
+  if (event.deed === "store") return `releases ${what}${isHeld(event, events) ? "" : ", which it does not hold"}.`;
   if (event.saw === event.from) return `takes ${what}${locked.length > 1 ? `: it holds ${locked.join(" and ")}` : ""}.`;
   return `wants ${what}, but ${chipOf(event.saw.slice(1))} holds it. ${bold(waits ? "It waits." : "It continues all the same.")}`;
 }
