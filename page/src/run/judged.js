@@ -77,9 +77,8 @@ export function reportOfAnswer(answer, callLines = answer.exercise.callLines) {
 }
 
 export function verdictOn(ask, answer) {
-  const unsaid = answer.unsaid();
   const asked = answer.exercise.calls.filter(({ ended }) => ended !== null && answer.exercise.level === "replies");
-  const nothing = { isRight: null, clash: null, report: null };
+  const [unsaid, nothing] = [answer.unsaid(), { isRight: null, clash: null, report: null }];
   if (asked.length > 1 && asked.every(({ id }) => !answer.replies.has(id))) return { ...nothing, says: `Choose the ${COUNTS[asked.length] ?? asked.length} replies first.` };
   if (unsaid.length > 0) return { ...nothing, missing: unsaid.map(({ id }) => id), says: `Still missing: ${unsaid.map(({ says }) => says).join(", ")}.` };
   const report = reportOfAnswer(answer);
