@@ -139,9 +139,9 @@ def test_a_run_that_does_not_break_the_list_is_reported(visitor):
     assert "not broken this time" in visitor.text("#prompt") and visitor.is_seen("[data-again]")
 
 
-def test_cards_have_no_numbers_and_a_level_has_that_of_its_link(visitor):
+def test_a_card_and_its_level_have_the_number_of_their_link(visitor):
     visitor.open("#break")
-    assert visitor.script("return [...document.querySelectorAll('.card i.small')].every((it) => !/[0-9#]/.test(it.innerText))")
+    assert visitor.script("return [...document.querySelectorAll('a.card')].every((it) => it.hash === `#break=${parseInt(it.querySelector('i.small').innerText)}`)")
     visitor.open("#break=7")
     assert visitor.is_seen("#figure") and "#break=7" in visitor.script("return document.querySelector('.kicker').textContent")
 
