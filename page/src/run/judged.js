@@ -44,8 +44,13 @@ export class OwnAnswer {
     if (this.points.get(call.id)?.at !== within) this.points.set(call.id, { at: within, turn: this.turn++ });
   }
 
-  take = (call) => this.points.delete(call.id);
-  setReply = (call, reply) => this.replies.set(call.id, reply);
+  take(call) {
+    this.points.delete(call.id);
+  }
+
+  setReply(call, reply) {
+    this.replies.set(call.id, reply);
+  }
 
   // Returns the reply that a call has in the reader's order. A pending call has no reply in the history, but is in the order if it has changed the set.
   replyOf(call) {
@@ -89,6 +94,7 @@ export function verdictOn(ask, answer) {
   const isOther = order.fault === "HistoryReply" && isPossible(ask, answer) ? " (Your order is possible, but it is not this run.)" : "";
   return { isRight: false, clash, report, says: faultInWords(answer, order) + isOther };
 }
+
 const COUNTS = ["", "", "two", "three", "four", "five", "six", "seven", "eight", "nine", "ten"];
 
 // Decides whether the reader's order explains a run of these calls with the reader's replies. That run can leave other numbers.

@@ -70,7 +70,9 @@ export class Figure {
     markBusy(false);
   }
 
-  part = (name) => this.box.querySelector(`.${name}`);
+  part(name) {
+    return this.box.querySelector(`.${name}`);
+  }
 
   set(given) {
     Object.assign(this, given);

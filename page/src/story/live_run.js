@@ -30,14 +30,18 @@ export class ShownRun {
     this.count = count;
   }
 
-  isIdle = (thread) => this.state.threads[thread].pc === 0;
+  isIdle(thread) {
+    return this.state.threads[thread].pc === 0;
+  }
 
   // `promised` returns the keys in the set after `count` events according to the linearization points. `has` returns the keys that a walk over the list finds.
   promised(count = this.trace.total) {
     return promisedKeys(this.trace, count);
   }
 
-  has = () => keysInChain(this.state);
+  has() {
+    return keysInChain(this.state);
+  }
 }
 
 /**
@@ -62,7 +66,9 @@ export class LiveRun extends ShownRun {
     return linesOf(text);
   }
 
-  textOf = (lines) => scheduleText(this.spec, lines);
+  textOf(lines) {
+    return scheduleText(this.spec, lines);
+  }
 
   traceOf(lines) {
     const { text } = askList(askNow, "listset_trace", this.spec.lacks, this.textOf(lines));
