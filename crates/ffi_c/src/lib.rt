@@ -1,5 +1,5 @@
 //! Exports the functions of `ffi_sets` to C: sets of keys that threads share, used through handles (`CSeat`). A handle
-//! is empty, or owns a seat (the right to call the set as one thread), a receipt, or a closed set.
+//! is empty, or owns a seat (one thread's access to the set), a receipt, or a closed set.
 //!
 //! Each function calls the function of `ffi_sets` with the same contract. The parameter `alloc` has size zero: C passes
 //! no argument for it.
@@ -16,9 +16,9 @@ use ffi_sets::CSeat;
 use std::alloc::Global;
 
 /// Opens a set of the list `kind` (0 coarse, 1 fine, 2 optimistic, 3 lazy, 4 lock-free) with 1 to 64 `seats`, a `quota`
-/// of 0 to 16,384, and at most 1,048,576 `keys` in strictly increasing order. Stores a seat (the right to call the set
-/// as one thread) in `out`, which must be empty. All other seats can be split off this seat. No other open set may have
-/// the same `number`, because `listset_gather` uses it to compare the sets of two seats.
+/// of 0 to 16,384, and at most 1,048,576 `keys` in strictly increasing order. Stores a seat (one thread's access to the
+/// set) in `out`, which must be empty. All other seats can be split off this seat. No other open set may have the same
+/// `number`, because `listset_gather` uses it to compare the sets of two seats.
 ///
 /// Returns `DONE`. On an error, changes nothing and returns `IS_SEAT` if `out` is not empty, `BAD_KIND`, `BAD_SEATS`,
 /// `BAD_QUOTA`, `BAD_KEYS`, or `OUT_OF_MEMORY` if an allocation failed. Does not block.
@@ -35,7 +35,7 @@ pub extern "C" fn listset_open(
     ffi_sets::open_set(alloc, kind, seats, quota, number, keys, out)
 }
 
-/// Splits a seat (the right to call the set as one thread) off `seat` and stores it in `out`, which must be empty.
+/// Splits a seat (one thread's access to the set) off `seat` and stores it in `out`, which must be empty.
 ///
 /// Returns `DONE`. On an error, changes nothing and returns the first that applies: `IS_SEAT` if `out` is not empty,
 /// `NO_SEAT` if `seat` is empty, `NO_MORE` if no seat can be split off it, or it contains a receipt or a closed set,
@@ -106,8 +106,8 @@ pub extern "C" fn listset_most_reads(seats: u32, quota: u32, opening: u32) -> u6
     ffi_sets::most_reads(seats, quota, opening)
 }
 
-/// Stores a receipt in `out`, which must be empty. The receipt covers everything that `seat` (the right to call the set
-/// as one thread) has seen: its own calls, and everything seen by the seats merged into it and by the receipts that it
+/// Stores a receipt in `out`, which must be empty. The receipt covers everything that `seat` (one thread's access to
+/// the set) has seen: its own calls, and everything seen by the seats merged into it and by the receipts that it
 /// accepted. `seat` does not change.
 ///
 /// Returns `DONE`. On an error, changes nothing and returns the first that applies: `IS_SEAT` if `out` is not empty,
@@ -119,9 +119,9 @@ pub extern "C" fn listset_receipt_of(alloc: Global, seat: &mut CSeat, out: &mut 
     ffi_sets::give_receipt(alloc, seat, out)
 }
 
-/// Passes the receipt `given` to `seat` (the right to call the set as one thread). In the order of all calls, later
-/// calls of `seat` follow every call that the receipt covers. `given` is empty afterwards. The caller must ensure that
-/// a seat and a receipt with the same list and number belong to the same set.
+/// Passes the receipt `given` to `seat` (one thread's access to the set). In the order of all calls, later calls of
+/// `seat` follow every call that the receipt covers. `given` is empty afterwards. The caller must ensure that a seat
+/// and a receipt with the same list and number belong to the same set.
 ///
 /// Returns `DONE`. On an error, changes nothing and returns `NO_SEAT` if `seat` or `given` is empty, or `NO_GATHER` if
 /// they are not a seat and a receipt with the same list and number. Does not block or allocate.
@@ -140,9 +140,8 @@ pub extern "C" fn listset_seats_within(alloc: Global, seat: &mut CSeat, all: &mu
     ffi_sets::count_seats(alloc, seat, all)
 }
 
-/// Merges the seat `from` (the right to call the set as one thread), including all seats that it contains, into `into`.
-/// `from` is empty afterwards. The caller must ensure that two seats with the same list and number belong to the same
-/// set.
+/// Merges the seat `from` (one thread's access to the set), including all seats that it contains, into `into`. `from`
+/// is empty afterwards. The caller must ensure that two seats with the same list and number belong to the same set.
 ///
 /// Returns `DONE`. On an error, changes nothing and returns `NO_SEAT` if `into` or `from` is empty, or `NO_GATHER` if
 /// they are not two seats with the same list and number. Does not block or allocate.
@@ -169,8 +168,8 @@ pub extern "C" fn listset_keys(alloc: Global, closed: &mut CSeat, room: &mut [u3
     ffi_sets::give_keys(alloc, closed, room)
 }
 
-/// Drops the contents of `seat`, which is empty afterwards. A set cannot be closed once one of its seats (rights to
-/// call as one thread) has been dropped. Does not block.
+/// Drops the contents of `seat`, which is empty afterwards. A set cannot be closed once one of its seats (one for each
+/// thread) has been dropped. Does not block.
 #[unsafe(no_mangle)]
 pub extern "C" fn listset_drop(alloc: Global, seat: &mut CSeat) {
     ffi_sets::let_go(alloc, seat);
