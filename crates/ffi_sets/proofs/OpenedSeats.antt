@@ -1,4 +1,4 @@
--- Lemmas about the seats of a set that was just opened. (A seat is the right to call the set as one thread.)
+-- Lemmas about the seats of a set that was just opened. (A seat is one thread's access to the set.)
 use Rattle.std.proofs.Common.{◌≡◌, ℕ, List, [], ◌∷◌, ◌++◌, Option, Some, None, IfSome, map, option_to_list, refl, sym, subst}
 use Rattle.std.specs.List.{AllByRecursion, range_with_len}
 use Rattle.std.proofs.lemmas.List.Elements.{All-from_recursion}

@@ -13,8 +13,8 @@ use Rattle.lset_live.specs.Explained.{HasAnswered, HasMadeAtMost}
 use Rattle.ffi_sets.specs.declared.held.Held.{Held}
 use Rattle.ffi_sets.specs.Sets.{table_in, set_in, seat_in, spare_in, keys_in, number_in, receipt_in, SameSet}
 
--- The effect of a call from a seat of a set (the right to call the set as one thread): the call returned this reply, or
--- the call gave up and the seat is lost, or the seat was already lost.
+-- The effect of a call from a seat of a set (one thread's access to the set): the call returned this reply, or the call
+-- gave up and the seat is lost, or the seat was already lost.
 abbrev pub HasCalledOf : Table → SetValue → Option SeatValue → Call → Option Reply → Option SeatValue → Type 0
 HasCalledOf T set (Some old) c (Some r) (Some new) = HasAnswered T set old c r new
 HasCalledOf T set (Some old) c None None = Unit {0}
@@ -35,15 +35,14 @@ CallsIn (Some T) (Some set) old c r new = HasCalledOf T set old c r new
 CallsIn T set old c r new = r ≡ None
 
 -- The effect of call `c` on the value that a C handle owns. The list, the set, its number, and the seats that can be
--- split off do not change. A receipt or a closed set has no seat (right to call the set), so the reply is `None`.
+-- split off do not change. A receipt or a closed set has no seat, so the reply is `None`.
 pub record HasCalledHeld (h : Held) (c : Call) (r : Option Reply) (h' : Held) : Type 0 where
   pub same : SameSet h h'
   pub spare : spare_in h' ≡ spare_in h
   pub keys : keys_in h' ≡ keys_in h
   pub called : CallsIn (table_in h) (set_in h) (seat_in h) c r (seat_in h')
 
--- Holds if the last call from a seat of a set (the right to call the set as one thread) took at most `most_reads`
--- steps.
+-- Holds if the last call from a seat of a set (one thread's access to the set) took at most `most_reads` steps.
 abbrev pub HasReadOf : SetValue → Option SeatValue → Option SeatValue → Type 0
 HasReadOf set (Some old) (Some new) = HasMadeAtMost (most_reads (sizes set.shape)) (thread_of old.past) new.events
 HasReadOf set old new = ⊥
@@ -52,7 +51,7 @@ abbrev pub ReadsIn : Option SetValue → Option SeatValue → Option SeatValue �
 ReadsIn (Some set) old new = HasReadOf set old new
 ReadsIn None old new = ⊥
 
--- Holds if the last call from the seat in a C handle (its right to call the set) took at most `most_reads` steps.
+-- Holds if the last call from the seat in a C handle took at most `most_reads` steps.
 abbrev pub HasReadHeld : Held → Held → Type 0
 HasReadHeld h h' = ReadsIn (set_in h) (seat_in h) (seat_in h')
 
@@ -74,15 +73,14 @@ HasCeiling true h c n a a' true h' = (r : Option Reply) × (n ≡ code_of r) × 
 HasCeiling false h c n a a' false h' = (n ≡ 255) × (a' ≡ a)
 HasCeiling full h c n a a' full' h' = ⊥
 
--- Holds if a seat of a set (the right to call the set as one thread) issued this receipt. The receipt names the seat's
--- set and contains the events that the seat has seen.
+-- Holds if a seat of a set (one thread's access to the set) issued this receipt. The receipt names the seat's set and
+-- contains the events that the seat has seen.
 abbrev pub HasNotedOf : Option SeatValue → Option ReceiptValue → Type 0
 HasNotedOf (Some s) (Some given) = given ≡ record { set = s.set; events = s.events }
 HasNotedOf s given = ⊥
 
--- A seat of the C handle `h` (its right to call the set) has issued the receipt `given`: the number of the set, and
--- the events that the seat has seen. `h'`, the value of the handle afterwards, has the same list, set, number and
--- seats as `h`.
+-- Holds if a seat of the C handle `h` has issued the receipt `given`: the number of the set, and the events that the
+-- seat has seen. `h'`, the value of the handle afterwards, has the same list, set, number and seats as `h`.
 pub record HasNotedHeld (h given h' : Held) : Type 0 where
   pub same : SameSet h h'
   pub spare : spare_in h' ≡ spare_in h
@@ -94,8 +92,8 @@ abbrev pub HasGiven : Bool → Held → Bool → Held → Bool → Held → Type
 HasGiven true h true given true h' = HasNotedHeld h given h'
 HasGiven full h out given full' h' = ⊥
 
--- Holds if a seat of a set (the right to call the set as one thread) has accepted a receipt. The seat has then seen all
--- events of the receipt. The record of its calls, and the number of seats that it holds, do not change.
+-- Holds if a seat of a set (one thread's access to the set) has accepted a receipt. The seat has then seen all events
+-- of the receipt. The record of its calls, and the number of seats that it holds, do not change.
 abbrev pub HasHeededOf : Option SeatValue → Option ReceiptValue → Option SeatValue → Type 0
 HasHeededOf (Some old) (Some given) (Some new) = (new.set ≡ old.set) × (new.past ≡ old.past) × (new.held ≡ old.held)
     × StartsWith new.events old.events × StartsWith new.events given.events

@@ -1,5 +1,5 @@
--- The parts of the value that a C handle owns: its list, its set, the number of the set, and its seats (rights to call
--- the set as one thread), its receipt (the events that a seat has seen) or its keys.
+-- The parts of the value that a C handle owns: its list, its set, the number of the set, and its seats (one for each
+-- thread), its receipt (the events that a seat has seen) or its keys.
 use Rattle.std.specs.Prelude.{Bool, true, ◌≡◌, ◌+◌, ℕ, List, [], Option, Some, None, length}
 use Rattle.std.specs.Arc.{arc_value}
 use Rattle.lset_steps.specs.Steps.{Table}
@@ -58,8 +58,8 @@ number_in (LazyReceipt o) = Some o.number
 number_in (LockFreeReceipt o) = Some o.number
 number_in h = None
 
--- `seat_in` returns the seat (the right to call the set) that a C handle owns, or None. `spare_in` returns the seats
--- that can be split off this seat.
+-- `seat_in` returns the seat (one thread's access to the set) that a C handle owns, or None. `spare_in` returns the
+-- seats that can be split off this seat.
 abbrev pub seat_in : Held → Option SeatValue
 seat_in (Coarse o) = o.seat
 seat_in (Fine o) = o.seat
@@ -96,8 +96,8 @@ abbrev pub GathersAt : Bool → Held → Bool → Held → Type 0
 GathersAt true h true h' = Gathers h h'
 GathersAt into h from h' = Unit {0}
 
--- Holds if a seat (the right to call the set as one thread), together with the seats in the list that can be split off
--- it, holds all seats of the set.
+-- Holds if a seat (one thread's access to the set), together with the seats in the list that can be split off it, holds
+-- all seats of the set.
 abbrev pub IsWhole : SetValue → Option SeatValue → List SeatValue → Type 0
 IsWhole set (Some seat) spare = seat.held + length spare ≡ set.shape.threads
 IsWhole set None spare = ⊥

@@ -1,5 +1,5 @@
-//! Makes calls for C from seats (a seat is the right to call a set as one thread), and converts replies and errors to
-//! the numbers that C functions return.
+//! Makes calls for C from seats (one thread's access to the set), and converts replies and errors to the numbers that C
+//! functions return.
 ghost use Rattle.std.specs.Prelude.{◌≡◌, true, false};
 ghost use Rattle.ffi_sets.specs.Calls.{HasMade, code_of};
 
@@ -36,9 +36,9 @@ pub fn fault_code(fault: OpenFault) -> u8 {
     }
 }
 
-/// Makes a call from `seat` (the right to call the set as one thread) and returns its reply as a number. Returns 255 if
-/// `seat` is empty or contains a receipt or a closed set, or if the call stops after 2^64 - 1 rounds of a loop without
-/// a reply. In this case the seat is lost.
+/// Makes a call from `seat` (one thread's access to the set) and returns its reply as a number. Returns 255 if `seat`
+/// is empty or contains a receipt or a closed set, or if the call stops after 2^64 - 1 rounds of a loop without a
+/// reply. In this case the seat is lost.
 pub fn call_from_seat(alloc: Global, seat: &mut CSeat, call: Call) -> u8
     ensures { HasMade seat.old.full seat.old.held call result seat.new.full seat.new.held }
 {

@@ -1,5 +1,5 @@
-//! The numbers that the C functions return. `listset.h` has constants for them. A seat is the right to call a set as
-//! one thread. A receipt contains the events that a seat has seen.
+//! The numbers that the C functions return. `listset.h` has constants for them. A seat is one thread's access to the
+//! set. A receipt contains the events that a seat has seen.
 
 /// The function succeeded.
 pub const DONE: u8 = 0;
@@ -22,18 +22,17 @@ pub const BAD_KIND: u8 = 14;
 /// A `CSeat` that must be empty is not.
 pub const IS_SEAT: u8 = 15;
 
-/// The seat (the right to call the set as one thread) does not contain all seats of its set.
+/// The seat does not contain all seats of its set.
 pub const SEATS_OUT: u8 = 16;
 
-/// No seat (the right to call the set as one thread) can be split off this seat.
+/// No other seat can be split off this seat.
 pub const NO_MORE: u8 = 17;
 
-/// The arguments are neither two seats (rights to call the set as one thread) nor a seat and a receipt (the events that
-/// a seat has seen) with the same list and number.
+/// The arguments are neither two seats nor a seat and a receipt, or their lists or numbers differ.
 pub const NO_GATHER: u8 = 18;
 
 /// A `contains` on this list can block.
 pub const MAY_BLOCK: u8 = 254;
 
-/// The `CSeat` contains no seat (the right to call the set as one thread): it is empty, a receipt or a closed set.
+/// The `CSeat` contains no seat (one thread's access to the set): it is empty, a receipt or a closed set.
 pub const NO_SEAT: u8 = 255;

@@ -1,5 +1,5 @@
 //! Functions on a `Held` (the value that a C handle owns), for any of the five lists. A `Held` can have a seat of a set
-//! (the right to call the set as one thread) or a receipt (the events that a seat has seen).
+//! (one thread's access to the set) or a receipt (the events that a seat has seen).
 ghost use Rattle.lset_words.specs.declared.Call.TheVariants.{Contains};
 ghost use Rattle.std.specs.Prelude.{◌≤◌, Some, IfNone, IfSome, IfOk, IfErr};
 ghost use Rattle.ffi_sets.specs.Sets.{Gathers};
@@ -32,8 +32,8 @@ pub fn open_held(
     }))
 }
 
-/// Makes a call from the seat (the right to call the set as one thread) in `held`. Returns `None` if `held` has no
-/// seat, or if the call stops after 2^64 - 1 rounds of a loop without a reply. In this case the seat is lost.
+/// Makes a call from the seat (one thread's access to the set) in `held`. Returns `None` if `held` has no seat, or if
+/// the call stops after 2^64 - 1 rounds of a loop without a reply. In this case the seat is lost.
 pub fn call_held(held: &mut Held, call: Call) -> Option<Reply>
     ensures { HasCalledHeld held.old call result held.new }
 {
@@ -63,8 +63,8 @@ pub fn read_held(held: &mut Held, key: Key) -> Result<Reply, u8>
     reply.ok_or(NO_SEAT)
 }
 
-/// Returns a receipt, which contains all events that the seat (the right to call the set as one thread) in `held` has
-/// seen. Returns `None` if `held` has no seat.
+/// Returns a receipt, which contains all events that the seat (one thread's access to the set) in `held` has seen.
+/// Returns `None` if `held` has no seat.
 pub fn receipt_held(held: &mut Held) -> Option<Held>
     ensures { IfSome result (λ given. HasNotedHeld held.old given held.new) }
 {
@@ -78,9 +78,9 @@ pub fn receipt_held(held: &mut Held) -> Option<Held>
     })
 }
 
-/// Passes the receipt `given` (the events that a seat has seen) to the seat (the right to call the set as one thread)
-/// in `into`. Returns `None` on success. If the two are not a seat and a receipt with the same list and number, changes
-/// nothing and returns `given`.
+/// Passes the receipt `given` (the events that a seat has seen) to the seat (one thread's access to the set) in `into`.
+/// Returns `None` on success. If the two are not a seat and a receipt with the same list and number, changes nothing
+/// and returns `given`.
 pub fn heed_held(into: &mut Held, given: Held) -> Option<Held>
     requires { Gathers into.old given }
     ensures { IfNone result (HasHeededHeld into.old given into.new) }
@@ -97,8 +97,8 @@ pub fn heed_held(into: &mut Held, given: Held) -> Option<Held>
     })
 }
 
-/// Returns the number of seats (rights to call the set as one thread) that `held` contains, and the number of all seats
-/// of its set. Returns 0 and 0 if `held` has no seat.
+/// Returns the number of seats (one for each thread) that `held` contains, and the number of all seats of its set.
+/// Returns 0 and 0 if `held` has no seat.
 pub fn counts_held(held: &Held) -> (u64, u32) {
     match held {
         Held::Coarse(of) => of.counts(),
@@ -110,7 +110,7 @@ pub fn counts_held(held: &Held) -> (u64, u32) {
     }
 }
 
-/// Returns whether a seat (the right to call the set as one thread) can be split off the seat in `held`.
+/// Returns whether a seat (one thread's access to the set) can be split off the seat in `held`.
 pub fn has_spare(held: &Held) -> bool {
     match held {
         Held::Coarse(of) => !of.spare.is_empty(),
@@ -122,8 +122,8 @@ pub fn has_spare(held: &Held) -> bool {
     }
 }
 
-/// Splits a seat (the right to call the set as one thread) off the seat in `held`. Returns the error `NO_MORE` if no
-/// seat can be split off, or `OUT_OF_MEMORY` if the set's counter of owners is full.
+/// Splits a seat (one thread's access to the set) off the seat in `held`. Returns the error `NO_MORE` if no seat can be
+/// split off, or `OUT_OF_MEMORY` if the set's counter of owners is full.
 pub fn split_held(held: &mut Held, alloc: Global) -> Result<Held, u8> {
     Ok(match held {
         Held::Coarse(of) => Held::Coarse(of.split(alloc)?),
@@ -135,8 +135,8 @@ pub fn split_held(held: &mut Held, alloc: Global) -> Result<Held, u8> {
     })
 }
 
-/// Merges the seat (the right to call the set as one thread) in `from` into the seat in `into`. Returns `None` on
-/// success. If the two are not seats with the same list and number, changes nothing and returns `from`.
+/// Merges the seat (one thread's access to the set) in `from` into the seat in `into`. Returns `None` on success. If
+/// the two are not seats with the same list and number, changes nothing and returns `from`.
 pub fn gather_held(alloc: Global, into: &mut Held, from: Held) -> Option<Held>
     requires { Gathers into.old from }
 {

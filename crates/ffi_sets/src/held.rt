@@ -1,5 +1,5 @@
-//! The value that a C handle owns: a seat (the right to call the set as one thread), a receipt (the events that a seat
-//! has seen), or the keys of a closed set.
+//! The value that a C handle owns: a seat (one thread's access to the set), a receipt (the events that a seat has
+//! seen), or the keys of a closed set.
 ghost use Rattle.std.specs.Prelude.{◌≡◌, IfSome};
 ghost use Rattle.std.specs.Arc.{arc_value};
 ghost use Rattle.ffi_sets.specs.Facts.{AreOf, seat_of_prop, spare_of_prop};
@@ -14,8 +14,8 @@ use lset_steps::Machine;
 use std::alloc::Global;
 use std::sync::Arc;
 
-/// A seat of a set (the right to call the set as one thread), with the set, the number that the caller gave the set,
-/// and the seats that can be split off. `seat` is `None` after a call that stopped without a reply.
+/// A seat of a set (one thread's access to the set), with the set, the number that the caller gave the set, and the
+/// seats that can be split off. `seat` is `None` after a call that stopped without a reply.
 #[derive(Drop)]
 pub struct SeatOfSet<M: Bounded> {
     pub set: Arc<LiveSet<M>, Global>,
@@ -26,17 +26,17 @@ pub struct SeatOfSet<M: Bounded> {
     ghost spare_of: { AreOf (arc_value set) spare.items } by { spare_of_prop spare.items (arc_value set) },
 }
 
-/// A receipt for the events that a seat (the right to call the set as one thread) has seen, with the number that the
-/// caller gave the set.
+/// A receipt for the events that a seat (one thread's access to the set) has seen, with the number that the caller gave
+/// the set.
 #[derive(Drop)]
 pub struct ReceiptOfSet<M: Machine> {
     pub number: u64,
     pub receipt: Receipt<M>,
 }
 
-/// The value of a full C handle: a seat (the right to call the set as one thread) of a set of one of the five lists, a
-/// receipt (the events that a seat has seen) from such a set, or the keys of a closed set. It is `Nothing` only while a
-/// function has taken the value out to work with it.
+/// The value that a non-empty C handle owns: a seat (one thread's access to a set), a receipt (the events that a seat
+/// has seen), or the keys of a closed set. A handle has the value `Nothing` only while a function has taken its value
+/// out to work with it.
 #[derive(Drop)]
 pub enum Held {
     Coarse(SeatOfSet<CoarseList>),

@@ -1,5 +1,5 @@
-//! Functions on a seat of a set (the right to call the set as one thread), for any list `M`. A receipt contains the
-//! events that a seat has seen.
+//! Functions on a seat of a set (one thread's access to the set), for any list `M`. A receipt contains the events that
+//! a seat has seen.
 ghost use Rattle.std.specs.Prelude.{◌≡◌, ◌↔◌, ◌+◌, ◌≤◌, [], Some, IfNone, IfSome, IsTrue, length, vec_capacity};
 ghost use Rattle.std.specs.Arc.{arc_value};
 ghost use Rattle.lset_words.specs.declared.Call.TheVariants.{Contains};
@@ -18,8 +18,7 @@ use std::alloc::Global;
 use std::mem::replace;
 use std::sync::Arc;
 
-/// Opens a set and returns a seat (the right to call the set as one thread). All other seats can be split off this
-/// seat.
+/// Opens a set and returns a seat (one thread's access to the set). All other seats can be split off this seat.
 pub fn open_of<M: Bounded>(
     alloc: Global,
     seats: u32,
@@ -40,8 +39,7 @@ pub fn open_of<M: Bounded>(
     })
 }
 
-/// Merges all seats (rights to call the set as one thread) in `spare` into `seat`, and returns `seat`. All must belong
-/// to `set`.
+/// Merges all seats in `spare` into `seat`, and returns `seat`. All must belong to `set`.
 fn gathered<M: Bounded>(set: &LiveSet<M>, seat: Seat<M>, spare: Vec<Seat<M>>) -> Seat<M>
     requires seat { seat.set ≡ set.now }
     requires spare { AreOf set.now spare.items }
@@ -72,8 +70,8 @@ fn keys_left<M: Bounded>(
 }
 
 impl<M: Bounded> SeatOfSet<M> {
-    /// Makes a call from this seat (the right to call the set as one thread). Returns `None` if the seat was already
-    /// lost, or if the call stops after 2^64 - 1 rounds of a loop without a reply. In this case the seat is lost.
+    /// Makes a call from this seat (one thread's access to the set). Returns `None` if the seat was already lost, or if
+    /// the call stops after 2^64 - 1 rounds of a loop without a reply. In this case the seat is lost.
     pub fn call(&mut self, call: Call) -> Option<Reply>
         ensures set { arc_value self.new.set ≡ arc_value self.old.set }
         ensures number { self.new.number ≡ self.old.number }
@@ -88,8 +86,8 @@ impl<M: Bounded> SeatOfSet<M> {
         Some(reply)
     }
 
-    /// Splits a seat (the right to call the set as one thread) off this one. Returns the error `NO_MORE` if no seat can
-    /// be split off, or `OUT_OF_MEMORY` if the set's counter of owners is full.
+    /// Splits a seat (one thread's access to the set) off this one. Returns the error `NO_MORE` if no seat can be split
+    /// off, or `OUT_OF_MEMORY` if the set's counter of owners is full.
     pub fn split(&mut self, alloc: Global) -> Result<SeatOfSet<M>, u8> {
         if self.spare.is_empty() {
             return Err(NO_MORE);
@@ -133,8 +131,8 @@ impl<M: Bounded> SeatOfSet<M> {
         None
     }
 
-    /// Returns a receipt, which contains all events that this seat (the right to call the set as one thread) has seen.
-    /// Returns `None` if the seat was lost.
+    /// Returns a receipt, which contains all events that this seat (one thread's access to the set) has seen. Returns
+    /// `None` if the seat was lost.
     pub fn receipt(&mut self) -> Option<ReceiptOfSet<M>>
         ensures set { arc_value self.new.set ≡ arc_value self.old.set }
         ensures number { self.new.number ≡ self.old.number }
@@ -151,9 +149,9 @@ impl<M: Bounded> SeatOfSet<M> {
         })
     }
 
-    /// Passes a receipt to this seat (the right to call the set as one thread), which has then seen everything that the
-    /// receipt covers. Returns `None` on success. If the numbers differ, or the seat was lost, changes nothing and
-    /// returns `given`.
+    /// Passes a receipt to this seat (one thread's access to the set), which has then seen everything that the receipt
+    /// covers. Returns `None` on success. If the numbers differ, or the seat was lost, changes nothing and returns
+    /// `given`.
     pub fn after(&mut self, given: ReceiptOfSet<M>) -> Option<ReceiptOfSet<M>>
         requires { self.old.number ≡ given.number → arc_value self.old.set ≡ given.receipt.set }
         ensures set { arc_value self.new.set ≡ arc_value self.old.set }
@@ -232,7 +230,7 @@ impl<M: Bounded> SeatOfSet<M> {
 
 impl<M: OpenContains> SeatOfSet<M> {
     /// Makes a `contains` of `key` from this seat without blocking, in at most `most_reads` steps. Returns `None` if
-    /// the seat was lost before.
+    /// the seat was lost in an earlier call.
     pub fn contains_now(&mut self, key: Key) -> Option<Reply>
         ensures set { arc_value self.new.set ≡ arc_value self.old.set }
         ensures number { self.new.number ≡ self.old.number }

@@ -1,9 +1,9 @@
 //! Running sets for C: functions on handles that C code keeps. The crate `ffi_c` exports them.
 //!
-//! A `CSeat` is a handle. It is empty, or owns a seat of a set (the right to call the set as one thread), a receipt
-//! (the events that a seat has seen), or the keys of a closed set. Each function accepts all arguments that its types
-//! allow, with one exception: seats and receipts with the same list and number must belong to the same set. `codes`
-//! defines the numbers of errors.
+//! A `CSeat` is a handle. It is empty, or owns a seat of a set (one thread's access to the set), a receipt (the events
+//! that a seat has seen), or the keys of a closed set. Each function accepts all arguments that its types allow, with
+//! one exception: seats and receipts with the same list and number must belong to the same set. `codes` defines the
+//! numbers of errors.
 //!
 //! A call from a seat stops without a reply after 2^64 - 1 rounds of a loop (`lset_live::Bounded`), because waiting
 //! forever would need a runtime, which C code does not have. The seat is then lost, and each later call from the seat
@@ -42,9 +42,9 @@ use std::alloc::Global;
 use std::mem::replace;
 
 /// Opens a set of the list `kind` (0 coarse, 1 fine, 2 optimistic, 3 lazy, 4 lock-free) with 1 to 64 `seats`, a `quota`
-/// of 0 to 16,384, and at most 1,048,576 `keys` in strictly increasing order. Stores a seat (the right to call the set
-/// as one thread) in `out`, which must be empty. All other seats can be split off this seat. No other open set may have
-/// the same `number`, because `gather_seats` uses it to compare the sets of two seats.
+/// of 0 to 16,384, and at most 1,048,576 `keys` in strictly increasing order. Stores a seat (one thread's access to the
+/// set) in `out`, which must be empty. All other seats can be split off this seat. No other open set may have the same
+/// `number`, because `gather_seats` uses it to compare the sets of two seats.
 ///
 /// Returns `DONE`. On an error, changes nothing and returns `IS_SEAT` if `out` is not empty, `BAD_KIND`, `BAD_SEATS`,
 /// `BAD_QUOTA`, `BAD_KEYS`, or `OUT_OF_MEMORY` if an allocation failed. Does not block.
@@ -68,7 +68,7 @@ pub fn open_set(
     }
 }
 
-/// Splits a seat (the right to call the set as one thread) off `seat` and stores it in `out`, which must be empty.
+/// Splits a seat (one thread's access to the set) off `seat` and stores it in `out`, which must be empty.
 ///
 /// Returns `DONE`. On an error, changes nothing and returns the first that applies: `IS_SEAT` if `out` is not empty,
 /// `NO_SEAT` if `seat` is empty, `NO_MORE` if `seat` is a receipt, a closed set, or a seat that cannot be split,
@@ -176,8 +176,8 @@ pub fn most_reads(seats: u32, quota: u32, opening: u32) -> u64
     }
 }
 
-/// Stores a receipt in `out`, which must be empty. The receipt covers everything that `seat` (the right to call the set
-/// as one thread) has seen: its own calls, and everything seen by the seats merged into it and by the receipts that it
+/// Stores a receipt in `out`, which must be empty. The receipt covers everything that `seat` (one thread's access to
+/// the set) has seen: its own calls, and everything seen by the seats merged into it and by the receipts that it
 /// accepted. `seat` does not change.
 ///
 /// Returns `DONE`. On an error, changes nothing and returns the first that applies: `IS_SEAT` if `out` is not empty,
@@ -201,9 +201,9 @@ pub fn give_receipt(alloc: Global, seat: &mut CSeat, out: &mut CSeat) -> u8
     }
 }
 
-/// Passes the receipt `given` to `seat` (the right to call the set as one thread). In the order of all calls, later
-/// calls of `seat` follow every call that the receipt covers. `given` is empty afterwards. The caller must ensure that
-/// a seat and a receipt with the same list and number belong to the same set.
+/// Passes the receipt `given` to `seat` (one thread's access to the set). In the order of all calls, later calls of
+/// `seat` follow every call that the receipt covers. `given` is empty afterwards. The caller must ensure that a seat
+/// and a receipt with the same list and number belong to the same set.
 ///
 /// Returns `DONE`. On an error, changes nothing and returns `NO_SEAT` if `seat` or `given` is empty, or `NO_GATHER` if
 /// they are not a seat and a receipt with the same list and number. Does not block or allocate.
@@ -243,9 +243,8 @@ pub fn count_seats(alloc: Global, seat: &mut CSeat, all: &mut u32) -> u64 {
     within
 }
 
-/// Merges the seat `from` (the right to call the set as one thread), including all seats that it contains, into `into`.
-/// `from` is empty afterwards. The caller must ensure that two seats with the same list and number belong to the same
-/// set.
+/// Merges the seat `from` (one thread's access to the set), including all seats that it contains, into `into`. `from`
+/// is empty afterwards. The caller must ensure that two seats with the same list and number belong to the same set.
 ///
 /// Returns `DONE`. On an error, changes nothing and returns `NO_SEAT` if `into` or `from` is empty, or `NO_GATHER` if
 /// they are not two seats with the same list and number. Does not block or allocate.
@@ -302,8 +301,8 @@ pub fn give_keys(alloc: Global, closed: &mut CSeat, room: &mut [u32]) -> usize {
     count
 }
 
-/// Drops the contents of `seat`, which is empty afterwards. A set cannot be closed once one of its seats (rights to
-/// call as one thread) has been dropped. Does not block.
+/// Drops the contents of `seat`, which is empty afterwards. A set cannot be closed once one of its seats (one for each
+/// thread) has been dropped. Does not block.
 pub fn let_go(alloc: Global, seat: &mut CSeat) {
     let _held = take(alloc, seat);
 }
