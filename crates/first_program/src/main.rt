@@ -77,8 +77,8 @@ fn two_lives<R: Threads + Wait + Sync>(rt: &R, alloc: Global) -> Result<(Outcome
     Ok((left, again))
 }
 
-/// Adds a key through a seat (the right to call the set as one thread). Returns the seat and a receipt, which contains
-/// the events that the seat has seen, including its own `add`.
+/// Adds a key through a seat (per-thread handle). Returns the seat and a receipt, which contains the events that the
+/// seat has seen, including its own `add`.
 fn add_and_tell<M: Running, R: Wait>(
     rt: &R,
     set: &LiveSet<M>,
