@@ -1,4 +1,4 @@
-//! CoarseList: a list set with a single lock for the whole list (Herlihy and Shavit's coarse-grained list).
+//! CoarseList: a list-based set with a single lock for the whole list (Herlihy and Shavit's coarse-grained list).
 #![tactic(auto)]
 
 ghost use Rattle.std.specs.Prelude.{◌≡◌};
@@ -11,7 +11,7 @@ use lset_steps::rows::{Targets, begun, decide, key_index, link_index, own_slot};
 use lset_steps::{Action, Fed, Local, Machine};
 use lset_words::{Call, HEAD, Key, Kind, LOCK, Reply};
 
-/// The list set with a single lock for all its nodes.
+/// The list-based set with a single lock for all its nodes.
 #[derive(Clone, Copy)]
 pub struct CoarseList;
 
