@@ -17,8 +17,6 @@ use Rattle.lset_command.specs.declared.command_line.Words.{Words}
 abbrev pub chosen : Command → List Text → OptionValues → Choice
 chosen command values options = record { command = command; values = values; options = options }
 
--- If the parsed command is the program's command (`listset`), a successful parse returns the subcommand that the
--- definition `subcommand_of` finds.
 pub program_matches : (m : ArgMatches) (a : App) (words : List Text) → a ≡ listset → HasMatchesOf a words m →
     subcommand_rows_of m ≡ subcommand_of listset words
 program_matches m a words is matches = (subst (λ (x : App). HasMatchesOf x words m) is matches refl).1

@@ -13,7 +13,6 @@ pub by_fields : (c : Command) (fields : Command-F Command) (a : App) → out-Com
 by_fields c fields a is app =
     subst (λ (f : Command-F Command). (app_of_fields f ≡ a) × (f.has_globals ≡ false)) (sym is) app
 
--- The name in the usage text does not affect how a command line is parsed.
 pub Makes-named : (made : Result Command AllocError) (old : Command) (a : App) (Rest : Command → Type 0)
     → IfOk made (λ c. (out-Command c ≡ record (out-Command old) { bin_name = (out-Command c).bin_name }) × Rest c)
     → IsApp old a → Makes made a

@@ -22,8 +22,6 @@ by_all_names f names all =
     f.entries.items
     ∙ sym (flat_map-map (λ (row : Row). values_by row.id (rows_of f)) row_of f.entries.items)
 
--- If `name` names an argument and not an option, the values that clap returns for it are the values that `values_by`,
--- the definition in the specification, returns.
 pub got : (f : Found) (name : Text) (values : Option (List Text)) → is_option name ≡ false →
     values ≡ option_map raw_values (matched_of f name)
     → values_by name (rows_of f) ≡ unwrap_or values []
@@ -45,8 +43,6 @@ first_and_rest : (name : Text) (left after : List Text) → Some name ≡ slice_
 first_and_rest name [] after first rest = absurd cc
 first_and_rest name (x ∷ xs) after first rest = cc
 
--- Loop step for the next argument. The invariant: the values found so far, followed by the values of the remaining
--- arguments, are all values.
 pub one_more : (rows : List Row) (all had has : List Text) (name : Text) (left after : List Text) → had
     ++ values_by_names rows left ≡ all
     → Some name ≡ slice_get left 0 → after ≡ drop 1 left → has ≡ had ++ values_by name rows → has

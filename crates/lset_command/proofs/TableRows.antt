@@ -9,7 +9,6 @@ use Rattle.std.specs.Str.{bytes_eq}
 use Rattle.clap.specs.Words.{App, Text}
 use Rattle.lset_command.specs.CommandLine.{CommandRow, command_in, row_of}
 
--- Loop step: adding one more row to the command.
 pub one_more : {A R : Type 0} (f : App → A → App) (g : R → A) (a : App) (rows : List R) (i : ℕ) (d : R) → i < length rows
     → f (fold f a (map g (take i rows))) (g (get_or rows i d)) ≡ fold f a (map g (take (i + 1) rows))
 one_more f g a rows i d inside =

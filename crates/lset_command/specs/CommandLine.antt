@@ -192,7 +192,7 @@ pub record CommandsAreNamed : Type 0 where
   pub faults : IsNamed (codes "faults") Faults ((codes "CAUSE", Value) ∷ [])
   pub explain : IsNamed (codes "explain") Explain (file ∷ [])
 
--- No two of these rows have the same name.
+-- Holds if no two of these rows have the same name.
 abbrev pub AreApart : List TableRow → Type 0
 AreApart [] = ⊤
 AreApart (row ∷ rows) = (row_named row.1 rows ≡ None) × AreApart rows
