@@ -32,7 +32,6 @@ module _ (IsFile : Option (List ℕ) → Type 0) (input output_old output_new st
       (told (asked a) r (path_of a) is
       (subst (λ file. EndsAsked (Some r) file IsFile input output_old output_new stderr_old stderr_new status) named ends))
 
-  -- If the command is `explain`, every ending is allowed, because nothing is proved about this command.
   pub unsaid : (a b : Choice) → a ≡ b → a.command ≡ Explain
       → EndsOnInput b IsFile input output_old output_new stderr_old stderr_new status
   unsaid a b same is =
