@@ -1,4 +1,5 @@
-//! FineList: a list set with node locks. Walks take the locks hand over hand (Herlihy and Shavit's fine-grained list).
+//! FineList: a list-based set with a lock for each node. Walks take the locks hand over hand (Herlihy and Shavit's
+//! fine-grained list).
 #![tactic(auto)]
 
 ghost use Rattle.std.specs.Prelude.{◌≡◌};
@@ -13,7 +14,7 @@ use lset_steps::rows::{
 use lset_steps::{Action, Fed, Local, Machine};
 use lset_words::{Call, HEAD, Key, Kind, Reply};
 
-/// The list set with one lock for each node. A walk locks the next node before it releases the previous node.
+/// The list-based set with one lock for each node. A walk locks the next node before it releases the previous node.
 #[derive(Clone, Copy)]
 pub struct FineList;
 
