@@ -106,7 +106,6 @@ pub record Calls (r : Run) (k : ℕ) (xs : List TracedCall) : Type 0 where
       → SomeCall (λ x. x.changed ≡ Some (suc j)) xs
 
 -- ---- A log entry of another thread does not change a pending call
--- A log entry does not affect a call that is completed or belongs to another thread.
 waits : {r : Run} {k : ℕ} {x : TracedCall} → (x.ended ≡ None → maker (r.log k) ≢ x.thread) → Traced r k x
     → Traced r (suc k) x
 waits {r} {k} {x} other t = record {
@@ -180,7 +179,6 @@ way_of t x u = (grind (arith, nat_tests), grind (arith, nat_tests))
 pub is_way : (t : ℕ) (x : TracedCall) → x.thread ≡ t → x.ended ≡ None → is_under_way t x ≡ true
 is_way t x e n = rw (equal_test x.thread t e, n) refl
 
--- If a call has made a change by the end of a step, it made the change in this step or before it.
 changed_as : (m n : ℕ) (change : Option Change) (before : Option ℕ) → changed_by m change before ≡ Some n
     → ((change ≡ None) × (before ≡ Some n)) ⊎ ((c : Change) × (change ≡ Some c) × (n ≡ m))
 changed_as m n None before e = inl (refl, e)

@@ -37,7 +37,6 @@ pub noted_in : (keys : List ℕ) (m : Kept) (k : ℕ) → noted_of (changes_in k
 noted_in keys m k = ap moments_in (lookup-map_values (λ (v : Vec ℕ Global). v.items) (is_at (nat_cmp k)) m.entries)
     ∙ items_mapped (get nat_cmp m k)
 
--- Recording a moment for `key` appends it to the moments of `key`, and leaves those of all other keys unchanged.
 noted_items : (m n : Kept) (key at : ℕ) (w : Vec ℕ Global) → UpdatesBy nat_cmp (nat_cmp key) m n (Some w)
     → w.items ≡ items_in (get nat_cmp m key) ++ at ∷ [] → (k : ℕ) → items_in (get nat_cmp n k)
     ≡ (if k == key then items_in (get nat_cmp m k) ++ at ∷ [] else items_in (get nat_cmp m k))
@@ -110,7 +109,6 @@ module _ (c d : ChangesValue) (key at : ℕ) (noted : (k : ℕ) → moments_of d
   ]
 
 module _ (c : ChangesValue) (key at : ℕ) (later : IsLaterThanAll (moments_of c) at) where
-  -- Recording the key that changed at moment `at` does not affect the keys recorded for other moments.
   listed_beside : (old new : BTreeMap ℕ ℕ) → UpdatesBy nat_cmp (nat_cmp at) old new (Some key)
       → ((k : ℕ) → All (IsListed old k) (moments_of c k)) → (k : ℕ) → All (IsListed new k) (moments_of c k)
   listed_beside old new up listed k = all_both (λ m. m < at) (IsListed old k) (IsListed new k)
@@ -134,7 +132,6 @@ module _ (c : ChangesValue) (key at : ℕ) (later : IsLaterThanAll (moments_of c
     present = present_noted c d key at noted present old new turn others own kept.present;
   }
 
--- The invariant of `Changes` still holds if `keys_at` is replaced by a map with the same entries.
 pub kept_listed : (c : ChangesValue) (old new : BTreeMap ℕ ℕ) (now : BTreeSet ℕ) → new.entries ≡ old.entries → AreKept c old now →
     AreKept c new now
 kept_listed c old new now e kept =
@@ -162,8 +159,6 @@ pub others_after : (key : ℕ) (old new : BTreeSet ℕ) → set.UpdatesBy nat_cm
     → IsTrue (contains nat_cmp old k) → IsTrue (contains nat_cmp new k)
 others_after key old new up k n has = up.2 k (sym (same_test key k) ∙ unequal_test k key n) ∙ has
 
--- Proof by cases: if `P` holds for the moments of an opening key (only moment 0) and of any other key (none), then `P`
--- holds for the moments of every key when the set opens.
 opened_then : (P : List ℕ → Type 0) → P [] → P (0 ∷ []) → (b : Bool) → P ((if b then 0 ∷ [] else []) ++ [])
 opened_then P none one true = one
 opened_then P none one false = none

@@ -108,8 +108,6 @@ order_more o calls order i inside =
     ap (λ (s : SetState). let v : OracleValue = record { threads = o.threads; quota = o.quota; state = s } in v)
     (left_more calls order i o.state inside)
 
--- If `x` and `now` are the call and the set at index `i` of the order, a reply that is right for them is right at
--- index `i`.
 pub reply_there : (o now : OracleValue) (calls : List CallRecord) (order : List Placed) (i : ℕ) (x : CallRecord)
     → now ≡ after_order o calls (take i order) → x ≡ placed_call calls order i → HasReply now x (place_at order i).reply
     → HasReply (after_order o calls (take i order)) (placed_call calls order i) (place_at order i).reply

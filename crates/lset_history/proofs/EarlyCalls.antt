@@ -40,8 +40,6 @@ FindsEarly calls order i early =
     MatchOption early ((place : ℕ) → i ≤ place → place < length order → IsTooEarly calls order place → ⊥)
     (EarlyFrom calls order i)
 
--- If a call at index `j` or later ended before a moment, then the call at index `j` did, or a call at a larger index
--- did. The loop uses this when it goes from index j + 1 to index j.
 first_or_later : (calls : List CallRecord) (order : List Placed) (j moment : ℕ) → EndsFrom calls order j moment
     → EndsBefore moment (placed_call calls order j).ended ⊎ EndsFrom calls order (suc j) moment
 first_or_later calls order j moment (k, from, inside, ends) =
@@ -77,7 +75,6 @@ pub smallest_more : (calls : List CallRecord) (order : List Placed) (j : ℕ) (s
 smallest_more calls order j smallest ended inside e h = smallest_by calls order j smallest ended
     (λ m here. (j, omega arith, inside, rw e at here)) (λ m from. rw e (first_or_later calls order j m from)) h
 
--- If a call after index `j` ended before the call at index `j` began, the call at index `j` is too early.
 too_early_here : (calls : List CallRecord) (order : List Placed) (j : ℕ)
     → EndsFrom calls order (suc j) (placed_call calls order j).begun → IsTooEarly calls order j
 too_early_here calls order j (k, from, inside, ends) = (k, omega arith, inside, ends)

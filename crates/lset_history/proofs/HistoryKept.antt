@@ -135,7 +135,6 @@ others_begun calls x t other =
     (and_left (x.thread == t) (is_none x.ended) (ne_eqb x.thread t (λ same. other (sym same))))
     ∙ or-false (has_open calls t)
 
--- A thread can begin a call if its `busy` flag is false and the moment is after the latest moment of the history.
 pub may_begin : (h : HistoryValue) (busy : List Bool) (latest thread at : ℕ)
     → IsKept h busy latest → thread < h.opening.threads → get_or busy thread false ≡ false → latest < at → MayBegin h thread at
 may_begin h busy latest thread at kept low idle above = record {
@@ -205,7 +204,6 @@ kept_reopened h busy latest keys kept opens = record {
   fits = kept.fits;
 }
 
--- While a call is pending, all other calls of the thread have ended.
 alone : (threads : ℕ) (calls : List CallRecord) (n k : ℕ) → IsHistory threads calls → IsOpen calls n → (k < n) ⊎ (n < k)
     → k < length calls
     → (call_numbered calls k).thread ≡ (call_numbered calls n).thread → is_none (call_numbered calls k).ended ≡ false
@@ -279,7 +277,6 @@ thread_of_call : (h : HistoryValue) (busy : List Bool) (latest n : ℕ) → IsKe
 thread_of_call h busy latest n kept inside =
     let c : IsCall h.opening.threads (call_numbered h.calls n) = kept.history.each n no_call inside in omega (arith, c.of_a_thread, kept.opens.within.few)
 
--- The record that the code reads at index `n` is call `n` of the history.
 pub call_read : (calls : List CallRecord) (n : ℕ) (x : CallRecord) → n < length calls → x ≡ get_or calls n x
     → x ≡ call_numbered calls n
 call_read calls n x inside e = e ∙ get_or_default calls n x no_call inside

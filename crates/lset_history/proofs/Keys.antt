@@ -31,7 +31,6 @@ has_false k xs h = elim (cases_Bool (has_key k xs)) [ inl e ↦ absurd (h (has_f
 pub has_none : (k : ℕ) (xs : List ℕ) → has_key k xs ≡ false → Contains xs k → ⊥
 has_none k xs e c = let f : has_key k xs ≡ true = has_true k xs c in absurd (cc)
 
--- It is decidable whether a key is in a list.
 pub member_or_not : (k : ℕ) (xs : List ℕ) → Contains xs k ⊎ (Contains xs k → ⊥)
 member_or_not k xs = elim (cases_Bool (has_key k xs)) [ inl e ↦ inl (has_from k xs e) | inr e ↦ inr (has_none k xs e) ]
 

@@ -89,8 +89,6 @@ contains_some y (x ∷ xs) (suc k, l, e) = inr (contains_some y xs (k, omega ari
 pub contains_map : {X Y : Type 0} (f : X → Y) (xs : List X) (x : X) → Contains xs x → Contains (map f xs) (f x)
 contains_map f xs x (k, l, e) = (k, omega (arith, length-map xs f), get_or-map f xs k x (f x) l ∙ ap f e)
 
--- If `P` holds for some element of a list, returns such an element `z`, with proofs that `P` holds for `z` and that `z`
--- is in the list.
 pub some_one : {X : Type 0} (P : X → Type 0) (xs : List X) → SomeOf P xs → (z : X) × P z × SomeOf (λ x. x ≡ z) xs
 some_one P [] s = absurd s
 some_one P (x ∷ xs) (inl p) = (x, p, inl refl)

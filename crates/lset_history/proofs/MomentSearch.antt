@@ -147,7 +147,6 @@ module _ (there : Bool) (ms all : List ℕ) (is : all ≡ (if there then 0 ∷ [
   pub few_looks : (looked : ℕ) → ((b : ℕ) → b ≤ 64 → length ms < 2 ^ b → looked ≤ b) → length all ≤ 1000000 → looked ≤ 20
   few_looks looked h few = at_most_20 (length ms) looked h (no_longer there ms 1000000 (subst (λ z. length z ≤ 1000000) is few))
 
--- Lemmas that decide whether `key` is in an increasing list, from the number of elements at or below `key`.
 module _ (keys : List ℕ) (key upto : ℕ) (increase : IsStrictlyIncreasing keys) (h : IsCountUpTo keys key upto) where
   has_none_equal : ((i : ℕ) → i < length keys → get_or keys i 0 ≢ key) → has_key key keys ≡ false
   has_none_equal other = has_false key keys (λ c. All-contains (λ x. x ≢ key) keys key (All-from_get_or (λ x. x ≢ key) keys 0 other) c refl)

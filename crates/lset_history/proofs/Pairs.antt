@@ -11,8 +11,6 @@ pairs_head R x xs pairs j d b = pairs zero (suc j) d (omega arith) (omega arith)
 pub pairs_tail : {X : Type 0} (R : X → X → Type 0) (x : X) (xs : List X) → AllPairs R (x ∷ xs) → AllPairs R xs
 pairs_tail R x xs pairs i j d a b = pairs (suc i) (suc j) d (omega arith) (omega arith)
 
--- Reading index `k` of a list after `z` is written at index `n`: the result is `z` if `k` is `n`, else the old
--- element.
 pub read_written : {X : Type 0} (xs : List X) (n k : ℕ) (z d : X) → k ≡ n → n < length xs → get_or (set xs n z) k d ≡ z
 read_written xs n k z d e inside = rw e (get_or-set_same xs n z d inside)
 
@@ -20,8 +18,6 @@ pub read_other : {X : Type 0} (xs : List X) (n k : ℕ) (z d e : X) → k ≢ n 
     → get_or (set xs n z) k d ≡ get_or xs k e
 read_other xs n k z d e ne low = get_or-set_other xs n k z d ne ∙ get_or_default xs k d e low
 
--- If R holds for all pairs of a list, and also for z with each element before and after index n, then R holds for all
--- pairs after z is written at index n.
 pub pairs_set : {X : Type 0} (R : X → X → Type 0) (xs : List X) (n : ℕ) (z e : X) → n < length xs
     → ((k : ℕ) → k < n → R (get_or xs k e) z) → ((k : ℕ) → n < k → k < length xs → R z (get_or xs k e)) → AllPairs R xs
     → AllPairs R (set xs n z)

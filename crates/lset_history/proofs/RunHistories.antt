@@ -19,7 +19,6 @@ module _ (r : Run) (k : ℕ) where
     ends_later = if_some x.ended (λ e. x.begun < e.0) (λ e i. (t.ends e.0 e.1 i).1.later);
   }
 
-  -- A call cannot end at the moment when another call begins, since each entry of the log is one event.
   end_no_beginning : (x y : TracedCall) (e : ℕ × Reply) → Traced r k x → EndAt r y.thread y.call y.begun y.changed e.0 e.1
       → e.0 ≢ x.begun
   end_no_beginning x y e t d f = cc

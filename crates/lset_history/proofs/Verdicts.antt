@@ -142,7 +142,6 @@ pub missing_fault : (h : HistoryValue) (calls : List CallRecord) (order : List P
 missing_fault h calls order keys marks number s out =
     (passes_known h.calls order (rw s.calls_are at s.known), s.once, misses_first h.calls order marks number s.holds (rw s.calls_are at out))
 
--- Replaces the loop's calls by the calls of the history, and the loop's set by the set in its opening state.
 settled : (h : HistoryValue) (calls : List CallRecord) (order : List Placed) (marks : List Bool) (oracle : OracleValue)
     → LeavesNoneOut h calls order marks oracle → LeavesNoneOut h h.calls order marks (set_opened h.opening)
 settled h calls order marks oracle l =
@@ -176,7 +175,6 @@ too_early_fault h calls order keys marks oracle number l r e =
       rw l.stands_once.calls_are at e,
     )
 
--- After the checks, the sequential set has the final keys of the order.
 keys_after : (h : HistoryValue) (calls : List CallRecord) (order : List Placed) (marks : List Bool) (oracle : OracleValue)
     → LeavesNoneOut h calls order marks oracle
     → (after_order oracle calls order).state.keys ≡ (set_left_by (opening_set h.opening) h.calls order).keys

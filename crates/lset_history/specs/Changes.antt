@@ -97,7 +97,7 @@ changes_in opening kept = record { opening = opening; entries = map (λ (e : ℕ
 abbrev pub Increase : ChangesValue → Type 0
 Increase c = (key : ℕ) → IsStrictlyIncreasing (moments_of c key)
 
--- Numbers from 2^32 up never change, since they are not keys.
+-- Holds if no number from 2^32 up ever changes. Such numbers are not keys.
 abbrev pub IsBounded : (ℕ → List ℕ) → Type 0
 IsBounded changes = (key : ℕ) → 2 ^ 32 ≤ key → changes key ≡ []
 

@@ -17,8 +17,8 @@ use Rattle.lset_history.specs.History.{HistoryValue}
 abbrev pub set_left_by : SetState → List CallRecord → List Placed → SetState
 set_left_by start calls order = set_left start (map (answered calls) order)
 
--- The order explains the history and the final keys: it linearizes the history, and `keys` are the keys of the set
--- after the order's calls, in strictly increasing order.
+-- Holds if the order explains the history and the final keys: it linearizes the history, and `keys` are the keys of the
+-- set after the order's calls, in strictly increasing order.
 pub record Explains (h : HistoryValue) (order : List Placed) (keys : List ℕ) : Type 0 where
   pub linearizes : Linearizes h.opening.quota (opening_set h.opening) h.calls order
   pub keys_left : keys ≡ (set_left_by (opening_set h.opening) h.calls order).keys
@@ -55,7 +55,7 @@ abbrev pub IsTooEarly : List CallRecord → List Placed → ℕ → Type 0
 IsTooEarly calls order i =
     (later : ℕ) × (i < later) × (later < length order) × Precedes (placed_call calls order later) (placed_call calls order i)
 
--- A completed call that is not in the order.
+-- Holds if the call with this number is completed and not in the order.
 pub record IsMissing (calls : List CallRecord) (order : List Placed) (number : ℕ) : Type 0 where
   pub known : number < length calls
   pub ended : IsSome (call_numbered calls number).ended

@@ -11,8 +11,8 @@ IsNextNote changes moment None = (j : ℕ) → All (λ m. m ≤ moment) (changes
 IsNextNote changes moment (Some n) = (moment < n.0)
     × ((j : ℕ) → All (λ m. moment < m → m ≤ n.0 → (m ≡ n.0) × (j ≡ n.1)) (changes j))
 
--- No key between `key` and the result is present after the last change of the set. If the result is `None`, no key
--- above `key` is present.
+-- Holds if no key between `key` and the result is present after the last change of the set. If the result is `None`,
+-- holds if no key above `key` is present.
 abbrev pub IsNextPresent : (ℕ → List ℕ) → ℕ → Option ℕ → Type 0
 IsNextPresent changes key None = (j : ℕ) → key < j → is_present_now changes j ≡ false
 IsNextPresent changes key (Some k) = (key < k) × ((j : ℕ) → key < j → j < k → is_present_now changes j ≡ false)
@@ -46,7 +46,8 @@ IsBelow j (Some end) = j < end
 abbrev pub IsSomeThere : (ℕ → List ℕ) → ℕ → Option ℕ → ℕ → Type 0
 IsSomeThere changes key end moment = (j : ℕ) × (key ≤ j) × IsBelow j end × (is_present changes j moment ≡ true)
 
--- Each key from `key` to just below `end` that is present after the last change of the set was absent at this moment.
+-- Holds if each key from `key` to just below `end` that is present after the last change of the set was absent at this
+-- moment.
 abbrev pub CameAfter : (ℕ → List ℕ) → ℕ → Option ℕ → ℕ → Type 0
 CameAfter changes key end moment = (j : ℕ) → key ≤ j → IsBelow j end → is_present_now changes j ≡ true →
     is_present changes j moment ≡ false

@@ -2,32 +2,31 @@ ghost use Rattle.lset_history.specs.Laws.{PlacementLinearizes, EveryCallHasAPlac
 
 /// The placement theorem: if a run has an account, the order of its calls by their linearization points linearizes the
 /// run's history (Herlihy and Wing), and leaves the same keys as the run. A run has an account if each event changes
-/// the keys as its call allows, and each reply is correct at some moment of its call. The function does nothing.
+/// the keys as its call allows, and each reply is correct at some moment of its call.
 pub fn placement_linearizes()
     ensures { PlacementLinearizes }
 {}
 
 /// Lemma: if a run has an account, its calls can be ordered by their linearization points. This order contains each
 /// call that changed the set or completed. A run has an account if each event changes the keys as its call allows, and
-/// each reply is correct at some moment of its call. The function does nothing.
+/// each reply is correct at some moment of its call.
 pub fn every_call_has_a_place()
     ensures { EveryCallHasAPlace }
 {}
 
 /// Lemma: at each moment of a run with an account (each event is a valid start of a call or a valid step), the calls
-/// that have begun form a history. The function does nothing.
+/// that have begun form a history.
 pub fn logs_tell_histories()
     ensures { LogsTellHistories }
 {}
 
 /// Lemma: `Fits` agrees with the sequential set. A reply fits a set's keys and a thread's number of successful adds if
-/// and only if the set in this state returns the reply and does not change. The function does nothing.
+/// and only if the set in this state returns the reply and does not change.
 pub fn fits_are_replies()
     ensures { FitsAreReplies }
 {}
 
-/// Lemma: a run has at most one placement, the order of its calls by their linearization points. The function does
-/// nothing.
+/// Lemma: a run has at most one placement, the order of its calls by their linearization points.
 pub fn placement_is_one_order()
     ensures { PlacementIsOneOrder }
 {}
