@@ -137,7 +137,6 @@ module _ (threads : ℕ) (opening : List ℕ) (calls : List CallRecord) (s : Str
   long : length more ≡ length calls + 1
   long = length-append calls (x ∷ [])
 
-  -- No pending call has the same end as the new call x.
   ends_apart : (k : ℕ) (d : Pending) → k < length s.pending → (get_or s.pending k d).end ≢ (pending_of x).end
   ends_apart k d low z = elim (none_or_some x.ended) [
     | inr e ↦ (

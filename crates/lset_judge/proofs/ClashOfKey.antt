@@ -1,4 +1,4 @@
--- Proof: if two calls clash, no order explains the calls, whatever the other calls did.
+-- Proof: if two calls contradict each other, no order explains the calls, whatever other calls there are.
 use Rattle.std.proofs.Common.{◌≡◌, ℕ, ◌<◌, ◌≤◌, ◌⊎◌, List, [], ◌∷◌, Bool, true, false, inl, inr, refl, sym, ap, ◌∙◌, arith, subst, length, get_or, map}
 use Rattle.std.specs.Prelude.{not, ◌||◌, Option, Some, None, IfSome, IsSomeAnd, All, Contains as Has, ◌==◌}
 use Rattle.std.specs.List.{AllByRecursion}
@@ -60,8 +60,6 @@ goes_on s false (changes true) e n = absurd (n refl)
 goes_on s b (sees w) e n = e
 goes_on s b nothing e n = e
 
--- Act t finds the key in its starting state b if no act that starts before the end of t changes the key to the other
--- state. (An act is the effect of a call.)
 stays : (left s b : Bool) (t : Act) (ys : List Act) → s ≡ b → TakeTurns left s ys → Pairs Apart ys → In t ys
     → ((a : Act) → In a ys → a.does ≡ changes (not b) → a.begun < t.until → ⊥) → suits b t.does
 stays left s b t [] e turns pairs i n = absurd i
@@ -69,8 +67,6 @@ stays left s b t (p ∷ ys) e turns pairs (inl q) n = subst (λ (a : Act). suits
 stays left s b t (p ∷ ys) e turns pairs (inr i) n = stays left (becomes s p.does) b t ys
     (goes_on s b p.does e (λ d. n p (inl refl) d (one_of (Apart p) t ys pairs.0 i).in_time)) turns.1 pairs.1 i (λ a j. n a (inr j))
 
--- If the key starts in the state b, and no act (the effect of a call) changes it to the other state, then the key's
--- final state is b.
 stays_left : (left s b : Bool) (ys : List Act) → s ≡ b → TakeTurns left s ys → ((a : Act) → In a ys → a.does ≡ changes (not b) → ⊥) → b ≡ left
 stays_left left s b [] e turns n = sym e ∙ turns
 stays_left left s b (p ∷ ys) e turns n = stays_left left (becomes s p.does) b ys (goes_on s b p.does e (n p (inl refl))) turns.1 (λ a j. n a (inr j))
@@ -78,8 +74,6 @@ stays_left left s b (p ∷ ys) e turns n = stays_left left (becomes s p.does) b 
 abbrev pub Leaves : Bool → Kind → Type 0
 Leaves b k = (s : Bool) → suits s k → becomes s k ≡ b
 
--- Suppose that act x precedes act t and leaves the key in the state b. If no act that can come between them changes the
--- key to the other state, then t finds the key in the state b. (An act is the effect of a call.)
 after : (left s b : Bool) (x t : Act) (ys : List Act) → TakeTurns left s ys → Pairs Apart ys → Before x t ys → Leaves b x.does
     → ((a : Act) → In a ys → a.does ≡ changes (not b) → x.begun < a.until → a.begun < t.until → ⊥) → suits b t.does
 after left s b x t [] turns pairs i l n = absurd i
@@ -167,8 +161,6 @@ module _ (threads : ℕ) (calls : List CallRecord) (history : IsHistory threads 
   positive : (a : Act) → In a ys → 0 < a.until
   positive a i = let l = (is_act a i).ends_later in omega (arith, l)
 
-  -- Suppose that no call can change the key to the other state between `since` and the end of the call `second`. Then
-  -- no act (the effect of a call on the key) changes the key to the other state in this time.
   none : (p : Presence) (since : ℕ) (second : Option CallRecord) → NothingTurns calls k (other p) since second
       → (a : Act) → In a ys → a.does ≡ changes (not (is_there p)) → since < a.until → is_before a.begun second ≡ true → ⊥
   none p since second n a i d s b =
@@ -223,7 +215,6 @@ module _ (threads : ℕ) (calls : List CallRecord) (history : IsHistory threads 
         ]
       ]
 
--- If two calls in a history clash, no order explains the history with its quota and leaves these final keys.
 pub clash_refutes : (h : HistoryValue) (keys : List ℕ) (k : ℕ) (there : Presence) (left : Option Presence) (was : Presence) (first second : Option CallRecord)
     → IsHistory h.opening.threads h.calls → has_key k h.opening.keys ≡ is_there there → IfSome left (λ (l : Presence). has_key k keys ≡ is_there l)
     → IsClash h.calls k there left was first second → IsUnexplained h keys

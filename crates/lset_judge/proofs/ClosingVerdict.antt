@@ -32,8 +32,7 @@ use Rattle.lset_judge.proofs.PlacedCalls.{same_flips}
 use Rattle.lset_judge.proofs.RuleLeads.{at_once, no_state, settled_none}
 use Rattle.lset_judge.proofs.StreamSteps.{same_some, until_end}
 
--- ---- Calls that start after a moment do not change the result of the judge's rule (the test of one key's calls) up
--- to this moment
+-- ---- Calls that start after a moment do not change the result of the judge's test of a key up to this moment
 
 abbrev EndsLater : CallRecord → Type 0
 EndsLater x = IfSome x.ended (λ (e : ℕ × Reply). x.begun < e.0)
@@ -41,7 +40,6 @@ EndsLater x = IfSome x.ended (λ (e : ℕ × Reply). x.begun < e.0)
 abbrev is_by : ℕ → ℕ → CallRecord → Bool
 is_by k M x = (key_of x.call).0 == k && nat_le x.begun M
 
--- All events of the key up to moment M are starts and ends of calls that start by M.
 event_by : (last k M m : ℕ) (xs : List CallRecord) → m ≤ M → AllByRecursion EndsLater xs → event_at last k (calls_by k M xs) m ≡ event_at last k xs m
 event_by last k M m xs low later = event_filter last k m (is_by k M) xs (silent xs later)
   where

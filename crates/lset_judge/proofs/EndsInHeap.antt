@@ -56,7 +56,6 @@ increasing_with e (x ∷ xs) up = elim (cases_Bool (nat_lt e x)) [
       rw f (let here : NoneBefore x (put_in e xs) = omega (arith, o, n, s, all) in (here, increasing_with e xs up.1)))
 ]
 
--- Two increasing lists are equal if, for each d, they have the same number of moments that are d or later.
 same_increasing : (xs ys : List ℕ) → IsIncreasing xs → IsIncreasing ys → ((d : ℕ) → not_before d xs ≡ not_before d ys) → xs ≡ ys
 same_increasing [] [] up high h = refl
 same_increasing [] (y ∷ ys) up high h = let a = h 0 in let b = all_from_zero (y ∷ ys) in absurd (omega (arith, a, b))
@@ -87,7 +86,6 @@ pub same_length : (xs : List (Reverse ℕ)) → length (increasing_of xs) ≡ le
 same_length [] = refl
 same_length (x ∷ xs) = length_in x.0 (increasing_of xs) ∙ ap suc (same_length xs)
 
--- The increasing list of the ends in a heap does not depend on the heap's internal order.
 pub reordered : (xs ys : List (Reverse ℕ)) → IsPermutation xs ys → increasing_of ys ≡ increasing_of xs
 reordered xs ys p = same_increasing (increasing_of ys) (increasing_of xs) (increasing ys) (increasing xs)
     (λ d. counted d ys ∙ sum_by-IsPermutation (λ (x : Reverse ℕ). counts d x.0) xs ys p ∙ sym (counted d xs))
@@ -101,8 +99,6 @@ none_in_heap x (y ∷ ys) h =
     not_less : (a b : ℕ) → is_lt (nat_cmp a b) ≡ false → b ≤ a
     not_less a b e = elim (cases_Bool (nat_lt a b)) [ inl t ↦ absurd (true≢false (rw t at e)) | inr f ↦ not_lower_number a b f ]
 
--- Removing the top x of the heap `old` leaves the heap `new`. Then x is the earliest end in `old`, and `new` contains
--- the other ends.
 pub popped : (x : Reverse ℕ) (old new : List (Reverse ℕ)) → IsPermutation old (x ∷ new) → IsUpperBound later_first x new
     → (increasing_of old ≡ x.0 ∷ increasing_of new) × (nearest x.0 (increasing_of new) ≡ x.0)
 popped x old new p top =
@@ -112,7 +108,6 @@ popped x old new p top =
       first_nearest x.0 (increasing_of new) none,
     )
 
--- All ends in a heap are later than m + 1 if and only if the top of the heap is later than m + 1.
 pub due_told : (m e : ℕ) (x : Reverse ℕ) (xs : List (Reverse ℕ)) → 0 < length xs → x ≡ slice_index_or xs 0 x → IsUpperBound later_first x xs → e ≡ x.0 - 1
     → nat_lt m e ≡ (not_before (suc (suc m)) (increasing_of xs) == length (increasing_of xs))
 due_told m e x [] low is top less = absurd (omega (arith, low))
@@ -195,8 +190,8 @@ one_fewer m true t ps (x ∷ xs) g e =
     omega (arith, l, n)
 one_fewer m b t ps ks g e = no_state g e _
 
--- A step of the judge's rule, which decides when changes take effect. If the event v is not possible in the key's state
--- s, one pending change takes effect, and the rule continues from the new state g.
+-- A step of the judge's test. If the event v is not possible in the key's state s, one pending change takes effect, and
+-- the test continues from the new state g.
 pub settles_on : (m : ℕ) (v : Event) (s g : State) → fits (suc m) v s ≡ false → turned_if m s (options s) ≡ Some g
     → settled (open_changes s) m v (Some s) ≡ settled (open_changes g) m v (Some g)
 settles_on m v s g f e =

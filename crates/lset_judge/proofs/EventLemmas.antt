@@ -124,8 +124,6 @@ pub event_none : (last k m : ℕ) (xs : List CallRecord) → AllByRecursion (IsS
 event_none last k m [] a = refl
 event_none last k m (x ∷ xs) a = passed_over last k m x xs a.0 ∙ event_none last k m xs a.1
 
--- Calls that cause no event of the key at moment m can be left out without changing the event at m. The test selects
--- the calls that stay.
 pub event_filter : (last k m : ℕ) (test : CallRecord → Bool) (xs : List CallRecord)
     → AllByRecursion (λ (x : CallRecord). test x ≡ false → IsSilent k m x) xs → event_at last k (filter test xs) m ≡ event_at last k xs m
 event_filter last k m test [] a = refl

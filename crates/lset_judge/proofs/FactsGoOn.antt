@@ -1,5 +1,5 @@
 -- Proof: the facts that the judge stores about the calls on each key are correct when the set opens, and stay correct
--- when a call starts or ends. The facts let the judge find a clash: two calls that rule out every order.
+-- when a call starts or ends. With these facts, the judge finds two calls that contradict each other.
 use Rattle.std.proofs.Common.{inl, inr, ◌≡◌, ◌≢◌, ℕ, suc, ◌-◌, ◌<◌, ◌≤◌, true, false, List, [], ◌∷◌, ◌++◌, refl, sym, ap, ◌∙◌, arith, subst, length, get_or}
 use Rattle.std.proofs.Common.{append_assoc, append-nil}
 use Rattle.std.specs.Prelude.{Option, Some, None, IfSome, IsSomeAnd, All, Contains, is_some, nat_lt}
@@ -336,7 +336,7 @@ module _ (opening : List ℕ) (calls : List CallRecord) (x : CallRecord) where
         → AreKnownBy opening calls s.moment s.states s.failed s.clash → AreKnownBy opening with_x t.moment t.states t.failed t.clash
     begin_known met kept same known = subst (AreKnownBy opening with_x t.moment t.states t.failed) (sym same) (begin_at s.failed t.failed met kept known)
 
--- ---- The clash (two calls that rule out every order) found after the last call is correct
+-- ---- The clash (two calls that contradict each other) found after the last call is correct
 
 pub clash_of_met : (s : Stream) (refusal : Refusal) → IsToldBy s.failed (NotLinearizable refusal) → (clash : Option Clash) → clash ≡ clash_met s.failed s.clash
     → IfSome clash (λ (c : Clash). (opening : List ℕ) → ClashesStream opening refusal None s c)

@@ -1,5 +1,5 @@
--- Proof about two calls on a key that no order can contain (a clash). If one of the calls ends before the other
--- starts, the facts that the judge stores about the key suffice to find a clash.
+-- Proof about two calls on a key that contradict each other. If one of the calls ends before the other starts, the
+-- facts that the judge stores about the key suffice to find a clash.
 use Rattle.std.proofs.Common.{inl, inr, ◌≡◌, ◌≢◌, ◌⊎◌, ℕ, ◌+◌, ◌<◌, ◌≤◌, true, false, List, [], ◌∷◌, ◌++◌, refl, sym, ap, ◌∙◌, arith, subst, get_or}
 use Rattle.std.proofs.Common.{append-nil, length-append}
 use Rattle.std.specs.Prelude.{Option, Some, None, IfSome, IsSome, is_some, IsSomeAnd, All, Contains, ◌-◌}
@@ -64,7 +64,6 @@ never_other : (p : Presence) → p ≡ other p → ⊥
 never_other Present e = cc
 never_other Absent e = cc
 
--- A call that leaves its key in the state q either changes the key to q, or needs the key to be in q.
 changes_or_needs : (f : Effect) (q : Presence) → left_so f ≡ Some q → (turns_to q (kind_as f) ≡ true) ⊎ (needed_by f ≡ Some q)
 changes_or_needs (Changes Present) Present e = inl refl
 changes_or_needs (Changes Absent) Absent e = inl refl
@@ -117,8 +116,6 @@ ended_or_pending threads opening calls s is y e c ended =
       | inr q ↦ inr (subst (λ (z : CallRecord). Contains s.pending (pending_of z)) at q, until_end behind_all y.begun y.ended e ended)
     ]
 
--- Suppose that no call changes the key to the state p between `since` and the end of `second`. If each call starts
--- before this end, all changes to p have ended by `since`.
 latest_low : (calls : List CallRecord) (key : ℕ) (p : Presence) (n since : ℕ) (second : Option CallRecord) → IsLatest calls key p n → NothingTurns calls key p since second
     → ((x : CallRecord) → Contains calls x → is_before x.begun second ≡ true) → n ≤ since
 latest_low calls key p n since second (inl z) none before = omega (arith, z)
@@ -129,8 +126,8 @@ latest_low calls key p n since second (inr y) none before =
     let u = ended_by_then since (until_if behind_all x.begun x.ended) behind_all x x.ended refl refl ended in
     let v = y.3 in omega (arith, u, v)
 
--- ---- When the set opens, the facts that the judge stores suffice to find a clash (two calls that no order can
--- contain)
+-- ---- When the set opens, the facts that the judge stores suffice to find a clash (two calls that contradict each
+-- other)
 
 pub complete_first : (opening : List ℕ) (k : ℕ) (f : Facts) → f ≡ facts_opened (presence (has_key k opening)) → AreComplete opening [] 0 k f
 complete_first opening k f e = subst (AreComplete opening [] 0 k) (sym e) (record {
@@ -152,8 +149,8 @@ complete_first opening k f e = subst (AreComplete opening [] 0 k) (sym e) (recor
     best p None so past low = record { was = so; standing = low; early = λ n h. tt }
     best p (Some x) so past low = absurd (let c = so.0.known.1 in omega (arith, c))
 
--- ---- When a call starts, the facts that the judge stores still suffice to find a clash (two calls that no order can
--- contain)
+-- ---- When a call starts, the facts that the judge stores still suffice to find a clash (two calls that contradict
+-- each other)
 
 until_begun : (kind : Kind) (u : ℕ) (f : Facts) (there : Presence) → (until_of there (begun_by (begin_event kind u) f) ≡ until_of there f)
     ⊎ ((turns_to there kind ≡ true) × (until_of there (begun_by (begin_event kind u) f) ≡ u))
@@ -302,10 +299,9 @@ complete_begin threads opening calls s is x may met t moment by kept same old =
           let u = w.1 in ne (omega (arith, far, u, low)))
     ]
 
--- ---- When a call ends, the facts that the judge stores still suffice to find a clash (two calls that no order can
--- contain)
+-- ---- When a call ends, the facts that the judge stores still suffice to find a clash (two calls that contradict each
+-- other)
 
--- Two different calls start at different moments, and neither ends when the other starts.
 apart_calls : (threads : ℕ) (calls : List CallRecord) → IsHistory threads calls → (x y : CallRecord) → Contains calls x → Contains calls y → (x ≡ y → ⊥)
     → (x.begun ≢ y.begun) × ((e : ℕ × Reply) → x.ended ≡ Some e → e.0 ≢ y.begun)
 apart_calls threads calls history x y a b ne =
@@ -375,7 +371,6 @@ module _ (threads : ℕ) (opening : List ℕ) (calls : List CallRecord) (s t : S
   before_call : (o : Option CallRecord) → EndsBefore o call.begun → IsPast s.moment o
   before_call o h = let b = begun_old (record_of call) own.known in ends_past s.moment call.begun o b h
 
-  -- The facts that the judge stores about a key still suffice to find a clash if the call that ends is on another key.
   still_complete : (k : ℕ) (f g : Facts) → k ≢ key → AreComplete opening calls s.moment k f → g ≡ f → AreComplete opening calls t.moment k g
   still_complete k f g ne old e = subst (AreComplete opening calls t.moment k) (sym e) (record {
     latest = old.latest;
@@ -411,8 +406,6 @@ module _ (threads : ℕ) (opening : List ℕ) (calls : List CallRecord) (s t : S
         by None so e = omega (arith, e)
         by (Some x) so e = let b = begun_old (record_of x) so.0.known in omega (arith, e, b)
 
-    -- If the call clashes with a call that ended before its start (no order can contain both), the facts that the
-    -- judge stores show a clash.
     pair_found : (q : Presence) (first : Option CallRecord) → EndsBefore first call.begun → Clashes calls key (there key) None q first (Some (record_of call))
         → IsClashing f call
     pair_found q first before c =
@@ -430,9 +423,6 @@ module _ (threads : ℕ) (opening : List ℕ) (calls : List CallRecord) (s t : S
         order None h = tt
         order (Some x) h = inl h
 
-    -- Suppose that the call that the judge stores for the key and the new call left the key in different states. They
-    -- clash if, for each of the two calls, all changes to the state that it left had ended when the other call
-    -- started.
     two_stand : (q : Presence) → f.was ≡ q → until_of (other q) f ≤ f.begun → leaves_if call.call call.ended ≡ Some (other q) → until_of q f ≤ call.begun
         → IsClashing f call
     two_stand q was stands leaves low =
@@ -546,8 +536,6 @@ module _ (threads : ℕ) (opening : List ℕ) (calls : List CallRecord) (s t : S
               (subst (λ (z : CallRecord). Clashes calls key (there key) None q first (Some z)) same c))
         ]
 
-    -- As long as the judge's rule (the test of one key's calls) has not failed, the facts that the judge stores show
-    -- no clash (two calls that no order can contain).
     none_shown : IsJudgedTo opening calls t.moment t.states None → IsClashing f call → ⊥
     none_shown judged shown =
         let c : Clash = clash_with key f (Some call) in
@@ -611,7 +599,7 @@ module _ (threads : ℕ) (opening : List ℕ) (calls : List CallRecord) (s t : S
       → AreCompleteBy opening calls t.moment t.states t.failed t.clash
   complete_end met kept missed known old = complete_after s.failed t.failed t.clash met kept missed is.judged now.judged known old
 
--- ---- If the verdict contains no clash (two calls that no order can explain), no call on the key clashes with a call
+-- ---- If the verdict contains no clash (two calls that contradict each other), no call on the key clashes with a call
 -- that starts after it has ended
 
 pub none_at_end : (s : Stream) (opening : List ℕ) (refusal : Refusal) (left : Option Presence) → IsToldBy s.failed (NotLinearizable refusal)

@@ -1,6 +1,5 @@
--- Proof of locality: for each key, the judge's rule (its test of one key's calls) has the same result in the key's part
--- of the history as in the whole history. Therefore some order explains the history if and only if some order explains
--- each part.
+-- Proof of locality: the judge's test of a key has the same result in the key's part of the history as in the whole
+-- history. Therefore some order explains the history if and only if some order explains each part.
 use Rattle.std.proofs.Common.{◌≡◌, ℕ, true, false, List, sym, ap, ◌∙◌, ◌<◌, ◌≤◌, Bool, refl, arith, inl, inr}
 use Rattle.std.specs.Prelude.{◌==◌, ◌&&◌, cond, not, IfSome}
 use Rattle.std.specs.List.Sorted.{IsStrictlyIncreasing}

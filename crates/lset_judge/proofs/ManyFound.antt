@@ -108,8 +108,6 @@ module _ (last : ℕ → ℕ) (thread begun : ℕ) (es : Entries) (known : All (
   free_other other only ne = free_by (λ i d inside own is.
       absurd (ne (ap (λ (x : StreamCall). x.thread) (sym (only i d inside (sym is))) ∙ own)))
 
--- If the table contains a call of the thread that ends after `begun`, the thread has a pending call at the moment
--- `begun`.
 not_free : (thread begun end : ℕ) (other : StreamCall) (es : Entries) → Contains es (end, other) → other.thread ≡ thread → begun < end
     → All (Free thread begun) (map pending_at es) → ⊥
 not_free thread begun end other es has own later free =
@@ -119,7 +117,6 @@ not_free thread begun end other es has own later free =
 module _ {S : Type 0} (last : ℕ → ℕ) (thread begun : ℕ) (m : HashMap ℕ StreamCall S)
     (known : All (λ (e : ℕ × StreamCall). last e.1.thread ≡ e.0) m.entries) (unique : IsUnique nat_eq m)
     (end : ℕ) (other : StreamCall) (at : last thread ≡ end) (is : get nat_eq m end ≡ Some other) (later : begun < end) where
-  -- `other` is the only call in the table that ends at `end`.
   only_at : (i : ℕ) (d : ℕ × StreamCall) → i < length m.entries → (get_or m.entries i d).0 ≡ end → (get_or m.entries i d).1 ≡ other
   only_at i d low e =
       let here = hash_map_get_place nat_eq_equiv m i (get_or m.entries i d).0 (get_or m.entries i d).1 unique (slice_get-get_or m.entries i d low) in
@@ -140,8 +137,6 @@ module _ {S : Type 0} (last : ℕ → ℕ) (thread begun : ℕ) (m : HashMap ℕ
 
 -- ---- Lemmas about removing a call that ends
 
--- If no call in the table ends at the earliest end in the heap, this end can be removed from the heap: the heap still
--- contains the ends of all calls.
 pub held_without : (end : ℕ) (ends rest : List ℕ) (es : Entries) → ends ≡ end ∷ rest → found end es ≡ false
     → All (λ (e : ℕ × StreamCall). Contains ends e.0) es → All (λ (e : ℕ × StreamCall). Contains rest e.0) es
 held_without end ends rest es is none held i d low =
@@ -245,7 +240,6 @@ pub many_with : (old now : Entries) (p : Pending) (before : Option StreamCall) �
 many_with old now p None e is apart = IsPermutation-map pending_at ((p.end, p.call) ∷ old) now is
 many_with old now p (Some c) e is apart = absurd (some_ends p.end old (sym (ap is_some e)) apart)
 
--- The stored last end of each thread is still correct after the pending call p is inserted.
 module _ (es : Entries) (last more : ℕ → ℕ) (p : Pending)
     (free : All (λ (q : Pending). q.call.thread ≢ p.call.thread) (map pending_at es))
     (known : All (λ (e : ℕ × StreamCall). last e.1.thread ≡ e.0) es)

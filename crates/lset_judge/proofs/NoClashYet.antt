@@ -1,5 +1,4 @@
--- Proof: as long as the judge's rule (the test of one key's calls) has not failed, no two calls that have ended clash.
--- (No order can contain two calls that clash.)
+-- Proof: as long as every key passes the judge's test, no two calls that have ended contradict each other.
 use Rattle.std.proofs.Common.{◌≡◌, ℕ, ◌<◌, ◌≤◌, List, Bool, true, refl, ap, arith, subst, length, get_or, map}
 use Rattle.std.specs.Prelude.{Option, Some, None, IfSome, is_some, All, AllPairs, ◌≢◌, ◌==◌, ◌&&◌}
 use Rattle.std.proofs.lemmas.List.Sums.{count_by-le-length}

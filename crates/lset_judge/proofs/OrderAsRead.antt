@@ -31,8 +31,6 @@ use Rattle.lset_judge.specs.Reading.{call_as, reply_as, call_if, end_as, read_as
 
 -- ---- The judge accepts the next call of a history
 
--- If call y does not end when call x starts, the end that `until_if` returns for y is not the start of x either. (For a
--- pending call, `until_if` returns an end after all moments.)
 apart_of : (y x : CallRecord) → IsBefore x → IfSome y.ended (λ (d : ℕ × Reply). d.0 ≢ x.begun) → (o : Option (ℕ × Reply)) → y.ended ≡ o
     → (until_if behind_all y.begun o ≢ x.begun)
 apart_of y x before alone None is q = let b = before.0 in omega (arith, b, q)
@@ -197,8 +195,6 @@ ceiling_other k (y ∷ ys) e = elim (cases_Bool (nat_lt y k)) [
 abbrev Fits : ℕ → SetState → ℕ → Call → Reply → Type 0
 Fits quota s t c r = (reply_to quota s t (call_as c r) ≡ reply_as c r) × (after_call s t (call_as c r) (reply_as c r) ≡ after_call s t c r)
 
--- If an `add` is read as another call (see `call_as`), the sequential set returns the reply as the judge reads it, and
--- is in the same state as after the `add`.
 add_fits : (quota : ℕ) (s : SetState) (t : ℕ) (k : Key) (b c : Bool) → has_key k.0 s.keys ≡ b → (count_of s t == quota) ≡ c
     → Fits quota s t (Add k) (reply_to quota s t (Add k))
 add_fits quota s t k true c h f = rw h (rw h refl, refl)

@@ -1,5 +1,5 @@
--- Proof: if each key passes the judge's rule (the test of one key's calls), some order explains the calls. The proof
--- builds such an order call by call.
+-- Proof: if each key passes the judge's test, some order explains the calls. The proof builds such an order call by
+-- call.
 use Rattle.std.proofs.Common.{◌≡◌, ◌≢◌, ℕ, zero, suc, ◌<◌, ◌≤◌, ◌⊎◌, List, [], ◌∷◌, ◌++◌, Bool, true, false, inl, inr, refl, sym, ap, ◌∙◌, arith}
 use Rattle.std.proofs.Common.{subst, length, get_or, map}
 use Rattle.std.specs.Prelude.{◌==◌, not, nat_lt, Option, Some, None, is_some, All, AllPairs, Contains, IfSome, IsSomeAnd}
@@ -86,8 +86,7 @@ module _ (threads : ℕ) (calls : List CallRecord) (history : IsHistory threads 
   set_put : (o : List Placed) (n : ℕ) (r : Reply) → set (o ++ put n r ∷ []) ≡ after_call (set o) (x_ n).thread (x_ n).call r
   set_put o n r = ap (set_left start) (map_push (answered calls) o (put n r)) ∙ left_push start (map (answered calls) o) (answered calls (put n r))
 
-  -- ---- The invariant: how a key's state by the judge's rule (the test of its calls) relates to the order that the
-  -- proof has built so far
+  -- ---- The invariant: how a key's state by the judge's test relates to the order that the proof has built so far
   pub record OpenList (w : Bool) (k m : ℕ) (xs : List ℕ) (o : List Placed) : Type 0 where
     pub open_call : (u : ℕ) → has_key u xs ≡ true → (n : ℕ) × (n < length calls) × (key n ≡ k) × (kind (x_ n) ≡ changes w)
         × (until last (x_ n) ≡ u) × ((x_ n).begun ≤ m) × (IsPlaced n o → ⊥)
@@ -302,8 +301,6 @@ module _ (threads : ℕ) (calls : List CallRecord) (history : IsHistory threads 
       lists false false n low is at_end l =
           list_put false k m ks o n True (λ _ f. let g : changes true ≡ changes false = sym is ∙ f in cc) (l.lists false)
 
-  -- The order o can be extended by the changes that the judge's rule (the test of one key's calls) makes take effect
-  -- before event v. Key k is then in the state t, and v is possible.
   pub record Settled (k m : ℕ) (v : Event) (t : State) (o : List Placed) : Type 0 where
     pub moved : Moved k m t o
     pub finds : fits (suc m) v t ≡ true
@@ -331,8 +328,8 @@ module _ (threads : ℕ) (calls : List CallRecord) (history : IsHistory threads 
   none_at_zero : (m : ℕ) (v : Event) (g : State) → fits (suc m) v g ≡ false → settled 0 m v (Some g) ≡ None
   none_at_zero m v g f = rw f refl
 
-  -- If the judge's rule (which decides when changes take effect) makes one change of key k take effect, the order can
-  -- be extended: first by all reads that saw the key's current state, then by the change.
+  -- If the judge's test makes one change of key k take effect, the order can be extended: first by all reads that saw
+  -- the key's current state, then by the change.
   turn_now : (k m : ℕ) (g t : State) (o : List Placed) → turned_if m g (options g) ≡ Some t → Built m o → Link k m g o → Moved k m t o
   turn_now k m g t o is built l = by (options g) refl is
     where
@@ -362,8 +359,6 @@ module _ (threads : ℕ) (calls : List CallRecord) (history : IsHistory threads 
 
   -- ---- All keys at moment m. Each key k is in the state `was k` now, and has the event `v k` at the next moment
   module _ (m : ℕ) (v : ℕ → Event) (was : ℕ → State) (live : (k : ℕ) → is_some (stepped m (v k) (Some (was k))) ≡ true) where
-    -- Holds if the judge's rule (which decides when changes take effect) finds the same result from the states s and
-    -- `was k`: both lead to the same state for the next event `v k`.
     abbrev Lives : ℕ → State → Type 0
     Lives k s = found m (v k) s ≡ found m (v k) (was k)
 
@@ -531,8 +526,6 @@ module _ (threads : ℕ) (calls : List CallRecord) (history : IsHistory threads 
       lists true = list_past true k m v s.puts o e built (l.lists true)
       lists false = list_past false k m v s.takes o e built (l.lists false)
 
-  -- If the next event is possible in the key's state s, the order o already contains the completed call that ends at
-  -- this event.
   ended_placed : (k m : ℕ) (s : State) (o : List Placed) → Link k m s o → fits (suc m) (ev k (suc m)) s ≡ true
       → Swept (length calls) k m s o → (n : ℕ) (e : ℕ × Reply) → n < length calls → key n ≡ k → (x_ n).ended ≡ Some e → e.0 ≡ suc m
       → (IsPlaced n o → ⊥) → ⊥
@@ -665,7 +658,6 @@ module _ (threads : ℕ) (calls : List CallRecord) (history : IsHistory threads 
   contains_placed n r (p ∷ ps) h (inr i) =
       let rest = contains_placed n r ps (λ k d l. h (suc k) d (omega arith)) i in let l = rest.1 in (suc rest.0, omega (arith, l), rest.2)
 
-  -- The order contains each call that has ended.
   pub contains_ended : (m : ℕ) (o : List Placed) → Built m o → (n : ℕ) (e : ℕ × Reply) → n < length calls → (x_ n).ended ≡ Some e → e.0 ≤ m
       → Contains o (put n e.1)
   contains_ended m o b n e low s early = contains_placed n e.1 o

@@ -1,5 +1,5 @@
 -- Proof: if the judge decides a history, some order explains the history if and only if each key passes the judge's
--- rule (the test of one key's calls).
+-- test.
 use Rattle.std.proofs.Common.{◌≡◌, ◌≢◌, ℕ, ◌+◌, List, [], ◌∷◌, ◌++◌, true, inl, inr, refl, sym, ap, ◌∙◌, arith, subst, get_or, map, Bool}
 use Rattle.std.specs.Prelude.{◌==◌, ◌&&◌, if◌then◌else◌, Option, Some, None, All, AllPairs, IfSome, set, sum_by, cond, Contains, length, ◌<◌, ◌≤◌, false}
 use Rattle.std.specs.List.Sorted.{IsStrictlyIncreasing}
@@ -184,8 +184,6 @@ within xs ys h k c = has_from k ys (sym (h k) ∙ has_true k xs c)
 same_keys : (xs ys : List ℕ) → IncreasesFrom 0 xs → IncreasesFrom 0 ys → ((k : ℕ) → has_key k xs ≡ has_key k ys) → xs ≡ ys
 same_keys xs ys r s h = same_increasing 0 0 xs ys r s (within xs ys h) (within ys xs (λ k. sym (h k)))
 
--- Suppose that the judge can decide the history, and that each key passes the judge's rule (the test of one key's
--- calls). Then some order explains the history and leaves exactly the keys k such that `left k` is true.
 pub explained_so : (last : ℕ) (h : HistoryValue) (left : ℕ → Bool) → latest_moment h.calls ≤ last → IsHistory h.opening.threads h.calls
     → IsStrictlyIncreasing h.opening.keys → IsJudged h
     → ((k : ℕ) → may_leave (event_at last k h.calls) (has_key k h.opening.keys) (left k) last ≡ true)
@@ -210,7 +208,6 @@ explained last h keys upto history opens judged increasing each =
     let so = explained_so last h (λ k. has_key k keys) upto history opens judged each in
     subst (IsExplained h) (same_keys so.0 keys so.2 (increases_from_increasing keys increasing) so.3) so.1
 
--- If a key fails the judge's rule (the test of one key's calls), no order explains the history and leaves these keys.
 pub unexplained : (last : ℕ) (h : HistoryValue) (keys : List ℕ) → latest_moment h.calls ≤ last → IsHistory h.opening.threads h.calls → (k : ℕ)
     → rule_explains last h keys k ≡ false → IsUnexplained h keys
 unexplained last h keys upto history k fails order e = true≢false (sym (rule_refutes last h keys order upto history e k) ∙ fails)

@@ -1,6 +1,6 @@
--- Proof: the judge's rule does at least as well as any correct timeline. (The rule decides when the changes of a key
--- take effect; a timeline is any choice of these moments.) The rule has at least as many pending changes left as the
--- timeline, and these changes end at least as late.
+-- Proof: the judge's test does at least as well as any correct timeline of the key. (A timeline is a choice of when
+-- each change takes effect.) The test has at least as many pending changes left as the timeline, and these changes end
+-- at least as late.
 use Rattle.std.proofs.Common.{◌≡◌, ℕ, suc, ◌+◌, ◌<◌, ◌≤◌, List, [], ◌∷◌, true, inl, inr, refl, arith, length, zero, sym, ap, ◌⊎◌, Bool, false, ◌∙◌, subst}
 use Rattle.std.specs.Prelude.{◌==◌, nat_lt, if◌then◌else◌, Option, Some, None, is_some, not}
 use Rattle.std.proofs.lemmas.Bool.{cases_Bool, true≢false, not-true, not-false, or_cases, or_parts}
@@ -69,8 +69,6 @@ none_nearer d x (y ∷ ys) l =
     let o = counts_one d x (omega (arith, l)) in
     let rest = none_nearer d y ys (omega (arith, l)) in omega (arith, o, rest)
 
--- A list dominates ss if, for each d, it has at least as many moments from d on as ss. If a list dominates ss and is
--- longer than ss, it still dominates ss after its earliest moment is removed.
 pub still_no_fewer : (ss : List ℕ) (x : ℕ) (xs : List ℕ) → ((d : ℕ) → not_before d ss ≤ not_before d (x ∷ xs))
     → length ss < length (x ∷ xs) → (d : ℕ) → not_before d ss ≤ not_before d (take_out (nearest x xs) (x ∷ xs))
 still_no_fewer ss x xs less longer d =
@@ -82,7 +80,7 @@ still_no_fewer ss x xs less longer d =
           omega (arith, t, o, all, most, longer))
     ]
 
--- ---- Once the judge's rule (the test of one key's calls) has failed, it stays failed
+-- ---- A key that has failed the judge's test never passes it later
 
 pub settled_none : (n m : ℕ) (v : Event) → settled n m v None ≡ None
 settled_none zero m v = refl
@@ -101,18 +99,17 @@ once b = if b then 1 else 0
 abbrev pub at : Bool → ℕ → List ℕ → List ℕ → State
 at b t ps ks = record { there = b; turned = t; puts = ps; takes = ks }
 
--- Holds if the timeline (state s) has fewer pending changes left than the judge's rule (state g). Only changes that
--- would change the key's state in g count. The rule is the test of one key's calls. A timeline is a choice of the
--- moments when changes take effect.
+-- Holds if the timeline (state s) has fewer pending changes left than the judge's test (state g). Only changes that
+-- would change the key's state in g count.
 abbrev pub IsFurther : State → State → Type 0
 IsFurther g s = length (changes_to (not g.there) s) < length (options g)
 
 abbrev NoFewer : List ℕ → List ℕ → Type 0
 NoFewer ss gs = (d : ℕ) → not_before d ss ≤ not_before d gs
 
--- Compares two states of a key after the event at moment m: the state g that the judge's rule (the test of the key's
--- calls) computes, and the state s of a correct timeline (a choice of the moments when changes take effect). Holds if
--- g has at least as many pending changes left as s, and these changes end at least as late.
+-- Compares two states of a key after the event at moment m: the state g that the judge's test of a key computes, and
+-- the state s of a correct timeline (a choice of when each change takes effect). Holds if g has at least as many
+-- pending changes left as s, and these changes end at least as late.
 pub record Leads (m : ℕ) (g s : State) : Type 0 where
   pub lists : (w : Bool) → NoFewer (changes_to w s) (changes_to w g)
   pub balance : length g.puts + once g.there + length s.takes ≡ length s.puts + once s.there + length g.takes
@@ -125,7 +122,7 @@ fewer ss gs h = let a = h 0 in let b = all_from_zero ss in let c = all_from_zero
 less_taken : (e : ℕ) (ss gs : List ℕ) → has_key e ss ≡ true → NoFewer ss gs → NoFewer (take_out e ss) gs
 less_taken e ss gs h f d = let t = taken d e ss h in let a = f d in omega (arith, t, a)
 
--- ---- Lemmas about a change that takes effect in a timeline (a choice of the moments when changes take effect)
+-- ---- Lemmas about a change that takes effect in a timeline (a choice of when each change takes effect)
 pub timeline_turns : (b c : Bool) (m gt st e : ℕ) (gp gk sp sk : List ℕ) → Leads m (at b gt gp gk) (at c st sp sk)
     → has_key e (options (at c st sp sk)) ≡ true → Leads m (at b gt gp gk) (turned_by m e (at c st sp sk))
 timeline_turns b true m gt st e gp gk sp sk l h =
@@ -159,8 +156,6 @@ timeline_turns b false m gt st e gp gk sp sk l h =
     further true y = let f = fewer sp gp (l.lists true) in omega (arith, y, f)
     further false y = let t = taken_length e sp h in let f = fewer sp gp (l.lists true) in omega (arith, t, f)
 
--- In its state g, the judge's rule (the test of one key's calls) makes one change take effect. The new state is at
--- least as good as s, the state of a timeline. A timeline is a choice of the moments when changes take effect.
 pub record Turns (m : ℕ) (g s : State) : Type 0 where
   pub state : State
   pub is : turned_if m g (options g) ≡ Some state
@@ -192,9 +187,6 @@ rule_turns false m t (x ∷ xs) gk s l f =
     lists false = l.lists false
 rule_turns b m t gp gk s l f = absurd (omega (arith, f))
 
--- Suppose that the judge's rule (the test of one key's calls) and the timeline (a choice of the moments when changes
--- take effect) disagree on whether the key is present. Then, of the changes that would change the key's state by the
--- rule, the timeline has fewer left.
 apart : (b c : Bool) (m gt st : ℕ) (gp gk sp sk : List ℕ) → Leads m (at b gt gp gk) (at c st sp sk) → (b ≡ c → ⊥)
     → IsFurther (at b gt gp gk) (at c st sp sk)
 apart true false m gt st gp gk sp sk l n = let y = l.balance in let f = fewer sp gp (l.lists true) in omega (arith, y, f)
@@ -232,8 +224,6 @@ asked m (looks w since) g s l t f =
     ]
 asked m v g s l t f = absurd (true≢false f)
 
--- The judge's rule (the test of one key's calls) finds a state for the event v, and this state is at least as good as
--- s, the state of a timeline. A timeline is a choice of the moments when changes take effect.
 pub record Settles (n m : ℕ) (v : Event) (g s : State) : Type 0 where
   pub state : State
   pub is : settled n m v (Some g) ≡ Some state
@@ -267,8 +257,6 @@ more w (begins u end) ss gs h = elim (cases_Bool (same w u)) [
 ]
 more w v ss gs h = h
 
--- When a change starts, both the judge's rule (the test of one key's calls) and the timeline (a choice of the moments
--- when changes take effect) get one more pending change.
 alike : (w : Bool) (v : Event) (ss gs : List ℕ) → length (entering w v gs) + length ss ≡ length (entering w v ss) + length gs
 alike w (begins u end) ss gs = elim (cases_Bool (same w u)) [
   | inl t ↦ rw t (let a = length_in end ss in let b = length_in end gs in omega (arith, a, b))

@@ -1,5 +1,5 @@
--- Proofs about the state of a key after each moment. Applying the judge's rule (the test of one key's calls) step by
--- step has the same result as applying it to all events at once.
+-- Proofs about the state of a key after each moment. Applying the judge's test of a key step by step has the same
+-- result as applying it to all events at once.
 use Rattle.std.proofs.Common.{◌≡◌, ℕ, zero, suc, ◌+◌, ◌-◌, ◌<◌, ◌≤◌, Bool, List, true, false, refl, sym, ap, ◌∙◌, arith, inl, inr}
 use Rattle.std.specs.Prelude.{Option, Some, None, is_some}
 use Rattle.lset_words.specs.declared.history.CallRecord.{CallRecord}
@@ -44,8 +44,6 @@ idle_key ev was left last quiet =
     as_was false true = refl
     as_was false false = refl
 
--- If two keys have the same events and the same opening state, the judge's rule (the test of one key's calls) has the
--- same result for both keys.
 pub left_alike : (ev other : ℕ → Event) (b left : Bool) (last : ℕ) → ((j : ℕ) → j ≤ last → ev j ≡ other j)
     → may_leave ev b left last ≡ may_leave other b left last
 left_alike ev other b left last same = ap (λ (o : Option State). is_some (stepped last (leaves left) o)) (same_after ev other b last same)

@@ -46,8 +46,6 @@ event_before last k j [] x low later = passed_over last k j x [] (λ t. (
 ))
 event_before last k j (y ∷ ys) x low later = one_before last k j y (ys ++ x ∷ []) ys (event_before last k j ys x low later)
 
--- The event of key k when the new call x starts: the start of x if x is on k, else `idle`. No other call starts or
--- ends at this moment.
 pub event_begun : (last k : ℕ) (xs : List CallRecord) (x : CallRecord)
     → AllByRecursion (λ (y : CallRecord). (y.begun ≢ x.begun) × IfSome y.ended (λ (e : ℕ × Reply). e.0 ≢ x.begun)) xs
     → event_at last k (xs ++ x ∷ []) x.begun
@@ -59,7 +57,7 @@ event_begun last k [] x a = elim (cases_Bool ((key_of x.call).0 == k)) [
 event_begun last k (y ∷ ys) x a =
     passed_over last k x.begun y (ys ++ x ∷ []) (λ t. (unequal_test y.begun x.begun a.0.0, ends_not x.begun y.ended a.0.1)) ∙ event_begun last k ys x a.1
 
--- ---- Lemmas about applying the judge's rule (the test of one key's calls) to the event at a moment
+-- ---- Lemmas about applying the judge's test of a key to the event at a moment
 
 module _ (opening : List ℕ) (calls : List CallRecord) where
   abbrev event : ℕ → ℕ → Event
@@ -73,8 +71,6 @@ module _ (opening : List ℕ) (calls : List CallRecord) where
         ap (λ (u : Event). stepped n u (state_after (event k) (has_key k opening) n)) is
         ∙ ap (stepped n w) (quiet_until (event k) (has_key k opening) (n - m) m n (omega (arith, up)) (λ j l h. quiet j l h k) ∙ so)
 
-    -- Without an event, a key does not fail the judge's rule (the test of its calls). If key k passes the rule up to
-    -- moment m and has no event from m + 1 to n, it can fail only after n.
     not_yet : (k i : ℕ) (s : State) → state_after (event k) (has_key k opening) m ≡ Some s → state_after (event k) (has_key k opening) i ≡ None
         → suc n ≤ i
     not_yet k i s so fails = elim (below_or_not i (suc n)) [
@@ -168,7 +164,6 @@ module _ (threads : ℕ) (calls : List CallRecord) (history : IsHistory threads 
           let u : d.end ≡ e.end.0 = until_end behind_all (call e.number).begun (call e.number).ended e.end e.ended in
           omega (arith, f, g, u, a))
 
-  -- If the stored end of a pending call is below `behind_all`, the call has this end in the history.
   ended_at : (n : ℕ) → n < length calls → (pending_of (call n)).end < behind_all → (e : ℕ × Reply) × ((call n).ended ≡ Some e) × (e.0 ≡ (pending_of (call n)).end)
   ended_at n low early = elim (none_or_some (call n).ended) [
     | inl e ↦ absurd (let u : (pending_of (call n)).end ≡ behind_all + (call n).begun = ap (until_if behind_all (call n).begun) e in omega (arith, u, early))
@@ -237,7 +232,6 @@ module _ (threads : ℕ) (calls : List CallRecord) (history : IsHistory threads 
       all_apart : AllPairs (λ (p q : Pending). p.end ≢ q.end) (next ∷ rest)
       all_apart = ends_moved pending (next ∷ rest) is are.apart
 
-      -- Just after the pending call with the earliest end has ended, the pending calls are the other calls in the list.
       pub without_next : ArePending calls next.end rest
       without_next = record {
         known = rest_of (λ (p : Pending). (n : ℕ) × (n < length calls) × (p ≡ pending_of (call_numbered calls n))) are.known;
@@ -258,8 +252,6 @@ module _ (threads : ℕ) (calls : List CallRecord) (history : IsHistory threads 
             omega (arith, up, differs);
       }
 
--- If call x can be the next call of a stream (which judges calls one after another), it still can after some pending
--- calls have ended.
 pub may_still : (old new : List Pending) (m n : ℕ) (x : CallRecord) → MayCome old m x → All (Contains old) new → n < x.begun → MayCome new n x
 may_still old new m n x may some begins = record {
   begins = begins;

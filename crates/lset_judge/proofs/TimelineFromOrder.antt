@@ -261,7 +261,6 @@ module _ (threads : ℕ) (calls : List CallRecord) (history : IsHistory threads 
         let next : SetState = after_call s (x_ p.call).thread (x_ p.call).call p.reply in
         (one.0, subst (λ b. TakeTurns left b (map act_of ps)) one.1 (turns_map quota left ps next l.1 e))
 
-    -- The reply of each completed call in the order is its reply in the history.
     abbrev pub SameReplies : List Placed → Type 0
     SameReplies order = All (λ (p : Placed). IfSome (x_ p.call).ended (λ (e : ℕ × Reply). e.1 ≡ p.reply)) order
 
@@ -293,7 +292,6 @@ module _ (threads : ℕ) (calls : List CallRecord) (history : IsHistory threads 
               at ∙ ap (λ q. begin_event q (until last (x_ p.call))) kd;
         })
 
-    -- If the order contains a completed call on the key, it contains the act (the effect) of this call.
     pub stands_if : (order : List Placed) (n : ℕ) (e : ℕ × Reply) → Contains order (record { call = n; reply = e.1 }) → (x_ n).ended ≡ Some e
         → (key_of (x_ n).call).0 ≡ k → In (act (x_ n).begun e.0 (kind (x_ n))) (map act_of order)
     stands_if order n e c s own =
@@ -304,7 +302,6 @@ module _ (threads : ℕ) (calls : List CallRecord) (history : IsHistory threads 
         (subst (λ q. In (act (x_ n).begun (until last (x_ n)) q) (map act_of order)) b i)
 
     module _ (quota : ℕ) (start : SetState) (order : List Placed) (l : Linearizes quota start calls order) where
-      -- A completed call has the same reply in the order as in the history.
       same_reply : (i : ℕ) (d : Placed) (e : ℕ × Reply) → i < length order → (x_ (get_or order i d).call).ended ≡ Some e
           → (get_or order i d).reply ≡ e.1
       same_reply i d e low s =
@@ -317,7 +314,6 @@ module _ (threads : ℕ) (calls : List CallRecord) (history : IsHistory threads 
             | inr (inr a) ↦ absurd (l.once c.0 i d a low (ap (λ (r : Placed). r.call) is))
           ]
 
-      -- For each completed call on the key, the order contains an act: the effect of the call, with its start and end.
       pub stands : (n : ℕ) (e : ℕ × Reply) → n < length calls → (x_ n).ended ≡ Some e → (key_of (x_ n).call).0 ≡ k
           → In (act (x_ n).begun e.0 (kind (x_ n))) (map act_of order)
       stands n e known s own = stands_if order n e (l.ended n e.0 e.1 known s) s own
@@ -364,7 +360,7 @@ module _ (threads : ℕ) (calls : List CallRecord) (history : IsHistory threads 
             once = tt;
           })
 
--- If an order explains the history, each key passes the judge's rule (the test of one key's calls).
+-- If an order explains the history, each key passes the judge's test.
 pub rule_refutes : (last : ℕ) (h : HistoryValue) (keys : List ℕ) (order : List Placed) → latest_moment h.calls ≤ last
     → IsHistory h.opening.threads h.calls → Explains h order keys → RulePasses last h keys
 rule_refutes last h keys order upto history e k =

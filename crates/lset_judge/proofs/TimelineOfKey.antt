@@ -362,8 +362,6 @@ module _ (ev : ℕ → Event) (last : ℕ) (left : Bool) (are : AreEvents ev) wh
       lists true = lists_past true m v s s.puts ys e r (r.lists true)
       lists false = lists_past false m v s s.takes ys e r (r.lists false)
 
-  -- All pending changes to the state w end after moment m + 1. The end of a change to w is therefore possible at this
-  -- moment.
   none_due : (w : Bool) (m : ℕ) (xs : List ℕ) (ys : List Act) → suc m ≤ last → Waits m ys → AllByRecursion (IsAct ev last) ys → Pairs Apart ys
       → Lists w m xs ys → not_before (suc (suc m)) xs ≡ length xs
   none_due w m xs ys low waits acts pairs l = all_late (suc (suc m)) xs (λ u h. elim (below_or_not u (suc (suc m))) [
@@ -388,8 +386,7 @@ module _ (ev : ℕ → Event) (last : ℕ) (left : Bool) (are : AreEvents ev) wh
       is_not t i l = grind (arith, nat_tests)
   event_fits m v s ys e low waits r = refl
 
-  -- ---- Compares the judge's rule (the test of one key's calls) with the timeline (a choice of the moments when
-  -- changes take effect)
+  -- ---- Compares the judge's test of a key with the timeline (a choice of when each change takes effect)
   place : (m : ℕ) (p : Act) (ys : List Act) (g s : State) → p.begun ≤ m → Leads m g s → Ready m s (p ∷ ys) → (k : Kind) → p.does ≡ k
       → (t : State) × Leads m g t × Ready m t ys
   place m p ys g s begun l r (changes w) d =
@@ -413,8 +410,6 @@ module _ (ev : ℕ → Event) (last : ℕ) (left : Bool) (are : AreEvents ev) wh
   ]
 
   module _ (b : Bool) (first : List Act) (ready : Ready 0 (opened b) first) where
-    -- Up to each moment, the key passes the judge's rule (the test of its calls). The rule has at least as many pending
-    -- changes left as the timeline, which is a choice of the moments when changes take effect.
     goes_on : (m : ℕ) → m ≤ last → (g s : State) × (ys : List Act) × (state_after ev b m ≡ Some g) × Leads m g s × Ready m s ys
     goes_on zero low = (opened b, opened b, first, refl, leads_at_first b, ready)
     goes_on (suc m) low =
@@ -433,8 +428,7 @@ module _ (ev : ℕ → Event) (last : ℕ) (left : Bool) (are : AreEvents ev) wh
     none_left s [] r w = r.take_turns
     none_left s (p ∷ ys) r w = absurd (let low = r.acts.0.inside in omega (arith, low, w))
 
-    -- If a key has a correct timeline (a choice of the moments when changes take effect), the key passes the judge's
-    -- rule (the test of its calls).
+    -- If a key has a correct timeline (a choice of when each change takes effect), the key passes the judge's test.
     pub succeeds : may_leave ev b left last ≡ true
     succeeds =
         let was = goes_on last (omega arith) in let now = place_now last was.0 was.2 was.1 was.4 was.5 in

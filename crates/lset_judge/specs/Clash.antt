@@ -1,5 +1,5 @@
--- Clashes: two calls on a key that rule out every order, whatever the other calls did. The key's opening state can
--- replace the first call, and its final state can replace the second.
+-- A clash: two calls on a key that contradict each other. No order can contain both, whatever other calls there are.
+-- The key's opening state can replace the first call, and its final state can replace the second.
 use Rattle.std.specs.Prelude.{◌≡◌, ◌≢◌, ◌<◌, ℕ, ◌⊎◌, ◌||◌, not, nat_lt, Bool, true, List, Option, Some, None, map, All, IfSome, IsSomeAnd, Contains as Has}
 use Rattle.lset_words.specs.declared.Call.{Call}
 use Rattle.lset_words.specs.declared.Reply.{Reply}
@@ -62,9 +62,9 @@ abbrev pub HasToBe : List CallRecord → ℕ → Option Presence → Presence �
 HasToBe calls key left need None = left ≡ Some need
 HasToBe calls key left need (Some y) = IsOf calls key y × (needs_if y.call y.ended ≡ Some need)
 
--- Returns the start of the first of two clashing calls (calls that no order can contain), or 0 if the key's opening
--- state replaces this call. Between this moment and the end of the second call, no call can change the key to the
--- state that the second call needs.
+-- Returns the start of the first of two calls that contradict each other, or 0 if the key's opening state replaces this
+-- call. Between this moment and the end of the second call, no call can change the key to the state that the second
+-- call needs.
 abbrev pub since_of : Option CallRecord → ℕ
 since_of None = 0
 since_of (Some x) = x.begun
@@ -94,16 +94,16 @@ pub record Clashes (calls : List CallRecord) (key : ℕ) (there : Presence) (lef
   pub needed : HasToBe calls key left (other was) second
   pub nothing : NothingTurns calls key (other was) (since_of first) second
 
--- The second call starts after the first has ended, or the two calls also clash in the opposite order. Always holds if
--- the key's opening state replaces the first call, or its final state replaces the second.
+-- Holds if the second call starts after the first has ended, or the two calls contradict each other in the opposite
+-- order too. Always holds if the key's opening state replaces the first call, or its final state replaces the second.
 abbrev pub InOrder : List CallRecord → ℕ → Presence → Option Presence → Option CallRecord → Option CallRecord → Type 0
 InOrder calls key there left (Some x) (Some y) =
     Precedes x y ⊎ ((x.begun ≢ y.begun) × ((v : Presence) × Clashes calls key there left v (Some y) (Some x)))
 InOrder calls key there left None second = Unit {0}
 InOrder calls key there left (Some x) None = Unit {0}
 
--- Holds if two calls on a key clash: no order can contain both, whatever the other calls did. The key's opening state
--- can replace the first call, and its final state can replace the second.
+-- Holds if two calls on a key contradict each other: no order can contain both, whatever other calls there are. The
+-- key's opening state can replace the first call, and its final state can replace the second.
 abbrev pub IsClash : List CallRecord → ℕ → Presence → Option Presence → Presence → Option CallRecord → Option CallRecord → Type 0
 IsClash calls key there left was first second =
     Clashes calls key there left was first second × InOrder calls key there left first second
@@ -119,13 +119,14 @@ abbrev pub ComesFirst : Option CallRecord → Option CallRecord → Type 0
 ComesFirst first None = Unit {0}
 ComesFirst first (Some y) = EndsBefore first y.begun
 
--- No call on the key clashes with a call that starts after its end, with the key's opening state, or with its final
--- state. (No order can contain two calls that clash.)
+-- Holds if no call on the key contradicts a call that starts after its end, the key's opening state, or its final
+-- state.
 abbrev pub HasNoClash : List CallRecord → ℕ → Presence → Option Presence → Type 0
 HasNoClash calls key there left = (was : Presence) (first second : Option CallRecord) → ComesFirst first second
     → IsClash calls key there left was first second → ⊥
 
--- If two calls in a history clash, no order explains the history and leaves `keys`, whatever the other calls did.
+-- If two calls in a history contradict each other, no order explains the history and leaves `keys`, whatever other
+-- calls there are.
 abbrev pub ClashesExcludeOrders : Type 0
 ClashesExcludeOrders = (h : HistoryValue) (keys : List ℕ) (key : ℕ) (there : Presence) (left : Option Presence) (was : Presence)
     (first second : Option CallRecord) → IsHistory h.opening.threads h.calls → has_key key h.opening.keys ≡ is_there there
@@ -134,8 +135,8 @@ ClashesExcludeOrders = (h : HistoryValue) (keys : List ℕ) (key : ℕ) (there :
 abbrev pub records : List StreamCall → List CallRecord
 records calls = map record_of calls
 
--- No order explains these calls on a key and leaves the key in the state `left`. If `left` is None, no order explains
--- these calls, whatever final state it leaves. `there` is the key's opening state.
+-- Holds if no order explains these calls on a key and leaves the key in the state `left`. If `left` is None, no order
+-- explains these calls, whatever final state it leaves. `there` is the key's opening state.
 abbrev pub HaveNone : ℕ → ℕ → Presence → Option Presence → List CallRecord → Type 0
 HaveNone threads key there left calls = (quota : ℕ) (keys : List ℕ) → IfSome left (λ (l : Presence). keys ≡ key_if (is_there l) key)
     → IsUnexplained (alone threads quota (is_there there) key calls) keys

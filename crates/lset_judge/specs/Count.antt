@@ -1,4 +1,4 @@
--- Counts: calls on a key that are too many for any order. The key would have to change back between these calls more
+-- A count: calls on a key that are too many for any order. The key would have to change back between these calls more
 -- often than it can.
 use Rattle.std.specs.Prelude.{◌≡◌, ℕ, ◌+◌, ◌-◌, ◌<◌, ◌≤◌, ◌==◌, ◌⊎◌, ◌&&◌, not, nat_lt, Bool, true, List, length, filter, Option, Some, None, All, AllPairs, IfSome}
 use Rattle.lset_words.specs.declared.Reply.{Reply}
@@ -15,9 +15,9 @@ use Rattle.lset_judge.specs.Events.{kind_if}
 use Rattle.lset_judge.specs.Rest.{has_ended, turns_to}
 use Rattle.lset_judge.specs.Clash.{records, other, leaves_if, needs_if, IsOf}
 
--- A count (calls on a key that are too many for any order) covers the time from `since` to `until`. If `since` is
--- None, the key's opening state, `was`, counts as a first call. If `until` is None, the key's final state, which is
--- not `was`, counts as a last call. `also` returns the number of these additional calls: 1 for None, else 0.
+-- Returns 1 for `None`, else 0. A count is a set of calls on a key that are too many for any order. It covers the time
+-- from `since` to `until`. If `since` is None, the key's opening state counts as an additional first call. If `until`
+-- is None, the key's final state counts as an additional last call.
 abbrev pub also : Option ℕ → ℕ
 also None = 1
 also (Some moment) = 0
@@ -30,20 +30,20 @@ abbrev pub LeftOtherwise : Option Presence → Presence → Option ℕ → Type 
 LeftOtherwise left was None = left ≡ Some (other was)
 LeftOtherwise left was (Some until) = Unit {0}
 
--- If `since` is a moment, the call starts at this moment or later. If `since` is None, the call needs the state other
+-- Holds if the call starts at the moment `since` or later. If `since` is None, holds if the call needs the state other
 -- than `was`.
 abbrev pub BeginsIn : Presence → Option ℕ → CallRecord → Type 0
 BeginsIn was None x = needs_if x.call x.ended ≡ Some (other was)
 BeginsIn was (Some since) x = since ≤ x.begun
 
--- If `until` is a moment, the call has ended by this moment. If `until` is None, the call leaves the key in the state
+-- Holds if the call has ended by the moment `until`. If `until` is None, holds if the call leaves the key in the state
 -- `was`.
 abbrev pub EndsIn : Presence → Option ℕ → CallRecord → Type 0
 EndsIn was None x = leaves_if x.call x.ended ≡ Some was
 EndsIn was (Some until) x = has_ended until x.ended ≡ true
 
--- Whichever of the calls x and y comes first leaves the key in the state `was`, and the second call needs the other
--- state. Therefore the key must change back between the two calls.
+-- Holds if the key must change back between the calls x and y: the call that comes first leaves the key in the state
+-- `was`, and the other call needs the opposite state.
 pub record NeedTurn (was : Presence) (x y : CallRecord) : Type 0 where
   pub later : x.begun < y.begun
   pub leaves : leaves_if x.call x.ended ≡ Some was
@@ -85,15 +85,14 @@ pub record IsCountOf (calls : List CallRecord) (key : ℕ) (there : Presence) (l
   pub turns : AllPairs (NeedTurn was) counted
   pub fewer : length (turning_in key (other was) since until calls) < turns_of (length counted) since until
 
--- If a history contains a count (too many calls on a key for any order), no order explains the history and leaves
--- these keys, whatever the other calls did.
+-- If a history contains a count (too many calls on a key for any order), no order explains the history and leaves these
+-- keys, whatever other calls there are.
 abbrev pub CountsExcludeOrders : Type 0
 CountsExcludeOrders = (h : HistoryValue) (keys : List ℕ) (key : ℕ) (there : Presence) (left : Option Presence) (was : Presence)
     (since until : Option ℕ) (counted : List CallRecord) → IsHistory h.opening.threads h.calls → has_key key h.opening.keys ≡ is_there there
     → IfSome left (λ (l : Presence). has_key key keys ≡ is_there l) → IsCountOf h.calls key there left was since until counted → IsUnexplained h keys
 
--- The result c of `find_count` is a count: its calls are too many for any order. Its `backs` are all calls that can
--- change the key back.
+-- Holds if c is a count: its calls are too many for any order. Its `backs` are all calls that can change the key back.
 pub record IsCount (calls : List CallRecord) (there : Presence) (left : Option Presence) (c : Count) : Type 0 where
   pub count : IsCountOf calls c.key.0 there left c.was c.since c.until (records c.calls.items)
   pub backs : records c.backs.items ≡ turning_in c.key.0 (other c.was) c.since c.until calls

@@ -1,5 +1,5 @@
--- The facts that the judge stores about the calls on each key. They let it find a clash: two calls on the key that rule
--- out every order.
+-- The facts that the judge stores about the calls on each key. With these facts, the judge finds two calls on the key
+-- that contradict each other (a clash).
 use Rattle.std.specs.Prelude.{◌≡◌, ◌≢◌, ℕ, ◌<◌, ◌≤◌, ◌⊎◌, max, if◌then◌else◌, Bool, true, false, List, ◌++◌, All, Option, Some, None, IfSome, IsSomeAnd}
 use Rattle.std.specs.Bool.{nat_eq}
 use Rattle.std.specs.HashMap.{get}
@@ -83,8 +83,8 @@ is_call Change = true
 is_call Refused = true
 is_call Look = true
 
--- Returns the call that the facts (the judge's notes about a key) store, or None. A stored call left the key in the
--- state `was`. If none is stored, the set opened with the key in this state.
+-- Returns the call that the stored facts about a key contain, or None. A stored call left the key in the state `was`.
+-- If none is stored, the set opened with the key in this state.
 abbrev pub first_of : ℕ → Facts → Option StreamCall
 first_of key f = if is_call f.kept then Some (call_kept key f) else None
 
@@ -116,10 +116,10 @@ begun_by (looks w since) f = f
 begun_by (leaves w) f = f
 begun_by idle f = f
 
--- Holds if the facts `new` (the judge's notes about a key) store the completed call `call` in place of the call that
--- `old` stores. `call` left the key in the state `new.was`, and all changes to the other state end by its start. The
--- call in `old` is less useful: it left the key in the other state, or started before these changes had ended. The
--- latest ends of changes stay the same.
+-- Holds if the stored facts `new` about the key store the completed call `call` in place of the call that `old` stores.
+-- `call` left the key in the state `new.was`, and all changes to the other state end by its start. The call in `old` is
+-- less useful: it left the key in the other state, or started before these changes had ended. The latest ends of
+-- changes stay the same.
 pub record IsKept (call : StreamCall) (old new : Facts) : Type 0 where
   pub first : first_of (key_of call.call).0 new ≡ Some call
   pub leaves : leaves_if call.call call.ended ≡ Some new.was
@@ -128,21 +128,21 @@ pub record IsKept (call : StreamCall) (old new : Facts) : Type 0 where
   pub standing : until_of (other new.was) old ≤ call.begun
   pub better : old.was ≡ new.was → until_of (other new.was) old ≤ old.begun → ⊥
 
--- Holds if the call that the facts store is at least as useful as `call` for finding a clash (two calls that no order
--- can contain). Suppose that all changes away from the state that `call` left end by the start of `call`. Then the
--- stored call left the same state, and these changes also end by its start.
+-- Holds if the call that the facts store is at least as useful as `call` for finding two calls that contradict each
+-- other. If all changes away from the state that `call` left end by its start, then the stored call left the same
+-- state, and these changes also end by the start of the stored call.
 abbrev pub ServesAsWell : StreamCall → Facts → Type 0
 ServesAsWell call f = IfSome call.ended (λ (e : ℕ × Reply). is_plain call.call e.1 ≡ true) → (p : Presence) → leaves_if call.call call.ended ≡ Some p
     → until_of (other p) f ≤ call.begun → (f.was ≡ p) × (until_of (other p) f ≤ f.begun)
 
--- The end of `call` does not change the facts (the judge's notes about the key), because the call that they already
--- store is at least as useful.
+-- Holds if the end of `call` does not change the stored facts about the key, because the call that they already contain
+-- is at least as useful.
 pub record IsUnchanged (call : StreamCall) (old new : Facts) : Type 0 where
   pub same : new ≡ old
   pub serves : ServesAsWell call old
 
--- How the facts (the judge's notes about a key) change when a call on the key ends: they stay the same, or the call
--- replaces the one call that they store.
+-- Describes how the stored facts about the key change when a call on the key ends: they stay the same, or the call
+-- replaces the call that they contain.
 abbrev pub IsEnded : StreamCall → Facts → Facts → Type 0
 IsEnded call old new = IsUnchanged call old new ⊎ IsKept call old new
 
@@ -154,29 +154,29 @@ abbrev pub AreOverBy : List CallRecord → ℕ → Presence → ℕ → Type 0
 AreOverBy calls key there moment = All (λ (x : CallRecord). (key_of x.call).0 ≡ key → turns_to there (kind_if x.call x.ended) ≡ true
     → until_if behind_all x.begun x.ended ≤ moment) calls
 
--- The facts that the judge stores about a key are correct. If they store a call, this call is one of `calls` and left
--- the key in the state `was`. If they store no call, the set opened with the key in this state. All changes to each
--- state end by the moment that the facts store for this state.
+-- Holds if the facts that the judge stores about a key are correct. If they contain a call, this call is one of `calls`
+-- and left the key in the state `was`. If they contain no call, the set opened with the key in this state. All changes
+-- to each state end by the moment that the facts contain for this state.
 pub record AreFacts (opening : List ℕ) (calls : List CallRecord) (key : ℕ) (f : Facts) : Type 0 where
   pub was : WasSo calls key (presence (has_key key opening)) f.was (record_if (first_of key f))
   pub over : (there : Presence) → AreOverBy calls key there (until_of there f)
 
--- Holds if c is a clash of two calls on the key: no order can contain both, whatever calls start after the moment.
+-- Holds if c is a clash on the key: its two calls contradict each other, whatever calls start after the moment.
 abbrev pub IsClashBy : List ℕ → List CallRecord → ℕ → ℕ → Clash → Type 0
 IsClashBy opening calls moment key c = (later : List CallRecord) → All (λ (z : CallRecord). moment < z.begun) later
     → IsClash (calls ++ later) key (presence (has_key key opening)) None c.was (record_if c.first) (record_if c.second)
 
--- The facts that the judge stores about each key are correct. After a key has failed the judge's rule (the test of one
--- key's calls), this is required only of the facts about this key. After a clash (two calls that no order can contain)
--- has been found, it is only required that it is a clash on this key.
+-- Holds if the facts that the judge stores about each key are correct. After a key has failed the judge's test, this is
+-- required only of the facts about this key. After two contradicting calls have been found, it is only required that
+-- both are on this key and contradict each other.
 abbrev pub AreKnownBy : List ℕ → List CallRecord → ℕ → States → Option Failed → Option Clash → Type 0
 AreKnownBy opening calls moment states None clash = (k : ℕ) → AreFacts opening calls k (facts_for states k)
 AreKnownBy opening calls moment states (Some f) None = AreFacts opening calls f.key.0 (facts_for states f.key.0)
 AreKnownBy opening calls moment states (Some f) (Some c) = IsClashBy opening calls moment f.key.0 c
 
--- ---- The facts that the judge stores suffice to find a clash (two calls that no order can contain)
+-- ---- The facts that the judge stores suffice to find two calls that contradict each other
 
--- The moment is 0, or it is the end of a call that changes the key to the state `there`.
+-- Holds if the moment is 0, or the end of a call that changes the key to the state `there`.
 abbrev pub IsLatest : List CallRecord → ℕ → Presence → ℕ → Type 0
 IsLatest calls key there moment = (moment ≡ 0)
     ⊎ ((x : CallRecord) × IsOf calls key x × (turns_to there (kind_if x.call x.ended) ≡ true) × (moment ≡ until_if behind_all x.begun x.ended))
@@ -186,16 +186,16 @@ abbrev pub IsPast : ℕ → Option CallRecord → Type 0
 IsPast moment None = Unit {0}
 IsPast moment (Some x) = IfSome x.ended (λ (e : ℕ × Reply). e.0 ≤ moment)
 
--- For finding a clash (two calls that no order can contain), the call that the facts store is at least as good as
--- `first`. It left the key in the same state p, all changes to the other state had ended when it started, and it ended
--- before each moment that `first` ended before.
+-- Holds if the stored call is at least as useful as `first` for finding a contradiction. It left the key in the same
+-- state p, all changes to the other state had ended when it started, and it ended before each moment that `first` ended
+-- before.
 pub record IsAsGood (key : ℕ) (f : Facts) (p : Presence) (first : Option CallRecord) : Type 0 where
   pub was : f.was ≡ p
   pub standing : until_of (other p) f ≤ f.begun
   pub early : (moment : ℕ) → EndsBefore first moment → EndsBefore (record_if (first_of key f)) moment
 
--- The facts that the judge stores about a key suffice to find a clash (two calls that no order can contain): if any
--- completed call or the opening state can clash with a call that ends later, the stored call can.
+-- Holds if the facts that the judge stores about a key suffice to find a contradiction: if any completed call or the
+-- opening state can contradict a call that ends later, the stored call can too.
 pub record AreComplete (opening : List ℕ) (calls : List CallRecord) (moment key : ℕ) (f : Facts) : Type 0 where
   pub latest : (there : Presence) → IsLatest calls key there (until_of there f)
   pub since : f.begun ≡ since_of (record_if (first_of key f))
@@ -203,8 +203,8 @@ pub record AreComplete (opening : List ℕ) (calls : List CallRecord) (moment ke
   pub best : (p : Presence) (first : Option CallRecord) → WasSo calls key (presence (has_key key opening)) p first → IsPast moment first
       → until_of (other p) f ≤ since_of first → IsAsGood key f p first
 
--- Among the calls on the key that have ended by a moment, no clash (two calls that no order can contain) was missed:
--- none of these calls clashes with a call that had ended before it started, or with the opening state.
+-- Holds if no contradiction was missed among the calls on the key that have ended by a moment: none of these calls
+-- contradicts a call that had ended before it started, or the opening state.
 abbrev pub NoneMissed : List ℕ → List CallRecord → ℕ → ℕ → Type 0
 NoneMissed opening calls moment key = (p : Presence) (first : Option CallRecord) (y : CallRecord) → EndsBefore first y.begun
     → Clashes calls key (presence (has_key key opening)) None p first (Some y) → IsPast moment (Some y) → ⊥
@@ -215,8 +215,8 @@ AreCompleteBy opening calls moment states (Some f) None =
     AreComplete opening calls moment f.key.0 (facts_for states f.key.0) × NoneMissed opening calls moment f.key.0
 AreCompleteBy opening calls moment states (Some f) (Some c) = Unit {0}
 
--- Holds if the stream s has judged these calls. The facts that it stores about the keys are correct (see
--- `AreKnownBy`), and suffice to find a clash (two calls that no order can contain; see `AreCompleteBy`).
+-- Holds if the stream s has judged these calls. The facts that it stores about the keys are correct (see `AreKnownBy`),
+-- and suffice to find two calls that contradict each other (see `AreCompleteBy`).
 pub record IsStreamKept (threads : ℕ) (opening : List ℕ) (calls : List CallRecord) (s : Stream) : Type 0 where
   pub stream : IsStreamOf threads opening calls s
   pub known : AreKnownBy opening calls s.moment s.states s.failed s.clash
@@ -224,8 +224,8 @@ pub record IsStreamKept (threads : ℕ) (opening : List ℕ) (calls : List CallR
 
 -- ---- Definitions that only one contract uses
 
--- All changes of the key away from the state `was` had ended when the stored call started. If no call is stored, no
--- change of this kind has started.
+-- Holds if all changes of the key away from the state `was` had ended when the stored call started. If no call is
+-- stored, holds if no change of this kind has started.
 abbrev pub IsStanding : ℕ → Facts → Type 0
 IsStanding key f = until_of (other f.was) f ≤ since_of (record_if (first_of key f))
 
@@ -233,8 +233,8 @@ IsStanding key f = until_of (other f.was) f ≤ since_of (record_if (first_of ke
 abbrev pub EndsBy : Option (ℕ × Reply) → Option (ℕ × Reply) → Type 0
 EndsBy first second = IsSomeAnd first (λ (d : ℕ × Reply). IsSomeAnd second (λ (e : ℕ × Reply). d.0 ≤ e.0))
 
--- According to the facts f (the judge's notes about a key), no order can contain the calls x and y in the opposite
--- order either: y first, then x.
+-- Holds if, according to the stored facts f about the key, no order can contain the calls x and y in the opposite order
+-- either: y first, then x.
 pub record ClashTurned (f : Facts) (x y : StreamCall) : Type 0 where
   pub apart : x.begun ≢ y.begun
   pub left : Presence
@@ -247,7 +247,7 @@ abbrev pub ComesAfter : Facts → Option StreamCall → StreamCall → Type 0
 ComesAfter f None second = Unit {0}
 ComesAfter f (Some x) second = Precedes (record_of x) (record_of second) ⊎ ClashTurned f x second
 
--- The facts f (the judge's notes about a key) show that no order can contain both the call that f stores and the call
+-- Holds if the stored facts f about the key show that no order can contain both the call that f stores and the call
 -- `call`. If f stores no call, the key's opening state takes its place.
 pub record IsClashing (f : Facts) (call : StreamCall) : Type 0 where
   pub needs : needs_if call.call call.ended ≡ Some (other f.was)
@@ -257,23 +257,23 @@ pub record IsClashing (f : Facts) (call : StreamCall) : Type 0 where
 abbrev pub clash_with : ℕ → Facts → Option StreamCall → Clash
 clash_with key f second = record { was = f.was; first = first_of key f; second = second }
 
--- Holds if, according to the facts f (the judge's notes about a key), c is a clash: no order can contain both of its
--- calls. `call` is its second call.
+-- Holds if, according to the stored facts f about the key, c is a clash: no order can contain both of its calls. `call`
+-- is its second call.
 pub record IsFound (f : Facts) (call : StreamCall) (c : Clash) : Type 0 where
   pub is : c ≡ clash_with (key_of call.call).0 f (Some call)
   pub clashing : IsClashing f call
 
--- According to the facts f (the judge's notes about a key), c is a clash with the key's final state `left`: no order
--- can contain the call that f stores and leave this state. If f stores no call, the key's opening state takes its
+-- Holds if, according to the stored facts f about the key, c is a contradiction with the key's final state `left`: no
+-- order can contain the call that f stores and leave this state. If f stores no call, the key's opening state takes its
 -- place.
 pub record IsFoundLeft (key : ℕ) (f : Facts) (left : Presence) (c : Clash) : Type 0 where
   pub is : c ≡ clash_with key f None
   pub is_other : left ≡ other f.was
   pub standing : IsStanding key f
 
--- How the start of a call changes the facts that the judge stores about the keys: as `begun_by` describes for the key
--- of the call, and not at all for any other key. After a key has failed the judge's rule (the test of one key's
--- calls), this is required only of the facts about this key. After a clash has been found, nothing is required.
+-- Describes how the start of a call changes the facts that the judge stores about the keys: as `begun_by` describes for
+-- the key of the call, and not at all for any other key. After a key has failed the judge's test, this is required only
+-- of the facts about this key. After a contradiction has been found, nothing is required.
 abbrev pub BeginIsKnown : States → ℕ → Event → States → Option Failed → Option Clash → Type 0
 BeginIsKnown before key event after None clash = (facts_for after key ≡ begun_by event (facts_for before key))
     × ((k : ℕ) → k ≢ key → facts_for after k ≡ facts_for before k)
@@ -281,8 +281,8 @@ BeginIsKnown before key event after (Some f) None = (facts_for after f.key.0 ≡
     ⊎ ((facts_for after f.key.0 ≡ facts_for before f.key.0) × (f.key.0 ≢ key))
 BeginIsKnown before key event after (Some f) (Some c) = Unit {0}
 
--- The end of a call changes the facts (the judge's notes) about its key as `IsEnded` describes. If a clash (two calls
--- that no order can contain) is found at this end, the facts before the end show it, and this call is its second call.
+-- Holds if the end of a call changes the stored facts about its key as `IsEnded` describes. If a contradiction between
+-- two calls is found at this end, the facts before the end show it, and this call is the second of the two calls.
 pub record EndIsKept (before : States) (call : StreamCall) (after : States) (clash : Option Clash) : Type 0 where
   pub facts : IsEnded call (facts_for before (key_of call.call).0) (facts_for after (key_of call.call).0)
   pub found : IfSome clash (IsFound (facts_for before (key_of call.call).0) call)
@@ -298,13 +298,14 @@ abbrev pub clash_met : Option Failed → Option Clash → Option Clash
 clash_met None clash = None
 clash_met (Some f) clash = clash
 
--- Holds if c is a clash (no order can contain both its calls), whatever calls the stream has judged. Both calls are on
+-- Holds if c is a clash: its two calls contradict each other, whatever calls the stream has judged. Both calls are on
 -- the key that `refusal`, the reason of the verdict, names.
 abbrev pub ClashesStream : List ℕ → Refusal → Option Presence → Stream → Clash → Type 0
 ClashesStream opening refusal left s c = (threads : ℕ) (calls : List CallRecord) → IsStreamKept threads opening calls s
     → IsClash calls refusal.key.0 (presence (has_key refusal.key.0 opening)) left c.was (record_if c.first) (record_if c.second)
 
--- Holds if, once all ends have been processed, no two calls on the key that the reason names clash (see `HasNoClash`).
+-- Holds if, once all ends have been processed, no two calls on the key that the reason names contradict each other (see
+-- `HasNoClash`).
 abbrev pub HasNone : List ℕ → Refusal → Option Presence → Stream → Type 0
 HasNone opening refusal left s = (threads : ℕ) (calls : List CallRecord) → IsStreamKept threads opening calls s
     → All (λ (p : Pending). behind_all ≤ p.end) s.pending → HasNoClash calls refusal.key.0 (presence (has_key refusal.key.0 opening)) left

@@ -25,21 +25,21 @@ abbrev pub left_by : List ℕ → ℕ → Option ℕ → Option Presence
 left_by keys key (Some moment) = None
 left_by keys key None = Some (presence (has_key key keys))
 
--- Holds if c is a clash of two calls on the key: no order can contain both. The key's opening state can replace the
--- first call, and its final state `left` the second.
+-- Holds if c is a clash: two calls on the key that contradict each other. The key's opening state can replace the first
+-- call, and its final state `left` the second.
 abbrev pub ClashesIn : List ℕ → List CallRecord → ℕ → Option Presence → Clash → Type 0
 ClashesIn opening calls key left c =
     IsClash calls key (presence (has_key key opening)) left c.was (record_if c.first) (record_if c.second)
 
--- No call on the key clashes with a call that starts after its end, with the key's opening state, or with its final
--- state. (No order can contain two calls that clash.)
+-- Holds if no call on the key contradicts a call that starts after its end, the key's opening state, or its final
+-- state.
 abbrev pub HasNoClashIn : List ℕ → List CallRecord → ℕ → Option Presence → Type 0
 HasNoClashIn opening calls key left = HasNoClash calls key (presence (has_key key opening)) left
 
--- Holds if a verdict is correct. If it includes a clash (two calls that no order can contain), the clash is on the key
--- that the reason (`refusal`) names. The clash involves the key's final state only if the reason is about the final
--- keys. If the verdict includes no clash, no call on this key clashes with a later call, with the key's opening state,
--- or with its final state.
+-- Holds if a verdict is correct. If it includes a pair of contradicting calls (a clash), both are on the key that the
+-- reason (`refusal`) names. The key's final state can replace the second call only if the reason is about the final
+-- keys. If the verdict includes no such pair, no call on this key contradicts a later call, the key's opening state, or
+-- its final state.
 abbrev pub IsVerdict : ℕ → List ℕ → List CallRecord → List ℕ → Verdict → Type 0
 IsVerdict threads opening calls keys verdict.Linearizable = IsStreamVerdict (stream_history threads opening calls) keys Linearizable
 IsVerdict threads opening calls keys (verdict.NotLinearizable refusal clash) =

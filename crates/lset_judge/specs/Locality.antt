@@ -22,7 +22,7 @@ part_of part i h = record {
   calls = calls_in part i h.calls;
 }
 
--- Calls on different keys do not influence each other's verdict (locality). In a history that the judge decides, each
+-- Locality: calls on different keys do not influence each other's verdict. In a history that the judge decides, each
 -- key belongs to one part. Some order explains the history if and only if, for each part, some order explains the part
 -- and leaves the part's final keys.
 abbrev pub KeysAreApart : Type 0

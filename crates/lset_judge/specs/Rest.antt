@@ -1,4 +1,4 @@
--- The calls on a single key: which calls can change the key, and the history of the key's calls alone.
+-- The calls on a single key: the calls that can change the key, and the history of the calls on this key alone.
 use Rattle.std.specs.Prelude.{ℕ, nat_le, if◌then◌else◌, Bool, false, List, [], ◌∷◌}
 use Rattle.std.specs.Prelude.{Option, Some, None}
 use Rattle.lset_words.specs.declared.Reply.{Reply}

@@ -1,5 +1,5 @@
--- The judge's rule, the test of the calls on one key: the events of the key, and the pending change that takes effect
--- at each of them.
+-- The judge's test of the calls on one key: the events of the key, and the pending change that takes effect at each of
+-- them.
 use Rattle.std.specs.Prelude.{ℕ, zero, suc, ◌+◌, ◌==◌, ◌||◌, min, nat_lt, Bool, true, false, not, if◌then◌else◌, List, [], ◌∷◌}
 use Rattle.std.specs.Prelude.{length, Option, Some, None, is_some}
 
@@ -83,8 +83,9 @@ turned_by m e s = record {
   takes = if s.there then take_out e s.takes else s.takes;
 }
 
--- The judge's rule: a change takes effect only when an event needs it. The pending change with the earliest end then
--- takes effect. `nearest` returns this earliest end, and `turned_if` the key's state after the change.
+-- `nearest` returns the earliest of the moments. `turned_if` returns the key's state after the pending change with the
+-- earliest end has taken effect, or None if no change is pending. In the judge's test, a change takes effect only when
+-- an event needs it.
 abbrev pub nearest : ℕ → List ℕ → ℕ
 nearest x [] = x
 nearest x (y ∷ ys) = min x (nearest y ys)
@@ -110,19 +111,19 @@ abbrev pub entered : Event → Option State → Option State
 entered v None = None
 entered v (Some t) = Some (enters v t)
 
--- Returns the state of a key after the event v, which happens at moment m + 1. Returns None if v is impossible: the
--- judge's rule (the test of one key's calls) has then failed.
+-- Returns the state of a key after the event v, which happens at moment m + 1. Returns None if v is impossible: the key
+-- has then failed the judge's test.
 abbrev pub stepped : ℕ → Event → Option State → Option State
 stepped m v None = None
 stepped m v (Some s) = entered v (found m v s)
 
--- Returns the state of a key after a moment, or None if an event up to this moment was impossible: the judge's rule
--- (the test of the key's calls) has then failed.
+-- Returns the state of a key after a moment, or None if an event up to this moment was impossible: the key has then
+-- failed the judge's test.
 abbrev pub state_after : (ℕ → Event) → Bool → ℕ → Option State
 state_after ev opening zero = Some (opened opening)
 state_after ev opening (suc m) = stepped m (ev (suc m)) (state_after ev opening m)
 
--- Returns whether the judge's rule (the test of one key's calls) finds every event up to the moment `last` possible,
--- and then the final state `left`.
+-- Returns whether a key passes the judge's test: every event up to the moment `last` is possible, and then the final
+-- state `left`.
 abbrev pub may_leave : (ℕ → Event) → Bool → Bool → ℕ → Bool
 may_leave ev opening left last = is_some (stepped last (leaves left) (state_after ev opening last))

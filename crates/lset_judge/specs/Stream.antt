@@ -82,16 +82,15 @@ IsOver moment x = (end : ℕ × Reply) × (x.ended ≡ Some end) × (end.0 ≤ m
 abbrev pub IsBefore : CallRecord → Type 0
 IsBefore x = (x.begun < behind_all) × IfSome x.ended (λ (end : ℕ × Reply). end.0 < behind_all)
 
--- `pending` lists the calls that have not ended by the moment `moment`. No two of them have the same end.
+-- Holds if `pending` lists the calls that have not ended by the moment `moment`. No two of them have the same end.
 pub record ArePending (calls : List CallRecord) (moment : ℕ) (pending : List Pending) : Type 0 where
   pub known : All (λ (p : Pending). (n : ℕ) × (n < length calls) × (p ≡ pending_of (call_numbered calls n))) pending
   pub kept : (n : ℕ) → n < length calls → IsOver moment (call_numbered calls n) ⊎ Contains pending (pending_of (call_numbered calls n))
   pub apart : AllPairs (λ (p q : Pending). p.end ≢ q.end) pending
   pub later : All (λ (p : Pending). moment < p.end) pending
 
--- The stored states of the keys are correct after a moment: they are the states that the judge's rule (the test of one
--- key's calls) computes. If the rule has failed by then (Some f), it failed for the key `f.key` by the moment
--- `f.moment`, and for no key earlier.
+-- Holds if the stored states of the keys are correct after a moment: they are the states that the judge's test
+-- computes. `Some f` means that a key has failed the test: `f.key`, by the moment `f.moment`, and no key earlier.
 abbrev pub IsJudgedTo : List ℕ → List CallRecord → ℕ → States → Option Failed → Type 0
 IsJudgedTo opening calls moment states None =
     (k : ℕ) → state_after (event_at behind_all k calls) (has_key k opening) moment ≡ Some (state_for states k)
@@ -133,20 +132,20 @@ pub record MayCome (pending : List Pending) (moment : ℕ) (x : CallRecord) : Ty
 
 -- ---- The meaning of a verdict
 
--- Holds if key k has failed the judge's rule (the test of one key's calls) by a moment.
+-- Holds if key k has failed the judge's test by a moment.
 abbrev pub HasFailed : HistoryValue → ℕ → ℕ → Type 0
 HasFailed h k moment = state_after (event_at behind_all k h.calls) (has_key k h.opening.keys) moment ≡ None
 
--- This key is the first to fail the judge's rule (the test of one key's calls), at this moment: no key fails earlier.
--- Without a moment, no key ever fails. (Then only the final state of the key is wrong: see `IsRefusedBy`.)
+-- Holds if this key is the first to fail the judge's test, at this moment: no key fails earlier. Without a moment,
+-- holds if no key ever fails. (Then only the final state of the key is wrong: see `IsRefusedBy`.)
 abbrev pub FailsFirst : HistoryValue → ℕ → Option ℕ → Type 0
 FailsFirst h key None = (k m : ℕ) → HasFailed h k m → ⊥
 FailsFirst h key (Some moment) = HasFailed h key moment × ((k m : ℕ) → HasFailed h k m → moment ≤ m)
 
 -- Holds if a verdict is correct. Linearizable: some order explains the calls and leaves the keys. NotLinearizable: no
 -- order does, with any quota. The calls on the key that the reason (`refusal`) names suffice to show this
--- (`IsRefusedBy`). If the reason has a moment, this key is the first to fail the judge's rule (the test of one key's
--- calls), at this moment. Otherwise no key fails the rule.
+-- (`IsRefusedBy`). If the reason has a moment, this key is the first to fail the judge's test, at this moment.
+-- Otherwise no key fails the test.
 abbrev pub IsStreamVerdict : HistoryValue → List ℕ → StreamVerdict → Type 0
 IsStreamVerdict h keys Linearizable = IsExplained h keys
 IsStreamVerdict h keys (NotLinearizable refusal) =
@@ -164,8 +163,8 @@ IsStreamVerdictCutOff h (NotLinearizable refusal) = (keys : List ℕ) → IsStre
 abbrev pub no_pending : Pending
 no_pending = record { end = 0; call = call_of no_call }
 
--- How an event of a key at a moment changes the stored states of the keys, and whether the judge's rule (the test of
--- one key's calls) fails at this event. After the rule has failed, nothing is required of the stored states.
+-- Describes how an event of a key at a moment changes the stored states of the keys, and whether the key fails the
+-- judge's test at this event. After a failure, nothing is required of the stored states.
 abbrev pub IsMetBy : States → ℕ → ℕ → Event → States → Option Failed → Option Failed → Type 0
 IsMetBy before key moment event after (Some f) failed = failed ≡ Some f
 IsMetBy before key moment event after None None =
@@ -186,8 +185,8 @@ abbrev pub verdict_of_key : Option ℕ → StreamVerdict
 verdict_of_key None = Linearizable
 verdict_of_key (Some k) = NotLinearizable (record { key = record { 0 = k }; moment = None })
 
--- If the judge's rule (the test of one key's calls) has failed, the verdict reports this failure. If the rule has not
--- failed and the verdict is NotLinearizable, its reason has no moment.
+-- Holds if the verdict agrees with the judge's test. If a key has failed (Some f), the verdict reports this failure. If
+-- no key has failed, a verdict NotLinearizable has a reason without a moment.
 abbrev pub IsToldBy : Option Failed → StreamVerdict → Type 0
 IsToldBy None Linearizable = Unit {0}
 IsToldBy None (NotLinearizable refusal) = refusal.moment ≡ None

@@ -1,4 +1,5 @@
-//! Clashes: two calls on a key that rule out every order, whatever the other calls did.
+//! Finds clashes. A clash is a pair of calls on a key that contradict each other: no order can contain both, whatever
+//! other calls there are.
 
 ghost use Rattle.std.specs.Prelude.{◌≡◌, ℕ, All, Contains, IfSome, IsTrue, true};
 ghost use Rattle.lset_words.specs.History.{IsHistory};
@@ -10,10 +11,10 @@ ghost use Rattle.lset_judge.specs.Rest.{has_ended, turns_to};
 use crate::stream::StreamCall;
 use lset_words::{Effect, Key, Presence};
 
-/// Two calls on a key that clash: no order can explain both, whatever the other calls did. The first call leaves the
-/// key in one state, and the second needs the other state. Between the start of the first call and the end of the
-/// second, no call can change the key to that other state. The second call starts after the first has ended, or the two
-/// also clash in the opposite order.
+/// Two calls on a key that contradict each other: no order can contain both, whatever other calls there are. The first
+/// call leaves the key in one state, and the second needs the other state. Between the start of the first call and the
+/// end of the second, no call can change the key to that other state. The second call starts after the first has ended,
+/// or the two calls contradict each other in the opposite order too.
 #[derive(Clone, Copy, Debug, PartialEq, Eq)]
 pub struct Clash {
     /// The key's state (present or absent) after the first call.
@@ -25,7 +26,7 @@ pub struct Clash {
     pub second: Option<StreamCall>,
 }
 
-/// The arguments of a search for two calls that rule out every order: the key, whether the set opened with the key
+/// The arguments of a search for two calls that contradict each other: the key, whether the set opened with the key
 /// (`there`), and the key's final state (`left`), if known.
 #[derive(Clone, Copy)]
 struct Asked {
@@ -34,8 +35,7 @@ struct Asked {
     left: Option<Presence>,
 }
 
-/// States a lemma: if two calls in a history clash, no order explains the history and its final keys. This function
-/// does nothing at run time.
+/// Lemma: if two calls in a history contradict each other, no order explains the history and its final keys.
 pub fn clashes_exclude_orders()
     ensures { ClashesExcludeOrders }
 {}
@@ -213,14 +213,14 @@ fn in_order(calls: &[StreamCall], asked: Asked, clash: Clash) -> bool
     first.begun != second.begun && clashes(calls, asked, turned)
 }
 
-/// Returns whether both calls of `clash` are in `calls`, and no order can explain both.
+/// Returns whether both calls of `clash` are in `calls` and contradict each other.
 fn is_clash(calls: &[StreamCall], asked: Asked, clash: Clash) -> bool
     ensures { IsTrue result → IsClash (records calls.now) asked.key.0 asked.there asked.left clash.was (record_if clash.first) (record_if clash.second) }
 {
     clashes(calls, asked, clash) && in_order(calls, asked, clash)
 }
 
-/// Returns the last call in `calls` that ended by `moment` and left the key in the state `was`.
+/// Returns the last call in `calls` that had ended by `moment` and left the key in the state `was`.
 fn last_before(calls: &[StreamCall], was: Presence, moment: u64) -> Option<StreamCall> {
     let mut last = None;
     for call in calls {
@@ -231,8 +231,8 @@ fn last_before(calls: &[StreamCall], was: Presence, moment: u64) -> Option<Strea
     last
 }
 
-/// Searches for an earlier call that clashes with `second` (no order can explain both). The result has no `first` if
-/// the key's opening state already rules out `second`.
+/// Searches for an earlier call that contradicts `second`: no order can contain both. The result has no `first` if the
+/// key's opening state already rules out `second`.
 fn clash_with(calls: &[StreamCall], asked: Asked, second: StreamCall) -> Option<Clash>
     ensures { IfSome result (λ c. IsClash (records calls.now) asked.key.0 asked.there asked.left c.was (record_if c.first) (record_if c.second)) }
 {
@@ -259,7 +259,7 @@ fn clash_with(calls: &[StreamCall], asked: Asked, second: StreamCall) -> Option<
     None
 }
 
-/// Searches `calls` for two calls that clash (no order can explain both). If several pairs clash, returns the pair with
+/// Searches `calls` for two calls that contradict each other. If there are several such pairs, returns the pair with
 /// the latest second call.
 fn last_clash(calls: &[StreamCall], asked: Asked) -> Option<Clash>
     ensures { IfSome result (λ c. IsClash (records calls.now) asked.key.0 asked.there asked.left c.was (record_if c.first) (record_if c.second)) }
@@ -281,8 +281,8 @@ fn last_clash(calls: &[StreamCall], asked: Asked) -> Option<Clash>
     None
 }
 
-/// Searches for two calls on `key` that clash. `there` is the key's state when the set opened; `left` is its final
-/// state, if known. If a clash is returned, no order explains these calls, whatever the other calls did.
+/// Searches for two calls on `key` that contradict each other. `there` is the key's state when the set opened; `left`
+/// is its final state, if known. If a clash is returned, no order explains these calls, whatever other calls there are.
 pub fn find_clash(
     calls: &[StreamCall],
     key: Key,

@@ -45,8 +45,8 @@ impl Count {
     }
 }
 
-/// States a lemma: if a history contains a count (calls on a key that are too many for any order), no order explains
-/// the history and its final keys. This function does nothing at run time.
+/// Lemma: if a history contains a count (calls on a key that are too many for any order), no order explains the history
+/// and its final keys.
 pub fn counts_exclude_orders()
     ensures { CountsExcludeOrders }
 {}

@@ -1,5 +1,5 @@
-//! The facts that the judge stores about the calls on each key. They let it find a clash: two calls on the key that
-//! rule out every order.
+//! The facts that the judge stores about the calls on each key. With these facts, the judge finds two calls on the key
+//! that contradict each other (a clash).
 
 ghost use Rattle.std.specs.Prelude.{◌≡◌, ◌↔◌, ◌≤◌, false, IsTrue, MatchOption, Some};
 ghost use Rattle.lset_words.specs.Effects.{effect_of};
@@ -75,8 +75,8 @@ impl KeyState {
         }
     }
 
-    /// Returns the stored call on `key` (the kept call), which left the key in the state `was`. Returns `None` if no
-    /// call is stored, since the set opened with the key in this state.
+    /// Returns the kept call on `key`, which left the key in the state `was`. Returns `None` if no call is stored,
+    /// since the set opened with the key in this state.
     fn first(&self, key: Key) -> Option<StreamCall>
         ensures { result ≡ first_of key.0 (facts_of self.now) }
     {
@@ -116,8 +116,8 @@ impl KeyState {
         }
     }
 
-    /// Returns whether `second` starts after `first` has ended, or the stored facts show that the two calls also clash
-    /// (rule out every order) in the opposite order. Returns true if `first` is `None`.
+    /// Returns whether `second` starts after `first` has ended, or the stored facts show that the two calls contradict
+    /// each other in the opposite order too. Returns true if `first` is `None`.
     fn comes_after(&self, first: Option<StreamCall>, second: StreamCall) -> bool
         ensures { IsTrue result ↔ ComesAfter (facts_of self.now) first second }
     {
@@ -138,9 +138,9 @@ impl KeyState {
             && ends_by(first, second)
     }
 
-    /// Returns the clash (two calls that rule out every order) of the stored call on the key with the call `second`,
-    /// which ends now. If no call is stored, the key's opening state replaces the stored call. Returns `None` exactly
-    /// if the stored facts show no clash.
+    /// Returns the contradiction between the kept call on the key and the call `second`, which ends now. If no call is
+    /// kept, the key's opening state takes its place. Returns `None` if and only if the stored facts show no
+    /// contradiction.
     pub(crate) fn clash_of(&self, second: StreamCall) -> Option<Clash>
         ensures { MatchOption result (IsClashing (facts_of self.now) second → ⊥) (IsFound (facts_of self.now) second) }
     {
@@ -159,17 +159,17 @@ impl KeyState {
         })
     }
 
-    /// Stores the result of `clash_of` in `clash`. This is a separate function so that processing other ends needs no
-    /// stack space for a `Clash` (two calls that no order can explain).
+    /// Stores the result of `clash_of` in `clash`. This is a separate function so that other ends need no stack space
+    /// for a `Clash`.
     pub(crate) fn store_clash(&self, second: StreamCall, clash: &mut Option<Clash>)
         ensures { MatchOption clash.new (IsClashing (facts_of self.now) second → ⊥) (IsFound (facts_of self.now) second) }
     {
         *clash = self.clash_of(second);
     }
 
-    /// Returns the clash of the stored call on the key with the key's final state `left`: together, they rule out every
-    /// order. If no call is stored, the key's opening state replaces the stored call. Returns `None` exactly if the
-    /// stored facts show no clash.
+    /// Returns the contradiction between the kept call on the key and the key's final state `left`: no order contains
+    /// the call and leaves this state. If no call is kept, the key's opening state takes its place. Returns `None` if
+    /// and only if the stored facts show no contradiction.
     pub(crate) fn clash_left(&self, key: Key, left: Presence) -> Option<Clash>
         ensures { MatchOption result (left ≡ other self.now.was → IsStanding key.0 (facts_of self.now) → ⊥) (IsFoundLeft key.0 (facts_of self.now) left) }
     {

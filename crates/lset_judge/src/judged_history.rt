@@ -22,7 +22,7 @@ pub enum Judged {
     /// keys.
     Linearizable,
     /// No order explains the calls and leaves the final keys. Contains the reason and, if the judge found them, two
-    /// calls that clash (no order can explain both).
+    /// calls that contradict each other.
     NotLinearizable(Refusal, Option<Clash>),
     /// Not decided: a completed call is a `ceiling`, or returned neither true nor false. The judge replaced these calls
     /// by calls that it can decide, and some order explains the resulting history.

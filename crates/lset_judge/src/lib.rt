@@ -1,11 +1,11 @@
 //! The judge: decides from the starts and ends of recorded calls whether some order explains them.
 //!
 //! A key has only two states, present and absent. The judge therefore examines the calls on each key separately, in one
-//! pass over their moments (the numbers of the starts and ends). It applies one rule: a change (an `add` or `remove`
+//! pass over their moments (the numbers of the starts and ends). It applies one test: a change (an `add` or `remove`
 //! that returned true or is pending) takes effect only when a call that ends needs it. The pending change with the
-//! earliest end then takes effect. If the rule fails for a key, no order explains the calls. If it fails for no key,
-//! some order explains them, in every history without `ceiling` and `full`. The judge does not search, and does not
-//! need to know when calls take effect. (Linearizability is by Herlihy and Wing; the rule is this project's own.)
+//! earliest end then takes effect. If a key fails the test, no order explains the calls. If every key passes, some
+//! order explains them, in every history without `ceiling` and `full`. The judge does not search, and does not need to
+//! know when calls take effect. (Linearizability is by Herlihy and Wing; the test is this project's own.)
 #![tactic(auto)]
 
 ghost use Rattle.lset_judge.specs.Locality.{KeysAreApart, QuotasDoNotMatter};
@@ -35,10 +35,10 @@ pub use judged_history::{Judged, judge};
 pub use set_judge::{Judge, Verdict};
 pub use stream::{LAST_MOMENT, Refusal, StreamCall, StreamFault};
 
-/// States the lemma of locality: the keys of a recording can be judged in parts. Put each key into one of several
-/// parts. Each part consists of the calls on its keys, its opening keys and its final keys. Some order explains the
-/// recording if and only if some order explains each part. If `judge` finds each part linearizable, the recording is
-/// linearizable. If it finds one part not linearizable, the recording is not linearizable.
+/// Lemma (locality): the keys of a recording can be judged in parts. Put each key into one of several parts. Each part
+/// consists of the calls on its keys, its opening keys and its final keys. Some order explains the recording if and
+/// only if some order explains each part. If `judge` finds each part linearizable, the recording is linearizable. If it
+/// finds one part not linearizable, the recording is not linearizable.
 ///
 /// The lemma is about the histories that the judge decides (see `is_judged`). It fails for a `ceiling`, which reads
 /// many keys. It also fails for a quota that is too small for all `add`s, since a thread's quota counts its `add`s of
@@ -47,9 +47,9 @@ pub fn keys_are_apart()
     ensures { KeysAreApart }
 {}
 
-/// States a lemma: the quota does not matter in a history that the judge decides. If some order explains the history
-/// with another quota, some order also explains it with its own quota. The verdict on such a history is correct for the
-/// set without a quota.
+/// Lemma: the quota does not matter in a history that the judge decides. If some order explains the history with
+/// another quota, some order also explains it with its own quota. The verdict on such a history is correct for the set
+/// without a quota.
 pub fn quotas_do_not_matter()
     ensures { QuotasDoNotMatter }
 {}

@@ -1,4 +1,4 @@
-//! The judge's rule for the calls on one key: which pending change takes effect, and when.
+//! The judge's test of the calls on one key: which pending change takes effect, and when.
 
 ghost use Rattle.std.specs.Prelude.{◌≡◌, suc, true, false, IfOk, IfSome, OnOk, Some, None};
 ghost use Rattle.std.specs.Prelude.{if◌then◌else◌};
@@ -17,8 +17,8 @@ use crate::stream::StreamCall;
 use lset_words::Presence;
 use std::alloc::{AllocError, Global};
 
-/// The kind of the completed call that the judge stores for a key (the kept call). This call left the key in the state
-/// `was`.
+/// The kind of the kept call, the completed call that the judge stores for a key. The kept call left the key in the
+/// state `was`.
 #[derive(Clone, Copy)]
 pub(crate) enum Kept {
     /// No call is stored: the key was in the state `was` when the set opened.
@@ -31,21 +31,20 @@ pub(crate) enum Kept {
     Look,
 }
 
-/// The state of a key: whether it is present and since when, its changes, and one completed call (the kept call). The
-/// judge compares later calls with the kept call to find a clash (two calls that rule out every order). (64 bytes.)
+/// The state of a key: whether it is present and since when, its changes, and the kept call (one completed call). The
+/// judge compares later calls with the kept call to find two calls that contradict each other. The struct has 64 bytes.
 #[derive(Drop)]
 pub(crate) struct KeyState {
     pub(crate) changes: KeyChanges,
     turned: u64,
-    /// When the stored completed call (the kept call) started.
+    /// When the kept call started.
     pub(crate) begun: u64,
-    /// When the stored completed call (the kept call) ended.
+    /// When the kept call ended.
     pub(crate) ended: u64,
-    /// The thread of the stored completed call (the kept call).
+    /// The thread of the kept call.
     pub(crate) thread: u32,
     pub(crate) kept: Kept,
-    /// The key's state (present or absent) after the stored call (the kept call). If no call is stored, the key's
-    /// opening state.
+    /// The key's state after the kept call. If no call is kept, the key's opening state.
     pub(crate) was: Presence,
     there: Presence,
 }
@@ -145,8 +144,8 @@ impl KeyState {
         true
     }
 
-    /// Processes `event` of the key, which is at moment `before` + 1. Returns whether the judge's rule (the test of the
-    /// key's calls) still succeeds.
+    /// Processes `event` of the key, which is at moment `before` + 1. Returns whether the key still passes the judge's
+    /// test.
     pub(crate) fn meet(
         &mut self,
         alloc: Global,
@@ -168,9 +167,8 @@ impl KeyState {
         Ok(true)
     }
 
-    /// Processes the end of a call on the key, at moment `before` + 1. Returns whether the judge's rule (the test of
-    /// the key's calls) still succeeds. If the rule fails, searches for a call that clashes with this one (no order can
-    /// explain both).
+    /// Processes the end of a call on the key, at moment `before` + 1. Returns whether the key still passes the judge's
+    /// test. If it does not, searches for a call that contradicts this one.
     pub(crate) fn meet_end(
         &mut self,
         alloc: Global,

@@ -21,8 +21,8 @@ pub enum Verdict {
     /// keys.
     Linearizable,
     /// No order explains the calls and leaves the final keys. Contains the reason, and two calls on the key that the
-    /// reason names. These calls clash: no order can explain both. The clash is `None` only if no call on this key
-    /// clashes with a call that starts after it has ended.
+    /// reason names. These calls contradict each other: no order can contain both. The pair is `None` only if no call
+    /// on this key contradicts a call that starts after it has ended.
     NotLinearizable(Refusal, Option<Clash>),
 }
 
@@ -49,8 +49,9 @@ fn left_as(keys: &[u32], refusal: Refusal) -> Option<Presence>
     }
 }
 
-/// Returns two calls on the key that `refusal` (the reason of the verdict) names. These calls clash: no order can
-/// explain both. Returns `None` only if no call on this key clashes with a call that starts after it has ended.
+/// Returns two calls on the key that `refusal` (the reason of the verdict) names. These calls contradict each other: no
+/// order can contain both. Returns `None` only if no call on this key contradicts a call that starts after it has
+/// ended.
 fn clash_for(stream: &Stream, refusal: Refusal, left: Option<Presence>) -> Option<Clash>
     requires told { IsToldBy stream.now.failed (NotLinearizable refusal) }
     requires left { IsSome left → refusal.moment ≡ None }

@@ -96,12 +96,12 @@ pub struct Refusal {
     /// The key. No order explains its calls and leaves its final state.
     pub key: Key,
     /// No order explains the calls on `key` that start by this moment, with all their replies, whatever keys the order
-    /// leaves. This is the first moment when the judge's rule (its test of one key's calls) fails for any key. `None`
-    /// if the rule fails for no key, but no order explains all calls on `key` and leaves the key's final state.
+    /// leaves. This is the first moment when any key fails the judge's test. `None` if every key passes the test, but
+    /// no order explains all calls on `key` and leaves the key's final state.
     pub moment: Option<u64>,
 }
 
-/// The first key that fails the judge's rule (the test of one key's calls), and the moment when it fails.
+/// The first key that fails the judge's test, and the moment when it fails.
 #[derive(Clone, Copy)]
 pub(crate) struct Failed {
     pub(crate) key: Key,
@@ -195,9 +195,8 @@ impl Pending {
     }
 }
 
-/// Processes `event` at moment `before` + 1. Its key must have no stored state yet. Returns whether the judge's rule
-/// (the test of one key's calls) still succeeds. This is a separate function so that other events need no stack space
-/// for a new state.
+/// Processes `event` at moment `before` + 1. Its key must have no stored state yet. Returns whether the key still
+/// passes the judge's test. This is a separate function so that other events need no stack space for a new state.
 fn meet_new_key(
     states: &mut HashMap<u32, KeyState>,
     alloc: Global,
@@ -218,8 +217,7 @@ fn meet_new_key(
     Ok(goes_on)
 }
 
-/// Processes `event` of a key at moment `before` + 1. Returns whether the judge's rule (the test of one key's calls)
-/// still succeeds for this key.
+/// Processes `event` of a key at moment `before` + 1. Returns whether the key still passes the judge's test.
 fn meet_key(
     states: &mut HashMap<u32, KeyState>,
     alloc: Global,
@@ -241,7 +239,7 @@ fn meet_key(
     Ok(goes_on)
 }
 
-/// Records the start of a call on a key that has failed the judge's rule (the test of one key's calls).
+/// Records the start of a call on a key that has failed the judge's test.
 fn note_begin(
     states: &mut HashMap<u32, KeyState>,
     alloc: Global,
@@ -260,8 +258,8 @@ fn note_begin(
     Ok(())
 }
 
-/// Records the end of a call on a key that has failed the judge's rule (the test of one key's calls). Returns a clash
-/// (two calls that rule out every order) that involves this call, if the stored facts show one.
+/// Records the end of a call on a key that has failed the judge's test. Returns a contradiction between this call and
+/// an earlier one, if the stored facts show one.
 fn note_end(
     states: &mut HashMap<u32, KeyState>,
     alloc: Global,
@@ -286,15 +284,14 @@ fn note_end(
 /// The result of processing the end of a call.
 #[derive(Clone, Copy)]
 struct EndMet {
-    /// Whether the judge's rule (the test of one key's calls) still succeeds after the call has ended.
+    /// Whether the key still passes the judge's test after the end of the call.
     goes_on: bool,
     /// Whether the call overlaps another call that changes the same key.
     overlaps: bool,
 }
 
-/// Processes the end of a call at moment `before` + 1. The call's key must have no stored state yet. If the judge's
-/// rule (the test of one key's calls) fails, searches for a call that clashes with this one (no order can explain
-/// both).
+/// Processes the end of a call at moment `before` + 1. The call's key must have no stored state yet. If the key fails
+/// the judge's test, searches for a call that contradicts this one.
 fn meet_new_key_end(
     states: &mut HashMap<u32, KeyState>,
     alloc: Global,
@@ -324,8 +321,8 @@ fn meet_new_key_end(
     })
 }
 
-/// Processes the end of a call at moment `before` + 1. If the judge's rule (the test of one key's calls) fails,
-/// searches for a call that clashes with this one (no order can explain both).
+/// Processes the end of a call at moment `before` + 1. If the key fails the judge's test, searches for a call that
+/// contradicts this one.
 fn meet_key_end(
     states: &mut HashMap<u32, KeyState>,
     alloc: Global,
@@ -415,7 +412,7 @@ pub(crate) struct Stream {
     pending: PendingCalls,
     moment: u64,
     failed: Option<Failed>,
-    /// Two clashing calls (no order can explain both), if the judge found them. They are on the key in `failed`.
+    /// Two calls that contradict each other, if the judge found them. They are on the key in `failed`.
     clash: Option<Clash>,
     /// The number of completed calls that overlap another call that changes the same key.
     overlapped: u64,
@@ -489,15 +486,15 @@ impl Stream {
         Ok(())
     }
 
-    /// Forgets the two clashing calls (no order can explain both). This is a separate function so that processing the
-    /// ends of calls needs no stack space for a `Clash`.
+    /// Forgets the two calls that contradict each other. This is a separate function so that processing the ends of
+    /// calls needs no stack space for a `Clash`.
     fn forget_clash(&mut self)
         ensures { self.new ≡ record self.old { clash = None } }
     {
         self.clash = None;
     }
 
-    /// Processes the end of a pending call. The judge's rule (its test of each key's calls) must not have failed.
+    /// Processes the end of a pending call. No key may have failed the judge's test.
     fn meet_end_going(&mut self, next: Pending) -> Result<(), AllocError>
         requires { self.old.failed ≡ None }
         ensures pending { OnOk result (self.new.pending ≡ self.old.pending) }
@@ -527,7 +524,7 @@ impl Stream {
         Ok(())
     }
 
-    /// Processes the end of a pending call after the judge's rule (its test of each key's calls) has failed.
+    /// Processes the end of a pending call after a key has failed the judge's test.
     fn end_after_failure(&mut self, next: Pending, failed: Failed) -> Result<(), AllocError>
         requires { self.old.failed ≡ Some failed }
         ensures met { OnOk result (IsMet self.old (key_in next) next.end (event_of next) self.new) }
@@ -545,9 +542,8 @@ impl Stream {
     fn end(&mut self, next: Pending) -> Result<(), AllocError>
         ensures met { OnOk result (IsMet self.old (key_in next) next.end (event_of next) self.new) }
         ensures known { OnOk result (EndIsKnown self.old.states next.call self.new.states self.old.failed self.old.clash self.new.clash) }
-        // Suppose that the call's key has failed the judge's rule (the test of one key's calls) and that no clash (two
-        // calls that no order can explain) is stored. Then the stored facts show no clash of this call with an earlier
-        // one.
+        // Suppose that the call's key has failed the judge's test and that no contradiction has been found. Then the
+        // stored facts show no contradiction between this call and an earlier one.
         ensures missed { OnOk result (IfSome self.new.failed (λ f. f.key.0 ≡ key_in next → self.new.clash ≡ None
             → IsClashing (facts_for self.old.states (key_in next)) next.call → ⊥)) }
     {
@@ -666,7 +662,7 @@ impl Stream {
     }
 
     /// Returns how many calls overlap another call on the same key that is a completed change. The number can be wrong
-    /// if the judge's rule (its test of each key's calls) has failed.
+    /// if a key has failed the judge's test.
     pub(crate) fn overlapped(&self) -> u64 {
         self.overlapped
             .saturating_add(self.pending.overlapping(&self.states, self.moment))
@@ -710,8 +706,8 @@ impl Stream {
         }
     }
 
-    /// Returns two clashing calls (no order can explain both), if the judge found them. They are on the key that failed
-    /// the judge's rule (the test of one key's calls).
+    /// Returns two calls that contradict each other, if the judge found them. They are on the key that failed the
+    /// judge's test.
     pub(crate) fn clash_met(&self) -> Option<Clash>
         ensures { result ≡ clash_met self.now.failed self.now.clash }
     {
@@ -721,9 +717,8 @@ impl Stream {
         }
     }
 
-    /// Returns a call on `key` that clashes with the key's final state `left` (no order explains the call and leaves
-    /// this state), if the stored facts show one. Returns `None` if the judge's rule (the test of one key's calls) has
-    /// failed for any key.
+    /// Returns a call on `key` that contradicts the key's final state `left` (no order contains the call and leaves
+    /// this state), if the stored facts show one. Returns `None` if any key has failed the judge's test.
     pub(crate) fn clash_left(&self, key: u32, left: Presence) -> Option<Clash>
         ensures found { IfSome result (λ c. (self.now.failed ≡ None) × IsFoundLeft key (facts_for self.now.states key) left c) }
         ensures missed { result ≡ None → self.now.failed ≡ None → left ≡ other (facts_for self.now.states key).was

@@ -19,16 +19,12 @@ use Rattle.lset_judge.specs.Stream.{state_or, state_for}
 use Rattle.lset_judge.proofs.KeyStates.{there_again}
 use Rattle.lset_judge.proofs.stream.Stream.wrongly_left.Goals as goal
 
--- A step of the loop that searches for keys with an impossible final state: if the next key's final state is possible,
--- the result of the search stays correct.
 right_more : (keys : List ℕ) (xs : List (Bor ℕ × Bor KeyState)) (x : Bor ℕ × Bor KeyState) (wrong : Option ℕ) (Q : ℕ → Type 0)
     → MatchOption wrong (All (λ p. may_be_left (has_key p.0.now keys) (state_of p.1.now) ≡ true) xs) Q → may_be_left (has_key x.0.now keys) (state_of x.1.now) ≡ true
     → MatchOption wrong (All (λ p. may_be_left (has_key p.0.now keys) (state_of p.1.now) ≡ true) (xs ++ x ∷ [])) Q
 right_more keys xs x None Q all here = All-push (λ (p : Bor ℕ × Bor KeyState). may_be_left (has_key p.0.now keys) (state_of p.1.now) ≡ true) xs x all here
 right_more keys xs x (Some k) Q h here = h
 
--- If a property holds for the next wrong key and for the smallest wrong key so far, it holds for the smaller of the
--- two.
 wrong_more : (P : ℕ → Type 0) (A : Type 0) (wrong : Option ℕ) (key smallest : ℕ) → (smallest ≡ key) ⊎ (wrong ≡ Some smallest) → P key → MatchOption wrong A P → P smallest
 wrong_more P A wrong key smallest (inl e) here before = subst P (sym e) here
 wrong_more P A None key smallest (inr e) here before = absurd (cc)
