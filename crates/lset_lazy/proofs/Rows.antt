@@ -16,8 +16,6 @@ choice : (b : Bool) (x y : Local) → continued (if b then x else y) ≡ (if b t
 choice true x y = refl
 choice false x y = refl
 
--- After its walk, a call continues according to two tests: whether its key was found, and whether its thread's quota
--- allows another add.
 decides_by : (c : Call) (l : Local) (found room : Bool) → (l.ckey == target c) ≡ found → nat_lt l.used l.quota ≡ room
     → continued (decided 8 11 13 c (l.ckey == target c) (nat_lt l.used l.quota) l.ckey l) ≡ decides c l
 decides_by (Add k) l true room e f = rw e refl

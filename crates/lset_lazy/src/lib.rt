@@ -1,5 +1,5 @@
-//! LazyList: a list set that marks nodes before it unlinks them. Its `contains` needs no lock (Herlihy and Shavit's
-//! lazy list, after Heller and others).
+//! LazyList: a list-based set that marks nodes before it unlinks them. Its `contains` needs no lock (Herlihy and
+//! Shavit's lazy list, after Heller and others).
 #![tactic(auto)]
 
 ghost use Rattle.std.specs.Prelude.{◌≡◌, ◌/◌, Some};
@@ -16,8 +16,8 @@ use lset_steps::rows::{Targets, decide, key_index, link_index, lock_index, own_s
 use lset_steps::{Action, Fed, Local, Machine, OpenReads};
 use lset_words::{Call, HEAD, Key, Kind, Reply};
 
-/// The list set that walks without locks. At the end of its walk, an `add` or a `remove` locks the two nodes that it
-/// found, and walks again if they have changed.
+/// The list-based set that marks nodes before it unlinks them, and walks without locks. At the end of its walk, an
+/// `add` or a `remove` locks the two nodes that it found, and walks again if they have changed.
 #[derive(Clone, Copy)]
 pub struct LazyList;
 
