@@ -1,5 +1,5 @@
-//! The five lists: the machine (a list as a table of steps) for each kind of list, and the theorem that every run of
-//! each machine is linearizable. `on_list` runs a `Task` on a list if its kind is known only at run time.
+//! The five lists: the machine of each kind of list (its algorithm as a table of steps), and the theorem that every run
+//! of each machine is linearizable. `on_list` runs a `Task` on a list if its kind is known only at run time.
 #![tactic(auto)]
 
 mod theorem;
@@ -20,7 +20,7 @@ pub use theorem::{placement_explains_runs, runs_are_linearizable};
 
 /// One of the five lists, as a machine (a table of steps).
 pub trait List: Machine {
-    /// Lemma: the list has the step table of its kind. The function does nothing.
+    /// Lemma: the list has the step table of its kind.
     fn has_the_table_of_its_kind()
         ensures { table_of Self.KIND ≡ Self.table };
 }

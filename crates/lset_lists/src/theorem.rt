@@ -1,22 +1,22 @@
-//! The main theorem, for every machine (a list as a table of steps): for each run, of any length, some order of its
-//! calls explains the run.
+//! The main theorem, for every machine (a list algorithm as a table of steps): for each run, of any length, some order
+//! of its calls explains the run.
 ghost use Rattle.lset_lists.specs.Headline.{RunsAreLinearizable, PlacementExplainsRuns};
 
 use lset_steps::Machine;
 use lset_steps::laws::{has_account, listed_content};
 
-/// Theorem: for every machine (a list as a table of steps), every number of threads and quota within the limits, and
-/// every run of any length, some order of the calls linearizes the history of the run and leaves the same keys as the
-/// run. (Herlihy and Wing's linearizability, with completion of pending calls.)
+/// Theorem: for every machine (a list algorithm as a table of steps), every number of threads and quota within the
+/// limits, and every run of any length, some order of the calls linearizes the history of the run and leaves the same
+/// keys as the run. (Herlihy and Wing's linearizability, with completion of pending calls.)
 pub fn runs_are_linearizable<M: Machine>()
     ensures { RunsAreLinearizable M.table }
 {
     placement_explains_runs::<M>();
 }
 
-/// Theorem: for every machine (a list as a table of steps) and every run within the limits of `runs_are_linearizable`,
-/// the order of the calls by their linearization points (the placement) exists, is unique, linearizes the history of
-/// the run, and leaves the same keys as the run.
+/// Theorem: for every machine (a list algorithm as a table of steps) and every run within the limits of
+/// `runs_are_linearizable`, the order of the calls by their linearization points (the placement) exists, is unique,
+/// linearizes the history of the run, and leaves the same keys as the run.
 pub fn placement_explains_runs<M: Machine>()
     ensures { PlacementExplainsRuns M.table }
 {
