@@ -1,5 +1,5 @@
--- Proof about `close`: the seat passed to `close` (the right to call the set as one thread) holds all seats of the set,
--- and therefore has seen all events that determine the final keys.
+-- Proof about `close`: the seat passed to `close` (a per-thread handle) holds all seats of the set, and therefore has
+-- seen all events that determine the final keys.
 use Rattle.std.proofs.Common.{◌≡◌, inl, ℕ, zero, suc, ◌+◌, ◌/◌, ◌<◌, false, List, [], ◌∷◌, map, length, None, refl, sym, ap, ◌∙◌}
 use Rattle.std.proofs.Common.{subst, arith}
 use mathlib.Core.Option.{some, some-injective, some-ne-none}
@@ -50,7 +50,6 @@ module _ (sz : Sizes) (ws : List ℕ) (used other : ℕ → ℕ) where
   pub same_content : (keys : List ℕ) → IsContent (view sz ws used) keys → IsContent (view sz ws other) keys
   same_content keys c = ((c.0.0, same_segment 0 c.0.0 1 c.0.1, c.0.2 ∙ same_keys c.0.0), c.1)
 
--- The list of nodes on the way from node i to the tail is unique.
 one_segment : (v : ChainView) (i : ℕ) (ns ms : List ℕ) → Segment v i ns 1 → Segment v i ms 1 → ns ≡ ms
 one_segment v i [] [] s t = refl
 one_segment v i [] (m ∷ ms) s t = absurd (t.1 s)
@@ -60,7 +59,7 @@ one_segment v i (n ∷ ns) (m ∷ ms) s t = λ j. (s.0 ∙ sym t.0) j ∷ one_se
 pub one_content : (v : ChainView) (keys others : List ℕ) → IsContent v keys → IsContent v others → keys ≡ others
 one_content v keys others c d = c.0.2 ∙ (ap (keys_in v) (one_segment v 0 c.0.0 d.0.0 c.0.1 d.0.1) ∙ sym d.0.2)
 
--- ---- A seat (the right to call the set) that holds the seats of all threads has seen the whole run
+-- ---- A seat (per-thread handle) that holds the seats of all threads has seen the whole run
 module _ (T : Table) (law : Lawful T) (v : View) (st : Stands T v) (idle : v.under ≡ None) (linear : RunsAreLinearizable T)
     (full : length v.others + 1 ≡ v.shape.threads) where
   abbrev k : Opening
@@ -109,8 +108,6 @@ module _ (T : Table) (law : Lawful T) (v : View) (st : Stands T v) (idle : v.und
     is = refl;
   }
 
--- If a seat (the right to call the set) closes the set, the words ws of the closed set are the words after all events
--- that this seat has seen.
 module _ (T : Table) (law : Lawful T) (v : View) (st : Stands T v) (sp : v.spent ≡ false) (idle : v.under ≡ None) (k : Opening)
     (shape : v.shape ≡ k)
     (full : length v.others + 1 ≡ k.threads) (id : ℕ) (ws : List ℕ) (xs : List (Unit {0})) (final : Final (Seen (Holds T k) id v) ws xs) where

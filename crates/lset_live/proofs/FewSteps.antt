@@ -123,7 +123,6 @@ module _ (T : Table) (law : Lawful T) (reads : BoundedReads T) (key : Key) (v : 
       m.same.1 (subst (λ u. steps_since (event_at w.seen) u (length w.seen) ≤ most_reads (sizes w.shape))
       (sym (root_is v.past ∙ rooted)) within_shape)
 
--- A `contains` takes at most the number of steps that its contract states.
 pub few_steps : (T : Table) → Lawful T → BoundedReads T → (key : Key) (s : TableSeat) (r : Reply) (s' : TableSeat)
     → Makes T (Contains key) s.me.0 r s'.me.0 → (set : SetValue) (old : SeatValue) → seat_at s ≡ old → old.set ≡ set
     → HasMadeAtMost (most_reads (sizes set.shape)) (thread_of old.past) s'.me.0.seen

@@ -15,7 +15,6 @@ gather_more o [] q = refl
 gather_more None (p ∷ ps) q = gather_more (Some p) ps q
 gather_more (Some r) (p ∷ ps) q = gather_more (Some (gathered r p)) ps q
 
--- An order that agrees with the merged record also agrees with each record that was merged into it.
 keeps_each : (order : List Answered) (o : Option Record) (rs : List Record) → IfSome (gather_onto o rs) (Keeps order) →
     IfSome o (Keeps order) × All (Keeps order) rs
 keeps_each order o [] k = (k, All-nil (Keeps order))
@@ -30,7 +29,6 @@ unnamed u o [] h n = h
 unnamed u None (q ∷ qs) h n = unnamed u (Some q) qs (λ x. n (inl x)) (λ x. n (inr x))
 unnamed u (Some p) (q ∷ qs) h n = unnamed u (Some (gathered p q)) qs (λ x. ⊎_elim h (λ y. n (inl y)) x) (λ x. n (inr x))
 
--- A legal order for the merged record is also a legal order for the list of records.
 pub gathered_explains : (k : Opening) (r : Record) (rs : List Record) (keys : List ℕ) → Some r ≡ gather_onto None rs →
     IsOneLegalOrder k (r ∷ []) keys → IsOneLegalOrder k rs keys
 gathered_explains k r rs keys e x = record {

@@ -15,7 +15,8 @@ use Rattle.lset_steps.proofs.WalkedTo.{WalkedTo, unmarked_key, walk_starts, walk
 use Rattle.lset_live.specs.Closes.{LastWords, HasLaws, HasKeys, most_keys}
 use Rattle.lset_live.proofs.Closing.{same_content}
 
--- The walk over the nodes has reached node `curr`, and `items` lists the keys of the unmarked nodes before `curr`.
+-- Holds if the walk over the nodes has reached node `curr`, and `items` lists the keys of the unmarked nodes before
+-- `curr`.
 pub record Walks (c : LastWords) (items : List ℕ) (curr : ℕ) : Type 0 where
   pub laws : HasLaws c
   pub walked : WalkedTo (view c.sizes c.words laws.used) items curr
@@ -123,8 +124,6 @@ module _ (v : View) (ord : IsOrdered v) where
   unfolding IsDistinct
   one_more a ns out d = (out, d)
 
-  -- The nodes ns before the current node, the current node itself and the tail are all different. Therefore the list
-  -- has at least two more nodes than ns.
   few_nodes : (n : ℕ) → ((i : ℕ) → v.published i → i < n) → (ns : List ℕ) (curr : ℕ) → v.published curr → curr ≢ 1
       → Segment v 0 ns curr → length ns + 2 ≤ n
   few_nodes n inside ns curr p c s =

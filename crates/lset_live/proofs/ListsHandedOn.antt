@@ -1,5 +1,5 @@
--- Lemmas about moving items from one list to another, one by one. In this way, seats (rights to call the set) are
--- passed to threads and returned by them.
+-- Lemmas about moving items from one list to another, one by one. In this way, seats (per-thread handles) are passed to
+-- threads and returned by them.
 use Rattle.std.proofs.Common.{◌≡◌, ℕ, ◌+◌, List, [], ◌∷◌, ◌++◌, map, sum_by, All, refl, sym, ap, ◌∙◌, subst, append_assoc, arith}
 use Rattle.std.proofs.lemmas.List.{map-append}
 use Rattle.std.proofs.lemmas.List.Sums.{sum_by-cons}
@@ -20,7 +20,6 @@ all_rest rest rest' x P e all =
 pub all_more : {H : Type 0} (hs hs' : List H) (h : H) (P : H → Type 0) → hs' ≡ hs ++ h ∷ [] → All P hs → P h → All P hs'
 all_more hs hs' h P e all one = subst (All P) (sym e) (All-append P hs (h ∷ []) all (All-cons P h [] one (All-nil P)))
 
--- If an item is moved from one list to the other, the sum of f over both lists stays the same.
 pub held_next : {H : Type 0} (f : H → ℕ) (rest rest' : List H) (h : H) (a a' k total : ℕ) → rest ≡ h ∷ rest' →
     a + sum_by f rest ≡ total → a' ≡ a + k → k ≡ f h
     → a' + sum_by f rest' ≡ total

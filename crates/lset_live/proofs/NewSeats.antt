@@ -1,4 +1,4 @@
--- Lemmas about the new seats (rights to call the set as one thread) of a set that was just opened.
+-- Lemmas about the new seats (per-thread handles) of a set that was just opened.
 use Rattle.std.proofs.Common.{◌≡◌, ℕ, ◌+◌, List, [], ◌∷◌, ◌++◌, map, length, refl, sym, ◌∙◌, subst, arith, All}
 use Rattle.std.specs.List.{range_with_len}
 use Rattle.std.proofs.lemmas.List.Elements.{All-cons, All-nil}
@@ -11,7 +11,7 @@ use Rattle.lset_live.specs.Dated.{record_of}
 use Rattle.lset_live.specs.Seats.{SeatValue, SetValue, IsOpened, new_seat}
 use Rattle.lset_words.specs.Words.{Opening}
 
--- Returns the value that contracts use for a seat (the right to call the set as one thread).
+-- Returns the value that contracts use for a seat (per-thread handle).
 abbrev pub value_of : Seat (Unit {0}) View → SeatValue
 value_of s = record {
   set = record { table = s.table_id; shape = s.me.0.shape };
@@ -31,8 +31,6 @@ new_value z k t s new i = record {
   events = (new.1 i).0.seen;
 }
 
--- If the new seat of thread t (its right to call) is appended to a list of the new seats of all threads below t, the
--- list has the new seats of all threads up to t.
 pub seats_more : (z : TableId) (k : Opening) (t : ℕ) (s : Seat (Unit {0}) View) (before after : List SeatValue) →
     before ≡ map (new_seat (opened z k)) (range_with_len 0 t) → IsNew z k t s
     → after ≡ before ++ value_of s ∷ [] → after ≡ map (new_seat (opened z k)) (range_with_len 0 (t + 1))

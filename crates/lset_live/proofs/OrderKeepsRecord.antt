@@ -51,7 +51,6 @@ numbers_increase u n m (x ∷ xs) l = by_test (x.thread == u) (numbers_increase 
     by_test true h k = (l, h)
     by_test false h k = k
 
--- Each number in the list `numbers_of` belongs to a call of thread u in the history.
 numbers_in : (u n j : ℕ) (xs : List CallRecord) → Contains (numbers_of u n xs) j → (k : ℕ) × (j ≡ n + k) × (k < length xs)
     × ((get_or xs k no_call).thread ≡ u)
 numbers_in u n j [] c = absurd (contains-nil j c)
@@ -85,7 +84,6 @@ in_numbers u n (suc k) (x ∷ xs) l h =
     by_test true c = contains-tail n (n + suc k) (numbers_of u (suc n) xs) c
     by_test false c = c
 
--- The numbers in the list `numbers_of` belong to the calls of thread u, in order.
 numbers_map : {Y : Type 0} (g : CallRecord → Y) (u n : ℕ) (xs : List CallRecord) (f : ℕ → CallRecord) →
     ((k : ℕ) → k < length xs → f (n + k) ≡ get_or xs k no_call)
     → map (λ j. g (f j)) (numbers_of u n xs) ≡ map g (of_thread u xs)
@@ -246,7 +244,6 @@ module _ (q : ℕ) (s : SetState) (H : List CallRecord) (P : List Placed) (L : L
     ended_at : (j : ℕ) → j < length H → (call_numbered H j).thread ≡ u → IsEnded (call_numbered H j)
     ended_at j l h = at_thread IsEnded u j H ended_all l h
 
-    -- If p is a call of thread u in the order, p has the reply of this call in the history.
     pub right_reply : (p : Placed) → There p → of_placed H u p ≡ true → answered H p ≡ said (rec_of p)
     right_reply p there t =
         let e = ended_at p.call there.0 (same_number (rec_of p).thread u t) in
@@ -294,7 +291,6 @@ module _ (q : ℕ) (s : SetState) (H : List CallRecord) (P : List Placed) (L : L
     same_list [] = refl
     same_list (x ∷ l) = ap (λ z. x ∷ z) (same_list l)
 
-    -- In the order, the calls of thread u are exactly the calls D that the thread made, in the thread's own order.
     pub records : map rec_of F ≡ map (ended_record u) D
     records = map_calls F ∙ (ap (map (λ j. call_numbered H j)) numbers
         ∙ (numbers_map (λ (x : CallRecord). x) u 0 H (λ j. call_numbered H j) (λ k l. ap (λ j. call_numbered H j) (from_zero k))

@@ -1,5 +1,5 @@
--- Lemmas about the threads that made the calls in the record of a seat (the right to call the set as one thread) and in
--- the records merged into it.
+-- Lemmas about the threads that made the calls in the record of a seat (per-thread handle) and in the records merged
+-- into it.
 use Rattle.std.proofs.Common.{◌≡◌, ◌≢◌, inl, inr, ⊎_elim, ℕ, ◌<◌, ◌==◌, Bool, true, false, cond, List, [], ◌∷◌, ◌++◌}
 use Rattle.std.proofs.Common.{refl, sym, ap, ◌∙◌, subst, append-nil}
 use Rattle.std.specs.List.{AllByRecursion}

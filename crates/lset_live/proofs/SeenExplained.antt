@@ -1,5 +1,4 @@
--- Proof: the events that a seat (the right to call the set as one thread) has seen have a linearization that agrees
--- with the seat's record.
+-- Proof: the events that a seat (per-thread handle) has seen have a linearization that agrees with the seat's record.
 use Rattle.std.proofs.Common.{◌≡◌, ⊎_elim, inl, ℕ, suc, ◌+◌, ◌<◌, ◌==◌, Bool, true, false, cond, List, [], ◌∷◌, ◌++◌, map, length}
 use Rattle.std.proofs.Common.{Option, Some, None, refl, sym, ap, ◌∙◌, subst, arith, append-nil, append_assoc}
 use Rattle.std.proofs.lemmas.List.{map-append}
@@ -67,8 +66,6 @@ module _ (T : Table) (law : Lawful T) (v : View) (st : Stands T v) (idle : v.und
       (ap (λ (x : Here). x.under) st.own ∙ idle, ap (λ (x : Here). x.done) st.own))
       (λ x. aside_idle (at_end T v.shape v.seen) v.thread v.past v.others st.others u x) h
 
-  -- In the history of the events that a seat (a right to call the set) has seen, each thread of the seat has exactly
-  -- the calls in the seat's record. A seat has its own thread, and the threads of the seats that were merged into it.
   pub own : (u : ℕ) → HasThread v u → of_thread u (history_of T v.shape v.seen) ≡ map (ended_record u) (calls_of u v.past)
   own u h = let a = at_rest u h in calls_of_thread T law v.shape v.seen st.ran u (st.in_range u h)
       ∙ ((λ i. thread_records u (a.1 i) (a.0 i)) ∙ append-nil (map (ended_record u) (calls_of u v.past)))

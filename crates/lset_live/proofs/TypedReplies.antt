@@ -18,7 +18,6 @@ legal_at : (q : ℕ) (s : SetState) (xs : List Answered) (a : Answered) (ys : Li
 legal_at q s [] a ys l = (s, l.0)
 legal_at q s (x ∷ xs) a ys l = legal_at q (after_call s x.thread x.call x.reply) xs a ys l.1
 
--- For each call that has returned, the sequential set in some state returns the same reply.
 given : (T : Table) (set : SetValue) (old : SeatValue) (c : Call) (r : Reply) (new : SeatValue) → HasAnswered T set old c r new →
     (z : SetState) × (reply_to set.shape.quota z (thread_of old.past) c ≡ r)
 given T set old c r new h =

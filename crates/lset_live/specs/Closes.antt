@@ -14,7 +14,7 @@ pub record LastWords : Type 0 where
   pub sizes : Sizes
   pub words : List ℕ
 
--- Some run of some list ends with these words.
+-- Holds if some run of some list ends with these words.
 pub record IsLast (c : LastWords) : Type 0 where
   pub opening : Opening
   pub of_sizes : sizes opening ≡ c.sizes

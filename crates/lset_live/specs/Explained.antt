@@ -1,5 +1,5 @@
--- Conditions in the contracts of running sets: about the calls of a set, and about closing a set. A seat is the right
--- to call as one thread; its record lists its completed calls.
+-- Conditions in the contracts of running sets: about the calls of a set, and about closing a set. A seat is a
+-- per-thread handle to the set; its record lists its completed calls.
 use Rattle.std.specs.Prelude.{◌≡◌, ℕ, ◌+◌, ◌<◌, ◌≤◌, ◌⊎◌, List, [], ◌∷◌, ◌++◌, All, Some, length, map}
 use mathlib.Core.Option.{some}
 use lib.ListN.{get_elem?}
@@ -17,8 +17,8 @@ use Rattle.lset_words.specs.Records.{Record, Names, Keeps, called, calls_by, thr
 use Rattle.lset_live.specs.Seats.{SeatValue, SetValue}
 use Rattle.lset_words.specs.Words.{Opening}
 
--- Call c of thread t has ended with reply r. The thread had seen the events `before` when the call started. Now the
--- thread has seen the events `after`, and the last of them is the last step of the call.
+-- Holds if call c of thread t has ended with reply r. The thread had seen the events `before` when the call started. It
+-- has now seen the events `after`, and the last of them is the last step of the call.
 pub record IsAnswered (T : Table) (k : Opening) (t : ℕ) (c : Call) (r : Reply) (before after : List Event) : Type 0 where
   pub others : List Event
   pub since : List Event
@@ -31,17 +31,17 @@ pub record IsAnswered (T : Table) (k : Opening) (t : ℕ) (c : Call) (r : Reply)
     ended = Some (length after, r);
   })
 
--- The events that a seat (a right to call the set) has seen are a run of the list. Some order of the run's calls
--- linearizes the run's history from the opening keys, and agrees with r, the record of the seat's calls. Calls of
--- seats that were not merged into this seat can be missing from the run.
+-- Holds if the events that a seat (per-thread handle) has seen are a run of the list, and some order of the run's calls
+-- linearizes the run's history and agrees with r, the record of the seat's calls. Calls of seats that were not merged
+-- into this seat can be missing from the run.
 pub record SeenIsLinearizable (T : Table) (k : Opening) (events : List Event) (r : Record) : Type 0 where
   pub run : IsRunOf T k events
   pub order : List Placed
   pub linearizes : Linearizes k.quota (opening_set k) (history_of T k events) order
   pub keeps : Keeps (map (answered (history_of T k events)) order) r
 
--- Call c was made from the seat `old` (a right to call the set), returned r, and changed the seat to `new`. The new
--- seat belongs to the same set and holds as many seats as before. Its record of calls is the old record followed by
+-- Holds if call c was made from the seat `old` (a per-thread handle), returned r, and changed the seat to `new`. The
+-- new seat belongs to the same set and holds as many seats as before. Its record of calls is the old record followed by
 -- exactly this call. The call started after all events that the old seat had seen. The events that the new seat has
 -- seen are a run, and the calls of this run have a linearization that agrees with the new record.
 pub record HasAnswered (T : Table) (set : SetValue) (old : SeatValue) (c : Call) (r : Reply) (new : SeatValue) : Type 0 where
@@ -51,7 +51,8 @@ pub record HasAnswered (T : Table) (set : SetValue) (old : SeatValue) (c : Call)
   pub answered : IsAnswered T set.shape (thread_of old.past) c r old.events new.events
   pub explained : SeenIsLinearizable T set.shape new.events new.past
 
--- [Steps of the last call]: in these events, thread t has made at most `most` steps since it started its last call.
+-- [Steps of the last call]: holds if, in these events, thread t has made at most `most` steps since it started its last
+-- call.
 abbrev pub HasMadeAtMost : ℕ → ℕ → List Event → Type 0
 HasMadeAtMost most t events = steps_since (event_at events) t (length events) ≤ most
 
@@ -82,7 +83,7 @@ pub record IsOneOrderInTime (T : Table) (k : Opening) (events : List Event) (rec
   pub one : IsOneLegalOrder k records keys
   pub is : one.order ≡ map (answered (history_of T k events)) placed
 
--- In this order, call a precedes call b.
+-- Holds if call a precedes call b in this order.
 pub record StandsBefore (order : List Answered) (a b : Answered) : Type 0 where
   pub first : List Answered
   pub between : List Answered

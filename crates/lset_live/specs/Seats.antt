@@ -1,5 +1,5 @@
--- The values of running sets, seats (rights to call the set as one thread) and receipts (the events that a seat had
--- seen), as contracts use them.
+-- The values of running sets, seats (per-thread handles) and receipts (the events that a seat had seen), as contracts
+-- use them.
 use Rattle.std.specs.Prelude.{◌≡◌, ◌<◌, ◌≤◌, ◌⊎◌, length, ℕ, Bool, true, false, List, [], ◌∷◌, Option, Some, None, map}
 use Rattle.std.specs.List.{range_with_len}
 use Rattle.std.specs.List.Sorted.{IsStrictlyIncreasing}
@@ -20,26 +20,26 @@ pub record SetValue : Type 0 where
   pub table : TableId
   pub shape : Opening
 
--- A seat (the right to call the set as one thread) as contracts see it: its set, the record of its calls, the number of
--- seats that it holds (itself and those merged into it), and the events that it has seen.
+-- A seat (per-thread handle) as contracts see it: its set, the record of its calls, the number of seats that it holds
+-- (itself and those merged into it), and the events that it has seen.
 pub record SeatValue : Type 0 where
   pub set : SetValue
   pub past : Record
   pub held : ℕ
   pub events : List Event
 
--- A receipt as contracts see it: its set, and the events that a seat (a right to call the set) had seen when it issued
--- the receipt.
+-- A receipt as contracts see it: its set, and the events that a seat (per-thread handle) had seen when it issued the
+-- receipt.
 pub record ReceiptValue : Type 0 where
   pub set : SetValue
   pub events : List Event
 
--- Returns the seat of thread t (its right to call the set) in a set that was just opened.
+-- Returns the seat of thread t in a set that was just opened.
 abbrev pub new_seat : SetValue → ℕ → SeatValue
 new_seat set t = record { set = set; past = fresh t; held = 1; events = [] }
 
 -- Holds if the set was just opened with this opening (threads, quota and opening keys), and `seats` are its new seats
--- (rights to call the set as one thread), ordered by thread.
+-- (per-thread handles), ordered by thread.
 abbrev pub IsOpened : SetValue → Opening → List SeatValue → Type 0
 IsOpened set opening seats = (set.shape ≡ opening) × (seats ≡ map (new_seat set) (range_with_len 0 opening.threads))
 
@@ -72,8 +72,8 @@ gather_onto r [] = r
 gather_onto None (g ∷ gs) = gather_onto (Some g) gs
 gather_onto (Some r) (g ∷ gs) = gather_onto (Some (gathered r g)) gs
 
--- Returns the number of seats (rights to call the set as one thread) that this seat holds: itself and those merged into
--- it. Returns 0 for `None`.
+-- Returns the number of seats (per-thread handles) that this seat holds: itself and those merged into it. Returns 0 for
+-- `None`.
 abbrev pub held_in : Option SeatValue → ℕ
 held_in None = 0
 held_in (Some s) = s.held

@@ -1,4 +1,5 @@
-//! Merges several seats of a set into one seat (gathering). A seat is the right to call the set as one thread.
+//! Merges several seats of a set into one seat (gathering). A seat is a per-thread handle: one thread calls the set
+//! through it.
 ghost use Rattle.std.specs.Prelude.{◌≡◌, ◌+◌, ◌<◌, ◌≤◌, ◌↔◌, IfSome, IsTrue, Some, [], ◌∷◌, length, sum_by};
 ghost use Rattle.std.specs.Option.{option_map};
 ghost use Rattle.lset_words.specs.declared.TheConstants.{MOST_THREADS};
@@ -26,8 +27,8 @@ impl<M: Machine> LiveSet<M> {
         total == most
     }
 
-    /// Merges `from` into `into` and returns the merged seat (the right to call the set as one thread). Returns `from`
-    /// if `into` is `None`. Both seats must belong to this set.
+    /// Merges `from` into `into` and returns the merged seat (per-thread handle). Returns `from` if `into` is `None`.
+    /// Both seats must belong to this set.
     pub fn gather_onto(&self, into: Option<Seat<M>>, from: Seat<M>) -> Seat<M>
         requires into { IfSome into (λ s. s.set ≡ self.now) }
         requires from { from.set ≡ self.now }

@@ -1,5 +1,4 @@
-//! Running sets: lists in memory that threads share. Each thread calls from its own seat (the right to call the set as
-//! one thread).
+//! Running sets: lists in memory that threads share. Each thread calls from its own seat (per-thread handle).
 #![tactic(auto)]
 
 mod bounded; // calls with a bounded number of rounds

@@ -1,4 +1,4 @@
-//! Opens sets, and creates their seats. A seat is the right to call the set as one thread.
+//! Opens sets, and creates their seats. A seat is a per-thread handle: one thread calls the set through it.
 ghost use Rattle.std.specs.Prelude.{◌≡◌, length, All, IfOk, IfErr};
 ghost use Rattle.std.specs.List.Sorted.{IsStrictlyIncreasing};
 ghost use Rattle.lset_words.specs.Words.{empty, Opens};

@@ -1,5 +1,5 @@
 //! Receipts. A receipt is a token that one thread sends to another. It records the events that a seat had seen when it
-//! issued the receipt. (A seat is the right to call the set as one of its threads.)
+//! issued the receipt. (A seat is a thread's handle to the set.)
 ghost use Rattle.std.specs.Prelude.{◌≡◌};
 ghost use Rattle.lset_live.specs.Explained.{ReceiptsKeepOrder};
 ghost use Rattle.lset_rule.specs.Runs.{StartsWith};
@@ -37,9 +37,9 @@ impl<M: Machine> Model for Receipt<M> {
 }
 
 impl<M: Machine> LiveSet<M> {
-    /// Returns a receipt for the events that `seat` (the right to call the set as one thread) has seen. These include
-    /// the events of the seats merged into `seat` and of the receipts passed to it. `seat` must belong to this set, and
-    /// does not change. Does not block or allocate.
+    /// Returns a receipt for the events that `seat` (a per-thread handle) has seen. These include the events of the
+    /// seats merged into `seat` and of the receipts passed to it. `seat` must belong to this set, and does not change.
+    /// Does not block or allocate.
     pub fn receipt(&self, seat: &mut Seat<M>) -> Receipt<M>
         requires { seat.old.set ≡ self.now }
         ensures seat { seat.new ≡ seat.old }
@@ -69,11 +69,10 @@ impl<M: Machine> LiveSet<M> {
         }
     }
 
-    /// Adds the events in `receipt` to the events that `seat` (the right to call the set as one thread) has seen. Both
-    /// must belong to this set. The seat's later calls start after all events in the receipt. In each order that
-    /// explains these calls, all calls that had ended in the receipt's events precede the seat's later calls
-    /// (`receipts_keep_order`). The seat's record and the seats that it holds do not change. Does not block or
-    /// allocate.
+    /// Adds the events in `receipt` to the events that `seat` (a per-thread handle) has seen. Both must belong to this
+    /// set. The seat's later calls start after all events in the receipt. In each order that explains these calls, all
+    /// calls that had ended in the receipt's events precede the seat's later calls (`receipts_keep_order`). The seat's
+    /// record and the seats that it holds do not change. Does not block or allocate.
     pub fn after(&self, seat: &mut Seat<M>, receipt: Receipt<M>)
         requires seat { seat.old.set ≡ self.now }
         requires receipt { receipt.set ≡ self.now }
@@ -89,9 +88,8 @@ impl<M: Machine> LiveSet<M> {
 }
 
 /// States the law of receipts, as the contract of an empty function. If a call has ended in the events of a receipt,
-/// and a seat (the right to call the set as one thread) receives this receipt, the call precedes each later call of the
-/// seat. This is true in each order that linearizes the events up to the end of the later call, or any longer list of
-/// events.
+/// and a seat (per-thread handle) receives this receipt, the call precedes each later call of the seat. This is true in
+/// each order that linearizes the events up to the end of the later call, or any longer list of events.
 pub fn receipts_keep_order()
     ensures { ReceiptsKeepOrder }
 {}

@@ -1,5 +1,4 @@
-//! Calls that can block, and a `contains` that never blocks, made from a seat (the right to call the set as one thread)
-//! on shared words.
+//! Calls that can block, and a `contains` that never blocks, made from a seat (per-thread handle) on shared words.
 ghost use Rattle.lset_words.specs.declared.Call.TheVariants.{Contains};
 ghost use Rattle.lset_rule.specs.Seats.{HasCalled, MayCall};
 

@@ -33,9 +33,8 @@ use std::sync::Wait;
 use thiserror::Error;
 
 /// A running set of the list `M`: Herlihy and Shavit's `Set`, with a limit on the keys that each thread can add (its
-/// quota). Threads share the set by `&`, and each thread calls from its own seat (the right to call the set as one
-/// thread). In contracts, a set is its table of words and its opening: the number of threads, the quota and the opening
-/// keys.
+/// quota). Threads share the set by `&`, and each thread calls from its own seat (per-thread handle). In contracts, a
+/// set is its table of words and its opening: the number of threads, the quota and the opening keys.
 #[derive(Drop)]
 pub struct LiveSet<M: Machine> {
     pub(crate) table: Table<(), View, Opened, Follows<M>, Global>,
@@ -170,10 +169,10 @@ impl<M: Running> LiveSet<M> {
 }
 
 impl<M: Bounded> LiveSet<M> {
-    /// Executes the call from `seat` (the right to call the set as one thread), which must belong to this set, with at
-    /// most `N::MOST` rounds in each loop of the call. Needs no runtime. In LazyList and LockFreeList, a `contains`
-    /// walks without blocking and makes as many rounds as it needs. Returns the seat and the reply, which satisfy the
-    /// postcondition of `call`.
+    /// Executes the call from `seat` (a per-thread handle), which must belong to this set, with at most `N::MOST`
+    /// rounds in each loop of the call. Needs no runtime. In LazyList and LockFreeList, a `contains` walks without
+    /// blocking and makes as many rounds as it needs. Returns the seat and the reply, which satisfy the postcondition
+    /// of `call`.
     ///
     /// Returns `None` if a loop has made all its rounds, for example while it waits for a lock. The call is then still
     /// pending and holds its locks. The seat is consumed, and the set can never be closed. With [`Countless`] rounds,
@@ -212,9 +211,9 @@ impl<M: Bounded> LiveSet<M> {
 }
 
 impl<M: Machine> LiveSet<M> {
-    /// Merges the seat `from` (the right to call the set as one thread) into the seat `into`: its record, the seats
-    /// that it holds, and the events that it has seen. Both seats must belong to this set. In each order that agrees
-    /// with the record of `into`, the calls of `from` precede the later calls of `into`.
+    /// Merges the seat `from` (a per-thread handle) into the seat `into`: its record, the seats that it holds, and the
+    /// events that it has seen. Both seats must belong to this set. In each order that agrees with the record of
+    /// `into`, the calls of `from` precede the later calls of `into`.
     pub fn gather(&self, into: &mut Seat<M>, from: Seat<M>)
         requires into { into.old.set ≡ self.now }
         requires from { from.set ≡ self.now }

@@ -1,5 +1,5 @@
-//! Calls made from a seat (the right to call the set as one thread), each with its own result type. The same calls on
-//! `LiveSet` return a `Reply`.
+//! Calls made from a seat (per-thread handle), each with its own result type. The same calls on `LiveSet` return a
+//! `Reply`.
 ghost use Rattle.std.specs.Prelude.{◌≡◌};
 ghost use Rattle.lset_words.specs.declared.Call.TheVariants.{Add, Remove, Contains, Ceiling};
 ghost use Rattle.lset_live.specs.Explained.{HasAnswered};
