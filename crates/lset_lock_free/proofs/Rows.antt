@@ -11,8 +11,6 @@ use Rattle.lset_steps.specs.RowLaws.{HasReading}
 use Rattle.lset_lock_free.specs.LockFree.{lock_free, at_key, decision_of}
 use Rattle.lset_lock_free.specs.Rows.{LockFreeRows, decides}
 
--- After its walk, a call continues according to two tests: whether its key was found, and whether its thread's quota
--- allows another add.
 decides_by : (c : Call) (l : Local) (found room : Bool) (seen : ℕ) → (seen == target c) ≡ found → nat_lt l.used l.quota ≡ room
     → decision_of (decided 5 8 0 c (seen == target c) (nat_lt l.used l.quota) seen l) ≡ decides c l seen
 decides_by (Add k) l true room seen e f = rw e refl

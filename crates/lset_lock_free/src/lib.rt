@@ -1,5 +1,5 @@
-//! LockFreeList: a list set without locks. Compare-and-exchange operations mark nodes and unlink them one at a time
-//! (Herlihy and Shavit's lock-free list, after Harris and Michael).
+//! LockFreeList: a list-based set without locks. Compare-and-exchange operations mark nodes and unlink them one at a
+//! time (Herlihy and Shavit's lock-free list, after Harris and Michael).
 #![tactic(auto)]
 
 ghost use Rattle.std.specs.Prelude.{◌≡◌, ◌+◌};
@@ -17,8 +17,8 @@ use lset_steps::rows::{Targets, decide, key_index, link_index, own_slot};
 use lset_steps::{Action, Fed, Local, Machine, OpenReads};
 use lset_words::{Call, HEAD, Key, Kind, Reply};
 
-/// The list set without locks. To remove a node, an exchange of the node's own link marks it, and an exchange of the
-/// previous node's link then unlinks it. Any call that reaches a marked node can unlink it.
+/// The list-based set without locks. To remove a node, an exchange of the node's own link marks it, and an exchange of
+/// the previous node's link then unlinks it. Any call that reaches a marked node can unlink it.
 #[derive(Clone, Copy)]
 pub struct LockFreeList;
 

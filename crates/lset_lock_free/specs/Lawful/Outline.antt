@@ -47,9 +47,9 @@ pub record Was (vs : ℕ → View) (first now a b t count : ℕ) (P : View → T
   pub holds : P (vs at)
   pub same_count : (vs at).used t ≡ count
 
--- At some moment from `first` to `now`, pred was in the chain with a smaller key than the call's, and curr was the
--- node after pred. `Open` describes curr in the same way: at some such moment, curr was in the chain without a mark,
--- and succ was the node after curr.
+-- Holds if, at some moment from `first` to `now`, pred was in the chain with a smaller key than the call's, and curr
+-- was the node after pred. `Open` describes curr in the same way: at some such moment, curr was in the chain without a
+-- mark, and succ was the node after curr.
 abbrev pub Link : (ℕ → View) → ℕ → ℕ → ℕ → ℕ → ℕ → ℕ → ℕ → Type 0
 Link vs first now key pred curr t count = Was vs first now pred curr t count (λ v. v.key pred < key)
 
