@@ -46,7 +46,6 @@ module _ (m : Table) (b : Begun) where
         local = come.0;
       }
 
-  -- If a step does not end the call, the call is then at the row that the step table prescribes.
   pub leads : (a : Action) (s : TableSeat) (n : ℕ) (s' : TableSeat) → MayStep m b a s → IsSeat s s' → Goes m s.me.0 n s'.me.0 →
       HasStepped m b s n s'
   leads a s n s' h seat g = record {
@@ -55,7 +54,6 @@ module _ (m : Table) (b : Begun) where
         onward l s n s' seat g (subst (λ x. (m.feed x n).answer ≡ None) same (h.goes_on n)) holds;
   }
 
-  -- The next step of a pending call accesses a word with an index below MOST_WORDS.
   pub few_held : Lawful m → (l : Local) (a : Action) (s : TableSeat) → Holds m b l s → a ≡ m.next l → word_named a < MOST_WORDS
   few_held law l a s h acts =
       let o = open_now l s h in
@@ -76,8 +74,6 @@ module _ (m : Table) (b : Begun) where
   pub few_asks : Lawful m → (a : Action) (s : TableSeat) → MayAnswer m b a s → word_named a < MOST_WORDS
   few_asks law a s h = few_held law h.held a s h.holds h.acts
 
-  -- If a call is pending from the seat s (a right to call the set), the thread has the private state that the view of
-  -- s stores.
   pub itself : (l : Local) (s : TableSeat) → Holds m b l s → Holds m b s.me.0.local s
   itself l s h = record { words = h.words; used = h.used; seat = h.seat; mid = h.mid; stands = h.stands; local = refl }
 
@@ -94,7 +90,6 @@ module _ (m : Table) (b : Begun) where
     local = h.local ∙ same;
   }
 
-  -- A failed attempt to take a lock does not change the thread's private state.
   pub tried : (word thread : ℕ) (s0 s : TableSeat) (n : ℕ) (s' : TableSeat) → MayLock m b word thread s0 → n ≢ 0 →
       Holds m b s0.me.0.local s
       → IsSeat s s' → Goes m s.me.0 n s'.me.0 → Holds m b s0.me.0.local s'
@@ -171,8 +166,6 @@ begins_holding m law b own s n s' c same may seat starts none =
       local = come.0;
     } in subst (λ x. Holds m x f.local s') (sym may.now) here
 
--- If the first step of a call is a failed attempt to take a lock, the thread still has the private state from the start
--- of the call.
 pub first_tried : (m : Table) → Lawful m → (b : Begun) (own : OwnSlots) (s : TableSeat) (n : ℕ) (s' : TableSeat) (c : Call) → b.call ≡ c →
     MayBegin m b own s
     → IsSeat s s' → Starts m c s.me.0 n s'.me.0 → ((i : ℕ) → i ≢ 0 → m.feed (first m b own) i ≡ continued (first m b own)) → n ≢ 0
@@ -223,7 +216,7 @@ stores {m = m} {b = b} {s = s} {word = word} {more = more} h is all =
 abbrev pub no_rest : Rest
 no_rest = record { succ = 0; node = 0; pkey = 0; ckey = 0 }
 
--- ---- Lemmas about a whole call c that was started from seat s (a right to call the set)
+-- ---- Lemmas about a whole call c that was started from seat s (per-thread handle)
 module _ (c : Call) (b : Begun) (s : TableSeat) (began : b ≡ begun_at c s) where
   pub may_begin : {m : Table} {z : TableId} {k : Opening} {own : OwnSlots} → MayCall m z k own s → MayBegin m b own s
   may_begin may = rw began record {

@@ -1,4 +1,4 @@
--- A pending call, and its seat (the right to call the set as one thread) as it was when the call started.
+-- A pending call, and its seat (per-thread handle) as it was when the call started.
 use Rattle.std.specs.Prelude.{◌≡◌, ℕ, List}
 use Rattle.atomic_table.specs.Seated.{TableId}
 use Rattle.lset_words.specs.declared.Call.{Call}

@@ -21,8 +21,8 @@ use Rattle.lset_rule.specs.Views.{Stands}
 use Rattle.lset_rule.specs.Calls.{IsMid, Makes}
 use Rattle.lset_loops.specs.Begun.{Begun, begun_at}
 
--- Call b is pending on list m. The calling thread has the private state `l`, and the seat of the call (the right to
--- call as one thread) is now s.
+-- Holds if call b is pending on list m, its thread has the private state `l`, and its seat (per-thread handle) is now
+-- s.
 pub record Holds (m : Table) (b : Begun) (l : Local) (s : TableSeat) : Type 0 where
   pub words : b.table_id.words ≡ word_count (sizes b.me.0.shape)
   pub used : b.me.0.spent ≡ false
@@ -31,19 +31,19 @@ pub record Holds (m : Table) (b : Begun) (l : Local) (s : TableSeat) : Type 0 wh
   pub stands : Stands m s.me.0
   pub local : s.me.0.local ≡ l
 
--- According to the step table, action a is the next step of call b, and this step does not end the call.
+-- Holds if, by the step table, action a is the next step of call b and does not end the call.
 pub record MayStep (m : Table) (b : Begun) (a : Action) (s : TableSeat) : Type 0 where
   pub held : Local
   pub holds : Holds m b held s
   pub acts : a ≡ m.next held
   pub goes_on : (n : ℕ) → (m.feed held n).answer ≡ None
 
--- After a step that saw the value n, call b is at the row of the step table that follows for this value. s and s' are
--- the seat (the right to call the set as one thread) before and after the step.
+-- Holds if a step that saw the value n has led call b to the row that the step table prescribes for this value. s and
+-- s' are the seat (per-thread handle) before and after the step.
 pub record HasStepped (m : Table) (b : Begun) (s : TableSeat) (n : ℕ) (s' : TableSeat) : Type 0 where
   pub leads : (l : Local) → Holds m b l s → Holds m b (m.feed l n).local s'
 
--- According to the step table, call b now attempts to take the lock at index `word`, and repeats the attempt until it
+-- Holds if, by the step table, call b now attempts to take the lock at index `word`, and repeats the attempt until it
 -- succeeds.
 pub record MayLock (m : Table) (b : Begun) (word thread : ℕ) (s : TableSeat) : Type 0 where
   pub held : Local
@@ -61,8 +61,8 @@ abbrev pub feeds : Table → Local → List (ℕ × ℕ) → Local
 feeds m l [] = l
 feeds m l ((word, value) ∷ more) = feeds m (m.feed l value).local more
 
--- According to the step table, a thread in the private state `l` makes these stores in its next steps, and no store
--- ends the call. The stores are given as (word, value) pairs.
+-- Holds if, by the step table, a thread in the private state `l` makes these stores in its next steps, and no store
+-- ends the call. Each store is a pair of a word and a value.
 abbrev pub Stores : Table → Local → List (ℕ × ℕ) → Type 0
 Stores m l [] = Unit {0}
 Stores m l ((word, value) ∷ more) = (Store word value ≡ m.next l) × ((n : ℕ) → (m.feed l n).answer ≡ None)
@@ -85,8 +85,8 @@ slot_stores own word x = (key_index (slot own), word) ∷ (link_index (slot own)
 abbrev pub put_stores : OwnSlots → ℕ → ℕ → ℕ → List (ℕ × ℕ)
 put_stores own word p x = (key_index (slot own), word) ∷ (link_index (slot own), 2 * x) ∷ (link_index p, 2 * slot own) ∷ []
 
--- Call b has not started yet. No call is pending from seat s (the right to call the set as one thread), and the thread
--- of the seat has the slots `own` (nodes for the keys that this thread adds).
+-- Holds if call b has not started yet. No call is pending from seat s (per-thread handle), and the thread of the seat
+-- has the slots `own` (nodes reserved for its adds).
 pub record MayBegin (m : Table) (b : Begun) (own : OwnSlots) (s : TableSeat) : Type 0 where
   pub now : b ≡ begun_at b.call s
   pub may : MayCall m b.table_id b.me.0.shape own s
@@ -95,32 +95,32 @@ pub record MayBegin (m : Table) (b : Begun) (own : OwnSlots) (s : TableSeat) : T
 abbrev pub first : Table → Begun → OwnSlots → Local
 first m b own = m.begin b.call (resting own)
 
--- Call b has ended with reply r. The calling thread has the private state `l`, and its seat (the right to call the set
--- as one thread) is now s.
+-- Holds if call b has ended with reply r, its thread has the private state `l`, and its seat (per-thread handle) is now
+-- s.
 pub record Answered (m : Table) (b : Begun) (r : Reply) (l : Local) (s : TableSeat) : Type 0 where
   pub seat : (s.table_id ≡ b.table_id) × (s.id ≡ b.id) × (s.me.1 ≡ b.me.1)
   pub makes : Makes m b.call b.me.0 r s.me.0
   pub local : s.me.0.local ≡ l
 
--- According to the step table, action a is the next step of call b. This step can end the call.
+-- Holds if, by the step table, action a is the next step of call b. This step can end the call.
 pub record MayAnswer (m : Table) (b : Begun) (a : Action) (s : TableSeat) : Type 0 where
   pub held : Local
   pub holds : Holds m b held s
   pub acts : a ≡ m.next held
 
--- If f, the result of the last step of call b, contains a reply, the call has ended with this reply. Otherwise the
--- call is still pending.
+-- Holds if call b has ended with the reply in f, the result of its last step. If f has no reply, holds if the call is
+-- still pending.
 abbrev pub StandsAfter : Table → Begun → Fed → TableSeat → Type 0
 StandsAfter m b f s = MatchOption f.answer (Holds m b f.local s) (λ r. Answered m b r f.local s)
 
--- After a step that saw the value n in its word, call b has ended or continues, as the step table says for this value.
--- s and s' are the seat (the right to call the set as one thread) before and after the step.
+-- Holds if, after a step that saw the value n, call b has ended or continues as the step table prescribes for this
+-- value. s and s' are the seat (per-thread handle) before and after the step.
 abbrev pub HasTold : Table → Begun → TableSeat → ℕ → TableSeat → Type 0
 HasTold m b s n s' = (l : Local) → Holds m b l s → (f : Fed) → m.feed l n ≡ f → StandsAfter m b f s'
 
--- A compare-and-exchange that succeeded saw the value `old`. One that failed saw another value. Call b has then ended
--- or continues, as the step table says for the value seen. s and s' are the seat (the right to call the set as one
--- thread) before and after the exchange.
+-- Holds if, after a compare-and-exchange, call b has ended or continues as the step table prescribes for the value
+-- seen. A successful exchange saw the value `old`; a failed one saw another value. s and s' are the seat (per-thread
+-- handle) before and after the exchange.
 abbrev pub HasExchanged : Table → Begun → ℕ → TableSeat → Bool → TableSeat → Type 0
 HasExchanged m b old s true s' = HasTold m b s old s'
 HasExchanged m b old s false s' = (n : ℕ) × (n ≢ old) × HasTold m b s n s'
@@ -157,7 +157,7 @@ done t PutIn l = goes_to t.adds None l
 done t TakeOut l = goes_to t.removes None l
 done t (Answer r) l = goes_to t.leaves (Some r) l
 
--- When the walk of call c stops at the key word `word`, the step table makes decision d.
+-- Holds if d is the decision of the step table when the walk of call c stops at the key word `word`.
 abbrev pub Decides : Call → OwnSlots → ℕ → Decision → Type 0
 Decides c own word d = (t : Targets) (l : Local) → l.call ≡ c → l.used ≡ own.used → l.quota ≡ own.quota →
     decided_on t word l ≡ done t d l

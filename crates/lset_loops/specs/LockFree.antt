@@ -26,8 +26,8 @@ StopsAt b own f s = (j : Rest)
 abbrev pub AtHead : Begun → OwnSlots → TableSeat → Type 0
 AtHead b own s = (p : ℕ) × (x : ℕ) × (j : Rest) × Holds lock_free b (row own b.call 1 None p x j) s
 
--- The call has tried to add, remove or reply. If the attempt returned `answer` (the thread's slots, which are nodes
--- for its adds, and the reply), the call has ended. If it returned None, the call is about to start over.
+-- Holds if the call has tried to add, remove or reply. If the attempt returned `answer` (the thread's unused slots and
+-- the reply), the call has ended. If it returned None, the call is about to start over.
 abbrev pub HasTried : Begun → OwnSlots → Option (OwnSlots × Reply) → TableSeat → Type 0
 HasTried b own (Some answer) s = HasAnswered lock_free b answer s
 HasTried b own None s = AtHead b own s

@@ -62,14 +62,14 @@ GivesBack b f own r s = (j : Rest) × Holds optimistic b (row own b.call 14 r f.
 abbrev pub Leaves : Begun → Found → OwnSlots × Reply → TableSeat → Type 0
 Leaves b f answer s = GivesBack b f answer.0 (Some answer.1) s
 
--- The second walk of the call is over. If its result is true, the walk has reached `f.pred`. If it is false, the call
--- is about to release the locks of the two nodes in f and start over.
+-- Holds if the second walk of the call is over. If its result is true, the walk has reached `f.pred`. If it is false,
+-- the call is about to release the locks of the two nodes in f and start over.
 abbrev pub HasReached : Begun → OwnSlots → Found → Bool → TableSeat → Type 0
 HasReached b own f true s = AtPred b own f s
 HasReached b own f false s = GivesBack b f own None s
 
--- The call has validated the two nodes in f. If the result is true, the nodes are neighbours. If it is false, the call
--- is about to release their locks and start over.
+-- Holds if the call has validated the two nodes in f. If the result is true, the nodes are neighbours. If it is false,
+-- the call is about to release their locks and start over.
 abbrev pub HasValidated : Begun → OwnSlots → Found → Bool → TableSeat → Type 0
 HasValidated b own f true s = AreNeighbours b own f s
 HasValidated b own f false s = GivesBack b f own None s

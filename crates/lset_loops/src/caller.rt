@@ -12,7 +12,7 @@ use lset_words::Call;
 use std::marker::Model;
 use std::snapshot::Snapshot;
 
-/// A pending call, and a copy of its seat (the right to call the set as one thread) made when the call started.
+/// A pending call, and a copy of its seat (per-thread handle) made when the call started.
 #[derive(Drop)]
 pub(crate) struct Origin {
     call: Call,
@@ -47,8 +47,8 @@ pub(crate) struct Caller<'a, M: Machine, P: Pause> {
 }
 
 impl<'a, M: Machine, P: Pause> Caller<'a, M, P> {
-    /// Creates the caller of `call` from the idle seat `place` (the right to call the set as one thread). The call
-    /// starts later, with its first step.
+    /// Creates the caller of `call` from the idle seat `place` (a per-thread handle). The call starts later, with its
+    /// first step.
     pub fn new(
         table: &'a Words<M>,
         place: &TableSeat,
