@@ -68,8 +68,6 @@ link_row : (ws : List ℕ) (l : Local) → l.pc ≡ 8
     → local_after l (seen_by ws (optimistic.next l)) ≡ at_link (node_link ws l.pred) (record l { pc = 8 })
 link_row ws l e = rw e refl
 
--- If a thread has a reply after its step at row 8 of the step table, then pred's link leads to curr at this step, and
--- the reply is correct at this moment.
 fits_at : (op : Opening) (last : ℕ) (es : ℕ → Event) (r : Run optimistic op es last) (t : ℕ) (tn : t < op.threads) (k : ℕ) →
     k < last → es k ≡ Go t
     → (held_at op es k t).pc ≡ 8 → (reply : Reply)

@@ -1,5 +1,5 @@
-//! Laws of every run of an OptimisticList, in addition to the laws of all machines. Each law is the contract of a
-//! function that does nothing.
+//! Laws of every run of an OptimisticList, in addition to the laws of all machines. Each law is the contract of an
+//! empty function.
 
 ghost use Rattle.lset_optimistic.specs.Promises.{ValidatedWalk, OptimisticRepliesFit};
 

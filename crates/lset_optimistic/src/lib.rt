@@ -1,5 +1,5 @@
-//! OptimisticList: a list set that walks without locks. A call locks the two nodes that its walk found, and validates
-//! them by a second walk (Herlihy and Shavit's optimistic list).
+//! OptimisticList: a list-based set that walks without locks. A call locks the two nodes that its walk found, and
+//! validates them by a second walk (Herlihy and Shavit's optimistic list).
 #![tactic(auto)]
 
 ghost use Rattle.std.specs.Prelude.{◌≡◌, ◌/◌};
@@ -28,8 +28,8 @@ use lset_steps::rows::{
 use lset_steps::{Action, Fed, Local, Machine};
 use lset_words::{Call, HEAD, Key, Kind, Reply};
 
-/// The list set that walks without locks, and then locks the two nodes where the walk ended. A second walk from the
-/// head checks that the first of these nodes is still in the chain and leads to the second.
+/// The list-based set that walks without locks, and then locks the two nodes where the walk ended. A second walk from
+/// the head checks that the first of these nodes is still in the chain and leads to the second.
 #[derive(Clone, Copy)]
 pub struct OptimisticList;
 
