@@ -121,7 +121,6 @@ module _ (op : Opening) (es : ℕ → Event) (fair : IsFair lazy op es) (t : ℕ
       en.0)
       ∙ (lazy_lawful.steps op (suc k) k t es (fair.run (suc k)) (omega arith) ee).same_call
 
-  -- If the next event is a step of the `ceiling`, some call ends at this step or later.
   mine : (m k : ℕ) → ((j : ℕ) → Waits j m → Ends j) → Waits k (suc m) → es k ≡ Go t → NoneCounts k op.threads → Ends k
   mine m k again w ee none =
       let row = row_at k (suc m) w in
@@ -154,8 +153,6 @@ module _ (op : Opening) (es : ℕ → Event) (fair : IsFair lazy op es) (t : ℕ
         }))
       ]
 
-  -- If an event changes neither the shared words nor the state of thread t, the `ceiling` still ends within the same
-  -- number of steps.
   stays : (k m : ℕ) → Waits k m → (state_at lazy op es (suc k)).words ≡ (state_at lazy op es k).words
       → local_of (state_at lazy op es (suc k)) t ≡ local_of (state_at lazy op es k) t → Waits (suc k) m
   stays k m w words same = record {

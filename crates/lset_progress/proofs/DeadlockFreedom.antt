@@ -88,8 +88,6 @@ module _ (T : Table) (law : Lawful T) (S : Shape) (most : Sizes → ℕ) (shows 
     pending : IsPending (state_at T op es k) t
     meant : calls (local_of (state_at T op es k) t).call ≡ 1
 
-  -- A counted step of thread v (not a failed attempt to take a lock) ends its call, or the call is still pending and
-  -- its steps are counted.
   module _ (m : ℕ) (again : (k t : ℕ) → Busy k t → Gather m k) (k v : ℕ) (ee : es k ≡ Go v) (b : Busy k v)
       (weighs : moves calls T (state_at T op es k) (Go v) ≡ 1) where
     abbrev L : Local
@@ -174,8 +172,6 @@ module _ (T : Table) (law : Lawful T) (S : Shape) (most : Sizes → ℕ) (shows 
     mine_counts : (k : ℕ) → Ready k → moves calls T (state_at T op es k) (Go u) ≡ 1
     mine_counts k g = weight_of _ u 1 g.busy.meant ∙ gets_weight _ (T.next _) g.gets_on.tries
 
-    -- The induction step, from moment k + 1 back to moment k. There are two cases: the next event is a counted step
-    -- (not a failed attempt to take a lock), or it changes no shared word.
     by_event : (k : ℕ) → Ready k → (Ready (suc k) → Gather (suc m) (suc k)) → (e : Event) → es k ≡ e
         → Enabled (state_at T op es k) e → Gather (suc m) k
     by_event k g rest (Begin t c) ee en =

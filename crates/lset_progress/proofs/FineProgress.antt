@@ -59,7 +59,6 @@ module _ {sz : Sizes} {ws : List ℕ} {used : ℕ → ℕ} {t : ℕ} {vs : ℕ �
   abbrev To : ℕ → Local → Type 0
   To n k = Loads shape size ws (record l { pc = n }) (continued k)
 
-  -- `rest`, the number of nodes with greater keys, is smaller for curr than for pred, the node before curr.
   curr_less : Behind V t (target l.call) l.pred l.curr → rest size ws l.curr < rest size ws l.pred
   curr_less b =
       let follows : node_link ws l.pred ≡ 2 * l.curr = b.follows in

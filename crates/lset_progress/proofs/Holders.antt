@@ -16,8 +16,6 @@ use Rattle.lset_steps.proofs.LockWords.{lock_word}
 use Rattle.lset_steps.proofs.Discipline.{put_same, put_other}
 use Rattle.lset_progress.specs.Progress.{NoOtherHolds}
 
--- If thread u holds lock x after a store, u held lock x before the store, and the store was to another word. The next
--- lemma is about an exchange: u held lock x before, or the exchange gave x to u.
 pub after_store : (x t u old w v : ℕ) → held x t old (Store w v) ≡ u + 1 → (old ≡ u + 1) × (w ≢ x)
 after_store x t u old w v e = elim (same_or_not w x) [
   | inl y ↦ absurd (let z : 0 ≡ u + 1 = sym (if_same w x y 0 old) ∙ e in omega arith)
@@ -69,7 +67,6 @@ module _ (T : Table) (law : Lawful T) (May : Local → ℕ → Type 0) (may : Ma
   Known k = (u : ℕ) → slice_index (state_at T op es k).words x ≡ u + 1
       → (u < op.threads) × May (local_of (state_at T op es k) u) x
 
-  -- If `May` allows the holder of lock x to hold this lock, this remains true after the next event.
   known_after : (k : ℕ) → k < last → (e : Event) → es k ≡ e → Enabled (state_at T op es k) e → Known k → Known (suc k)
   known_after k l (Begin t call) ee en i u h =
       let old : slice_index (state_at T op es k).words x ≡ u + 1 = sym (word_next k l (Begin t call) ee) ∙ h in
@@ -124,7 +121,6 @@ module _ (T : Table) (law : Lawful T) (May : Local → ℕ → Type 0) (may : Ma
   holder_known zero l = opens_free
   holder_known (suc k) l = known_after k (omega arith) (es k) refl (r.enabled k (omega arith)) (holder_known k (omega arith))
 
--- A number is 0 or u + 1 for some u: a lock word is 0 if the lock is free, or u + 1 if thread u holds it.
 pub one_or_more : (x : ℕ) → (x ≡ 0) ⊎ ((u : ℕ) × (x ≡ u + 1))
 one_or_more zero = inl refl
 one_or_more (suc u) = inr (u, omega arith)

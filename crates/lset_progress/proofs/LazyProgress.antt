@@ -48,8 +48,6 @@ use Rattle.lset_progress.proofs.Windows.{counted_or_not}
 pub follows : Discipline lazy true At
 follows = discipline_of lazy (node_locks true) At lazy_follows
 
--- Derives `Stands` from the assertion of a thread's row. `Stands` describes the thread just before it unlinks a marked
--- node (row 12 of the step table), and at the rows of a `ceiling`.
 what_stands : {q t : ℕ} {vs : ℕ → View} {first now : ℕ} {v : View} {done : Bool} {l : Local} → At q t vs first now v done l
     → Stands v t l
 what_stands at = record { takes_out = λ h. (grind arith, grind arith); ceiling = λ h. grind arith }
@@ -143,7 +141,6 @@ module _ {sz : Sizes} {ws : List ℕ} {used : ℕ → ℕ} {t : ℕ} {vs : ℕ �
   user : (a : ℕ) → node_key ws a < target l.call → a ≢ 1
   user a lt = inner true sz ws used h.memory a (target l.call) lt h.registers.low
 
-  -- `rest`, the number of nodes with greater keys, is smaller for curr than for pred, the node before curr.
   curr_less : Found V (target l.call) l.pred l.curr l.ckey → rest size ws l.curr < rest size ws l.pred
   curr_less f =
       let below : node_key ws l.pred < target l.call = f.spot.below in
@@ -152,7 +149,6 @@ module _ {sz : Sizes} {ws : List ℕ} {used : ℕ → ℕ} {t : ℕ} {vs : ℕ �
       ahead_less (node_key ws) size (node_key ws l.pred) l.curr (inside true sz ws used h.memory l.curr f.spot.curr_published)
       (omega arith)
 
-  -- If the links from the head lead to pred, and the next node is curr, the links lead to curr.
   comes : Path (node_link ws) 0 l.pred × (node_link ws l.pred / 2 ≡ l.curr) → node_key ws l.pred < target l.call
       → Path (node_link ws) 0 l.curr
   comes v below = path_on (node_link ws) 0 l.pred l.curr v.0 (user l.pred below) v.1

@@ -71,8 +71,6 @@ module _ (T : Table) (law : Lawful T) (S : Shape) (most : Sizes → ℕ) (shows 
     owes : (u : ℕ) → u < sz.threads → Owes (stores u) (local_of s u)
     within : price sz * total stores sz.threads + total time sz.threads ≤ p
 
-  -- If, after an event, the same numbers of steps are still enough for all threads, the potential (a bound on the
-  -- counted steps until a call ends) is still at most p.
   same_phase : (sz : Sizes) (s s' : State) (p : ℕ) (f : Phase sz s p)
       → ((u : ℕ) → u < sz.threads → Fits sz s'.words (f.time u) (local_of s' u) × Owes (f.stores u) (local_of s' u))
       → Phase sz s' p
@@ -84,7 +82,6 @@ module _ (T : Table) (law : Lawful T) (S : Shape) (most : Sizes → ℕ) (shows 
     within = f.within;
   }
 
-  -- The start of a call does not increase the potential, a bound on the counted steps until a call ends.
   begins : (sz : Sizes) (s : State) (t : ℕ) (c : Call) → Enabled s (Begin t c) → (p : ℕ) → Phase sz s p
       → Phase sz (after T s (Begin t c)) p
   begins sz s t c en p f = same_phase sz s (after T s (Begin t c)) p f (λ u un. elim (same_or_not u t) [
@@ -97,8 +94,8 @@ module _ (T : Table) (law : Lawful T) (S : Shape) (most : Sizes → ℕ) (shows 
         (sym (put_other s t u (T.begin c (local_of s t)) y)) (f.times u un, f.owes u un)
   ])
 
-  -- A counted step (not a failed attempt to take a lock) decreases the potential by at least 1, unless the step ends
-  -- its call. No other step increases the potential. The potential is a bound on the counted steps until a call ends.
+  -- A counted step decreases the potential by at least 1, unless the step ends its call. No other step increases the
+  -- potential.
   module _ (op : Opening) (last k : ℕ) (es : ℕ → Event) (r : Run T op es last) (below : k < last) (t : ℕ) (ee : es k ≡ Go t)
       (en : Enabled (state_at T op es k) (Go t)) (p : ℕ) (f : Phase (sizes op) (state_at T op es k) p) where
     abbrev s : State
@@ -132,8 +129,6 @@ module _ (T : Table) (law : Lawful T) (S : Shape) (most : Sizes → ℕ) (shows 
     abbrev Later : Type 0
     Later = (p' : ℕ) × (p' + moves calls T s (Go t) ≤ p) × Phase (sizes op) s' p'
 
-    -- A failed attempt to take a lock changes nothing. The potential (a bound on the counted steps until a call ends)
-    -- therefore stays the same.
     module _ (w from to : ℕ) (acts : T.next L ≡ Exchange w from to) (y : Row (Exchange w from to))
         (held : slice_index s.words w ≢ 0) where
       not_from : slice_index (state_at T op es k).words w ≢ from
@@ -191,8 +186,6 @@ module _ (T : Table) (law : Lawful T) (S : Shape) (most : Sizes → ℕ) (shows 
         timed_same S (node_count (sizes op)) s.words s'.words m l same.0 same.1 h.2,
       )
 
-      -- A step of a call without counted steps does not increase the potential (a bound on the counted steps until a
-      -- call ends).
       module _ (none : calls L.call ≡ 0) where
         not_late : S.late L → ⊥
         not_late h = let one : calls L.call ≡ 1 = counts.late op last k t es r (omega arith) tn h in omega arith
@@ -214,7 +207,6 @@ module _ (T : Table) (law : Lawful T) (S : Shape) (most : Sizes → ℕ) (shows 
           ]),
         )
 
-      -- Lemmas about a counted step of thread t. After the step, n steps are enough for the rest of the call.
       module _ (one : calls L.call ≡ 1) (n : ℕ) (is : f.time t ≡ suc n)
           (time : Timed S (node_count (sizes op)) s.words (suc n) L) where
         -- Returns, for each thread, a number of steps that is enough after a write: n for thread t, and the maximum for
@@ -246,8 +238,6 @@ module _ (T : Table) (law : Lawful T) (S : Shape) (most : Sizes → ℕ) (shows 
                 (subst (λ m. Owes m (local_of s u)) (sym (others u y)) (f.owes u un))
           ]
 
-          -- If the step changes no key and no link, the potential (a bound on the counted steps until a call ends)
-          -- decreases by at least 1, since thread t has one step fewer left.
           quiet : Kept → Later
           quiet same =
               let fewer : total (put f.time t n) op.threads + 1 ≤ total f.time op.threads =
@@ -273,8 +263,6 @@ module _ (T : Table) (law : Lawful T) (S : Shape) (most : Sizes → ℕ) (shows 
                 },
               )
 
-          -- If the thread has decided what to change, the potential (a bound on the counted steps until a call ends)
-          -- decreases, since the thread has taken one of its 5 steps after the decision.
           stores_on : LateBy S 5 L → (m : ℕ) → f.stores t ≡ suc m → S.left 0 (λ a. 0) L < suc m → Later
           stores_on x m e few =
               let fewer : total (put f.stores t m) op.threads + 1 ≤ total f.stores op.threads =

@@ -60,7 +60,6 @@ pub record Valid (link : ℕ → ℕ) (l : Local) : Type 0 where
   pub same : l.pc ≡ 9 → link l.curr ≡ 2 * l.succ
   pub along : 23 ≤ l.pc → Path link 0 l.curr
 
--- At the rows of the step table that use neither pred nor curr, a walk is `Valid`: its exchanges will succeed.
 outside : (link : ℕ → ℕ) (l : Local) → (2 ≤ l.pc → l.pc ≤ 9 → ⊥) → (23 ≤ l.pc → Path link 0 l.curr) → Valid link l
 outside link l other along = record {
   follows = λ a b. absurd (other a (omega arith));
@@ -70,15 +69,12 @@ outside link l other along = record {
   along = along;
 }
 
--- At rows of the step table below 23, except rows 2 to 9, `Valid` (the exchanges of the walk will succeed) requires
--- nothing.
 low_read : (link : ℕ → ℕ) (l : Local) → (2 ≤ l.pc → l.pc ≤ 9 → ⊥) → l.pc < 23 → Along link l → Valid link l
 low_read link l other low a = outside link l other (λ h. absurd (omega arith))
 
 high_read : (link : ℕ → ℕ) (l : Local) → (2 ≤ l.pc → l.pc ≤ 9 → ⊥) → Path link 0 l.curr → Valid link l
 high_read link l other a = outside link l other (λ h. a)
 
--- At rows of the step table that use only the link of pred, the exchanges will succeed if this link leads to curr.
 at_pred : (link : ℕ → ℕ) (l : Local) → (2 ≤ l.pc) × (l.pc ≤ 7) × (l.pc ≢ 4) → link l.pred ≡ 2 * l.curr → Valid link l
 at_pred link l row follows =
     let low : 2 ≤ l.pc = row.0 in let high : l.pc ≤ 7 = row.1 in record {
@@ -156,8 +152,6 @@ module _ {sz : Sizes} {ws : List ℕ} {used : ℕ → ℕ} {t : ℕ} {vs : ℕ �
   abbrev From : ℕ → List ℕ → Fed → Type 0
   From n ws' f = After (record l { pc = n }) ws' f
 
-  -- A step to a row below 23 of the step table satisfies `After`: it brings the end of the call closer. The next
-  -- lemmas are about a step that starts again from the head, and about a step that ends the call.
   to : {k k' : Local} {ws' : List ℕ} → Only (nat_lt 0 k'.pc) → k'.pc < 23 → (Valid (node_link ws) k → Valid (node_link ws') k')
       → left size key k' < left size key k → After k ws' (continued k')
   to busy low valid less = (on (λ x o m. m) busy (λ z. z) valid less, inr (λ c high. absurd (omega arith)))

@@ -87,8 +87,6 @@ place_of (at_read (reads23 e d c a)) = reads_marks (omega arith) d (subst IsCeil
 place_of (at_read (reads24 e d c a)) = reads_marks (omega arith) d (subst IsCeiling (sym c) tt)
 place_of (at_read (reads25 e d c a)) = reads_marks (omega arith) d (subst IsCeiling (sym c) tt)
 
--- A call that has changed the set has ended, or is a `remove` that is about to unlink its node (row 10 of the step
--- table).
 changed_at : {v : View} {done : Bool} {l : Local} → done ≡ true → Place v done l
     → (l.pc ≡ 0) ⊎ ((l.pc ≡ 10) × (l.call ≡ Remove (key_of l.call)))
 changed_at y p = grind arith

@@ -81,7 +81,6 @@ module _ (reads : Bool) (sz : Sizes) (s s' : State) (done : Bool) (l : Local) (x
     along = λ h. absurd (other (ceiling_at_marks place h));
   }
 
-  -- If another thread's step changes no node of the list, the same number of steps is still enough for this thread.
   fits_on : (key : ℕ → ℕ) (m : ℕ) → Fits reads sz key s.words m l → Fits reads sz key s'.words m l
   fits_on key m (inl h) = inl h
   fits_on key m (inr f) = inr (
@@ -93,7 +92,6 @@ module _ (reads : Bool) (sz : Sizes) (s s' : State) (done : Bool) (l : Local) (x
     ],
   )
 
--- If another thread's step changes nodes of the list, this thread needs at most the steps of one additional walk.
 fits_later : (reads : Bool) (sz : Sizes) (key : ℕ → ℕ) (ws ws' : List ℕ) (m : ℕ) (l : Local) → Fits reads sz key ws m l
     → Fits reads sz key ws' (m + round (node_count sz)) l
 fits_later reads sz key ws ws' m l (inl h) = inl (omega arith)
@@ -106,7 +104,6 @@ fits_later reads sz key ws ws' m l (inr f) = inr (
   ],
 )
 
--- The start of a call does not increase the potential, a bound on the counted steps until a call ends.
 module _ (reads : Bool) (op : Opening) (last k : ℕ) (es : ℕ → Event) (r : Run lock_free op es last) (upto : k ≤ last) (t : ℕ)
     (c : Call)
     (en : Enabled (state_at lock_free op es k) (Begin t c)) (p : ℕ)
@@ -154,7 +151,7 @@ module _ (reads : Bool) (op : Opening) (last k : ℕ) (es : ℕ → Event) (r : 
   }
 
 -- A counted step decreases the potential by at least 1, unless the step ends its call. No other step increases the
--- potential. The potential is a bound on the counted steps until a call ends.
+-- potential.
 module _ (reads : Bool) (op : Opening) (last k : ℕ) (es : ℕ → Event) (r : Run lock_free op es last) (below : k < last) (t : ℕ)
     (en : Enabled (state_at lock_free op es k) (Go t)) (p : ℕ) (f : Phase reads (sizes op) (state_at lock_free op es k) p) where
   abbrev S : State
@@ -184,8 +181,6 @@ module _ (reads : Bool) (op : Opening) (last k : ℕ) (es : ℕ → Event) (r : 
   abbrev EndsNow : Type 0
   EndsNow = Answers lock_free S t × (counted reads (local_of S t).call ≡ 1)
 
-  -- A number of steps that is enough for thread t after its step. If the step is counted, this is one step fewer than
-  -- before.
   record Own : Type 0 where
     left_now : ℕ
     less : left_now + counted reads (local_of S t).call ≤ f.time t
@@ -230,8 +225,6 @@ module _ (reads : Bool) (op : Opening) (last k : ℕ) (es : ℕ → Event) (r : 
   Later = (p' : ℕ) × (p' + counted reads (local_of S t).call ≤ p) × Phase reads (sizes op) S' p'
 
   module _ (o : Own) (x : Stepped V W (local_of S' t)) (marked : (local_of S t).pc ≢ 10) where
-    -- Returns, for each thread, a number of steps that is enough after the step of thread t. For the other threads,
-    -- `more` steps are added.
     abbrev time_then : ℕ → ℕ → ℕ
     time_then more u = if u == t then o.left_now else f.time u + more
 
@@ -266,9 +259,6 @@ module _ (reads : Bool) (op : Opening) (last k : ℕ) (es : ℕ → Event) (r : 
     disturbed : (u : ℕ) → u < op.threads → u ≢ t → Fits reads (sizes op) f.key S'.words (f.time u + round size) (local_of S u)
     disturbed u un d = fits_later reads (sizes op) f.key S.words S'.words (f.time u) (local_of S u) (f.times u un)
 
-    -- Computes the potential (a bound on the counted steps until a call ends) after the step, from three numbers:
-    -- `more` additional steps for each other thread, and how many nodes can still be marked (`mark`) and unlinked
-    -- (`leave`).
     later : (more : ℕ) (mark leave : ℕ → ℕ)
         → price (sizes op) * (total leave size + total mark op.threads) + total (time_then more) op.threads
         + counted reads (local_of S t).call ≤ p

@@ -114,7 +114,6 @@ module _ (T : Table) (At : Outline) (follows : Discipline T T.marks At) (rows : 
     abbrev After : ℕ → Type 0
     After b = TakesOut op.threads (local_of (after T S (Go t))) b
 
-    -- If thread t is at row 12 of the step table, its step removes curr from the chain.
     is_out : L.pc ≡ 12 → Path W.link 0 L.curr → ⊥
     is_out e p =
         let x = (rows.stands _ _ _ _ _ _ _ _ (i.threads t tn).at).takes_out e in
@@ -150,7 +149,6 @@ module _ (T : Table) (At : Outline) (follows : Discipline T T.marks At) (rows : 
         subst (λ z. node_key step.words' L.curr < node_key step.words' z) (sym next) (omega arith) in
         gap W memory.ordered L.pred L.curr at (in_chain_of W L.curr p) b.walk.inner (omega arith) hi
 
-    -- If a node was marked before the step, some thread was about to unlink this node, and still is.
     as_before : (b : ℕ) → Path W.link 0 b → W.link b % 2 ≡ 1 → V.published b → W.link b ≡ V.link b → After b
     as_before b p odd published same =
         let x = before b (path_of V b (keeping.back b published (in_chain_of W b p))) (omega arith) in
@@ -165,7 +163,6 @@ module _ (T : Table) (At : Outline) (follows : Discipline T T.marks At) (rows : 
           }
         ]
 
-    -- If the step marks a node, the thread that takes the step is about to unlink this node.
     as_now : (b : ℕ) → L.pc ≡ 11 → V.link b % 2 ≡ 0 → W.link b % 2 ≡ 1 → After b
     as_now b e even odd =
         let acts : T.next L ≡ Store (link_index L.curr) (2 * L.succ + 1) = (rows.marks L e).0 in

@@ -52,7 +52,6 @@ module _ (S : Shape) (T : Table) (sz : Sizes) (ws : List ℕ) (t : ℕ) (l : Loc
   abbrev Row : Action → Type 0
   Row a = RowBy S size T sz ws t l a
 
-  -- If thread t holds a lock after its step, the thread's new private state allows it to hold this lock (`may`).
   may_after : (x : ℕ) → (slice_index ws x ≡ t + 1 → S.may l x) → (a : Action) → Row a → held x t (slice_index ws x) a ≡ t + 1
       → S.may (T.feed l (seen_by ws a)).local x
   may_after x before (Load w) row h = row.keeps x tt (before h)

@@ -82,7 +82,6 @@ module _ {marks : Bool} {At : Outline} {sz : Sizes} {ws : List ℕ} {used : ℕ 
   abbrev Row : ℕ → Type 0
   Row n = From n (read_fed (record l { pc = n }) (seen_by ws (read_action (record l { pc = n }))))
 
-  -- The walk has not reached the tail, and the next node has a greater key than curr.
   goes_less : At20 vs first now (key_of l.call).0 l.curr
       → (l.curr ≢ 1) × (rest_by size key (node_link ws l.curr / 2) < rest_by size key l.curr)
   goes_less a =

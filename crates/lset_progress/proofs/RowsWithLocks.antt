@@ -33,8 +33,6 @@ Only b = MatchBool b (Unit {0}) ⊥
 abbrev pub NodeLocks : (ℕ → Bool) → (ℕ → Bool) → Local → ℕ → Type 0
 NodeLocks P C l x = ((x ≡ lock_index l.pred) × Only (P l.pc)) ⊎ ((x ≡ lock_index l.curr) × Only (C l.pc))
 
--- A thread that can hold no lock satisfies every condition on the locks that it can hold. The next two lemmas are
--- about a thread that can hold only the lock of pred, and about a thread that releases one of its two locks.
 pub no_lock : {A B C : Type 0} → (A × ⊥) ⊎ (B × ⊥) → C
 no_lock (inl p) = absurd p.1
 no_lock (inr c) = absurd c.1
@@ -63,8 +61,6 @@ ranked size ws a b x e less =
     let there : x / 3 - 1 ≡ b = omega arith in
     subst (λ i. rest size ws i < rank size ws x) (sym here) (subst (λ i. rest size ws a < rest size ws i) (sym there) less)
 
--- The lock of curr has a lower rank (number of nodes with greater keys) than the lock of pred, the only lock that the
--- thread can hold.
 pub after_pred : {A : Type 0} (size : ℕ) (ws : List ℕ) (curr pred x : ℕ) → rest size ws curr < rest size ws pred
     → ((x ≡ lock_index pred) × Unit {0}) ⊎ (A × ⊥) → rank size ws (lock_index curr) < rank size ws x
 after_pred size ws curr pred x less (inl p) = ranked size ws curr pred x p.0 less
@@ -185,14 +181,10 @@ module _ {S : Shape} {size : ℕ} {key : ℕ → ℕ} {ws : List ℕ} {l : Local
     });
   }
 
-  -- A step that leads to another row of the step table satisfies `Then` (it brings the end of the call closer) if the
-  -- call has not yet decided what to change.
   pub on : Only (nat_lt 0 l'.pc) → (S.late l → ⊥) → (S.valid (node_link ws) l → S.valid (node_link ws') l')
       → S.left size key' l' < S.left size key l → Then S size key ws l O key' ws' (record { local = l'; answer = None })
   on busy early valid less = goes busy (λ h. absurd (early h)) valid less
 
-  -- A step that starts a new walk from the head satisfies `Then`: it brings the end of the call closer. A walk that
-  -- will succeed takes no such step.
   pub again : Only (nat_lt 0 l'.pc) → (S.late l → ⊥) → (S.valid (node_link ws) l → ⊥) → S.valid (node_link ws') l'
       → S.left size key' l' < S.left size key l + S.round size
       → Then S size key ws l O key' ws' (record { local = l'; answer = None })

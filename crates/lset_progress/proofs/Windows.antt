@@ -32,8 +32,8 @@ ends_later {k = k} {n = n} e = record {
 }
 
 module _ (T : Table) (count : State → Event → ℕ) (op : Opening) (es : ℕ → Event) (Phase : State → ℕ → Type 0) where
-  -- Event e is a counted step that ends its call, or the potential (a bound on the counted steps until a call ends)
-  -- does not increase. In the second case, a counted step decreases the potential by at least 1.
+  -- Event e is a counted step that ends its call, or the potential does not increase. In the second case, a counted
+  -- step decreases the potential by at least 1.
   abbrev pub Then : ℕ → ℕ → Event → Type 0
   Then k p e = ((t : ℕ) × (e ≡ Go t) × Answers T (state_at T op es k) t × (count (state_at T op es k) e ≡ 1))
       ⊎ ((p' : ℕ) × (p' + count (state_at T op es k) e ≤ p) × Phase (after T (state_at T op es k) e) p')

@@ -1,5 +1,5 @@
-//! Progress of the five lists, as laws about the runs of their step tables. Each law is the contract of a function that
-//! does nothing. The laws hold for every schedule, except that freedom from deadlock assumes a fair schedule.
+//! Progress of the five lists, as laws about the runs of their step tables. Each law is the contract of an empty
+//! function. The laws hold for every schedule, except that freedom from deadlock assumes a fair schedule.
 //!
 //! In the bounds, N is the number of nodes: the head, the tail, one node for each slot of each thread, and one node for
 //! each opening key.
