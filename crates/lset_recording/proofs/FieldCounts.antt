@@ -17,7 +17,6 @@ many_pieces : (s : Section) (a b c : List ℕ) (more : List (List ℕ)) → firs
 many_pieces section.Title a b c more = refl
 many_pieces s a b c more = refl
 
--- Reading a line depends on its first field: the line can be a call only if this field is `call`.
 call_word : (w : Bool) (a b c : List ℕ) (more : List (List ℕ)) → bytes_eq a (codes "call") ≡ w
     → first_of One wrong.Line call_kinds (a ∷ b ∷ c ∷ more)
     ≡ cond w (first_of One wrong.Line call_kinds (codes "call" ∷ b ∷ c ∷ more)) (Err wrong.Line)

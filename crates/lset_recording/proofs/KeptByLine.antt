@@ -48,8 +48,6 @@ no_calls : (opening more : List ℕ) (calls : List CallRecord) (o : Option Judge
 no_calls opening more calls None none kept = kept
 no_calls opening more calls (Some s) none kept = absurd cc
 
--- If an opening key can be the next line and is above the last opening key, the opening keys still increase after it
--- is appended, and the reader has no judge yet.
 pub opening_parts : (s : SoFar) (k : ℕ) (j : Judging) → IsJudging s j → Comes s.section (told.Opening k) → k < 2 ^ 32
     → is_above j.opening.items k ≡ true
     → (is_above s.told.opening k ≡ true) × AreKeys (s.told.opening ++ k ∷ [])

@@ -35,8 +35,6 @@ may_come calls moment pending are latest x before plain follows =
 
 -- ---- Lemmas about the judge of the calls so far
 
--- If the judge has accepted call x after the other calls, x can follow them in a history, and the judge's state is
--- correct for the calls including x.
 pub one_more : (opening : List ℕ) (calls : List CallRecord) (x : CallRecord) (s t : Judge) → IsJudgeKept opening calls (Some s)
     → (x.thread < all_threads → IsJudgeOf all_threads opening calls s → IsJudgeOf all_threads opening (calls ++ x ∷ []) t)
     → x.thread < all_threads → moment_of t.stream ≡ x.begun
@@ -54,7 +52,6 @@ one_more opening calls x s t kept added of_thread at =
         let low = begun_after calls (moment_of s.stream) kept.1 x follows in
         omega (arith, long, so_far, low, at)
 
--- A new judge is in the correct state before the first call.
 pub opened : {E : Type 0} (opening : List ℕ) (o : Option Judge) (r : Result Judge E) → o ≡ None
     → IfOk r (λ s. (threads : ℕ) → IsJudgeOf threads opening [] s) → IfOk r (λ s. moment_of s.stream ≡ 0)
     → IfOk r (λ s. (calls : List CallRecord) → IsJudgeKept opening calls o → IsJudgeKept opening calls (Some s))

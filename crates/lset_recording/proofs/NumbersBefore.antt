@@ -31,7 +31,6 @@ one_more_digit text i value digit low is_digit is are =
 pub digit_few : (b : ℕ) → is_ascii_digit b ≡ true → b - 48 ≤ 9
 digit_few b digit = let high = leb-true b 57 (and_parts (leb 48 b) (leb b 57) digit).1 in omega (arith, high)
 
--- The value of at most `most` digits is below 10^most.
 below : (text : List ℕ) (i value most : ℕ) → i ≤ most → AreDigits text i value → value < 10 ^ most
 below text i value most low are =
     let long = length-take-le i text are.few in

@@ -158,8 +158,6 @@ module _ (bytes held : List ℕ) (n : ℕ) (s : SoFar) (at : StandsAt bytes held
       (subst (λ (ps : List (List ℕ)). Reads n s ps read)
       (sym (ap (cut_at 10) (append-nil held) ∙ slice_split_none (λ b. eqb b 10) held at.lacks)) ends))
 
--- After more bytes of an incomplete line have been read, the reader still has stored all bytes of the line, or has
--- noted that the line is too long.
 pub held_on : (long : Bool) (held kept new more : List ℕ) → IsHeld held kept long → new ≡ kept ++ more → IsHeld (held ++ more) new long
 held_on true held kept new more is now = omega (arith, is, length-append held more)
 held_on false held kept new more is now = ap (λ (t : List ℕ). t ++ more) is ∙ sym now
@@ -186,8 +184,6 @@ whole_line bytes line r is lacks short none =
 abbrev pub Tells : List ℕ → StreamCall → Type 0
 Tells line x = (p : Section) → takes_calls p ≡ true → line_told p line ≡ Ok (told.Call x)
 
--- After the reader has accepted the line of a call, it is at the start of a line, in a section of the recording that
--- allows calls.
 pub call_read : (bytes line : List ℕ) (r q : RecordingReader) (x : StreamCall) → IsRead bytes r → r.line.items ≡ [] → r.is_long ≡ false
     → takes_calls r.judging.section ≡ true → Tells line x
     → ((s : SoFar) → IsJudging s r.judging → Comes s.section (told.Call x) → GoesOn s.told (told.Call x)
@@ -263,7 +259,6 @@ module _ (r : RecordingReader) where
 
 -- ---- Lemmas about the lines within a piece of the text
 
--- If the first lines of a text have an error, the text has the same error however it continues.
 pub refused_on : (bytes done line more : List ℕ) (e : LineFault) → IsRefusedAt (bytes ++ done ++ line ++ 10 ∷ []) e
     → IsRefusedAt (bytes ++ (done ++ (line ++ 10 ∷ more))) e
 refused_on bytes done line more e refused other rest =

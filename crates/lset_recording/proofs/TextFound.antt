@@ -106,7 +106,6 @@ lines_above part.Keys c told.Title comes = absurd comes
 lines_above part.Done c l comes = absurd comes
 lines_above s c l comes = refl
 
--- If the reader accepts a line, this line is appended to the text of the recording so far.
 one_line : (s t : SoFar) (x : List ℕ) → Reaches s.section s.told → IsTaken s x t → Reaches t.section t.told × (lines_at t ≡ lines_at s ++ x ∷ [])
 one_line s t x reached taken =
     let l = taken.0 in

@@ -55,7 +55,8 @@ pub record IsKept (c : Recording) (j : Judging) : Type 0 where
   pub left : AreKeys c.keys
   pub cut_off : j.cut_off ≡ c.cut_off
 
--- In the sections before the calls of a recording, the reader has no judge yet.
+-- Holds if the reader has no judge yet, in the sections before the calls of a recording. In later sections, nothing is
+-- required.
 abbrev pub IsFirst : Section → Option Judge → Type 0
 IsFirst part.Title judge = judge ≡ None
 IsFirst part.Opening judge = judge ≡ None

@@ -261,7 +261,7 @@ impl RecordingReader {
 }
 
 /// Lemma: if bytes are read as a recording, they are the text of this recording. Therefore each recording has only one
-/// text. The function does nothing.
+/// text.
 #[tactic(auto, using(crate::proofs::TextFound::text_found))]
 pub fn recordings_are_read()
     ensures { RecordingsAreRead }

@@ -56,7 +56,6 @@ spelled : (n k b e : ℕ) (w : CallWord) (r : Reply) → ended_line n k b e w r 
 spelled n k b e word.Add r = refl
 spelled n k b e w r = refl
 
--- The line of a completed call has at most 99 bytes, so the fast path never accepts a line that is too long.
 word_few : (w : CallWord) → length (call_word_text w) ≤ 8
 word_few word.Add = let long : length (codes "add") ≡ 3 = refl in omega (arith, long)
 word_few word.Remove = let long : length (codes "remove") ≡ 6 = refl in omega (arith, long)
