@@ -74,7 +74,6 @@ module _ (n : ℕ) (ls : List Line) (i k times : ℕ) (next : LineEvent) where
         let t : times ≡ times - 0 = omega arith in cc (e, f, t));
   }
 
-  -- Lemmas for the case that j events of the current line were executed.
   module _ (j : ℕ) (ahead : IsAhead (events_from n ls) k (rest_of n ls i (times - j) next)) where
     is_next : j < times → drop k (events_from n ls) ≡ next ∷ rest_of n ls i (times - (j + 1)) next
     is_next inside = ahead.rest_is ∙ ap (λ z. rest_of n ls i z next) (let e : times - j ≡ suc (times - (j + 1)) = omega arith in e)

@@ -26,7 +26,6 @@ use Rattle.lset_replay.proofs.EventLists.{IsAhead}
 use Rattle.lset_replay.proofs.FollowedRuns.{TellsKeys, holds_keys, shown}
 use Rattle.lset_replay.proofs.RecorderReady.{may_begin, may_step}
 
--- The log's entry for an event is the effect that `told` returns for this event, converted by `entry_told`.
 pub told_entry : (T : Table) (s : State) (e : Event) → entry_told e (told T s e) ≡ entry_of T s e
 told_entry T s (Begin t call) = refl
 told_entry T s (Go t) = refl
@@ -146,13 +145,11 @@ module _ (T : Table) (accounts : TellsKeys T) (op : Opening) (events : List Line
         made.0 made.1 made.2 (trace (ready T op events r.last w r h next there accounts made.0 a made.2)) opens counts);
   }
 
-  -- In a run of a list, the recorder fails only if an allocation fails.
   pub only_memory : (c : Cause) → (MayRecord r (r.last + 1) next.event a → c ≡ cause.Memory)
       → IsStoppedBy T op events next.line c
   only_memory c memory = subst (λ z. IsStoppedBy T op events next.line z)
       (sym (memory (ready T op events r.last w r h next there accounts made.0 a made.2))) tt
 
--- Before the first event, the world (the words and threads of the list) and the recorder match the run.
 pub at_first : (T : Table) (op : Opening) (events : List LineEvent) (w : WorldState) (r : Recorder) → Opens op
     → r.history.opening ≡ op → w ≡ record { sizes = sizes op; state = opening op } → trace_of r ≡ no_trace r.history.opening
     → r.last ≡ 0 → HasFollowed T r.history.opening events 0 w r

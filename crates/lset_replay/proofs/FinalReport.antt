@@ -150,7 +150,6 @@ module _ (op : Opening) (last : ℕ) (log : Log) (contents : Contents) (counts :
       let f = follows op last log contents counts account low last (omega arith) in
       is_placement op.quota contents counts (calls_at log last) (trace_at op log last).places f.numbered f.placed
 
--- If two lists both contain exactly the keys of a set in increasing order, the lists are equal.
 content_once : (v : View) (ks js : List ℕ) → IsContent v ks → IsContent v js → ks ≡ js
 content_once v ks js a b = a.0.2 ∙ ap (keys_in v) (chain_once v 0 a.0.0 b.0.0 a.0.1 b.0.1) ∙ sym b.0.2
 

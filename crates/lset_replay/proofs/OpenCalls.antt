@@ -50,7 +50,6 @@ open_began x xs t number call begun p =
       open_call = subst (IsOpenAs t call begun) (sym (get_or_append_left xs (x ∷ []) no_traced number low)) p.open_call;
     }
 
--- The pending call of thread t stays pending, with the same number, until a step of t ends it.
 pub open_stepped : (k u t : ℕ) (change : Option Change) (reply : Option Reply) (xs : List TracedCall) (number : ℕ) (call : Call)
     (begun : ℕ) → (reply ≡ None) ⊎ (u ≢ t) → OpenNumber xs t number call begun
     → OpenNumber (map (step_of k u change reply) xs) t number call begun
@@ -69,7 +68,6 @@ open_stepped k u t change reply xs number call begun c p =
       | inr b ↦ rw b o
     ]
 
--- A thread has at most one pending call.
 open_once : (xs : List TracedCall) (t i j : ℕ) → AllPairs Later xs → i < length xs → j < length xs → IsOpenOf t (traced_at xs i)
     → IsOpenOf t (traced_at xs j) → i ≡ j
 open_once xs t i j p l m a b = elim (cases_order i j) [
@@ -102,7 +100,6 @@ map_sets t (suc i) f (x ∷ xs) l u n =
     let e = map_sets t i f xs (omega arith) u (λ j m d. n (suc j) (omega arith) (λ g. d (omega arith))) in
     rw (b, e) refl
 
--- A step changes exactly one entry of the list of calls: the pending call of its thread.
 pub step_sets : (op : Opening) (last : ℕ) (log : Log) (contents : Contents) (counts : Counts)
     → Account op last log contents counts
     → (k t : ℕ) (change : Option Change) (reply : Option Reply) → k ≤ last

@@ -66,7 +66,6 @@ module _ (op : Opening) (contents : Contents) (opens : (k : ℕ) → (contents 0
 module _ (op : Opening) (last : ℕ) (log : Log) (contents : Contents) (counts : Counts)
     (account : Account op last log contents counts)
     (low : HoldsKeys last contents) where
-  -- Recording an event preserves the invariant `Follows`: the recorder describes the run so far.
   entered : (k : ℕ) → k < last → (s : Trace) → (e : Entry) → log k ≡ e → Enters op.threads op.quota log contents counts k e
       → Follows op log contents counts k s
       → Follows op log contents counts (suc k) (trace_after (suc k) e s)

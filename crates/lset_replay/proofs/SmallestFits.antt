@@ -52,7 +52,6 @@ module _ (q : ℕ) (contents : Contents) (counts : Counts) (first last t : ℕ) 
   abbrev pub Passes : (ℕ → List ℕ) → Call → Reply → ℕ → Type 0
   Passes changes c r m = shows changes c r m ≡ needs_key c r
 
-  -- The lemma for a `ceiling`: its reply depends on all keys of the set.
   ceiling_smallest : (changes : ℕ → List ℕ) (k : Key) (found : Option ℕ) (r : Reply) (o : Option ℕ)
       → ((m : ℕ) → FitsAt (call.Ceiling k) r m → IsCeiling (contents m) k.0 found)
       → ((m : ℕ) → IsCeiling (contents m) k.0 found → FitsAt (call.Ceiling k) r m) → IsBounded changes

@@ -59,8 +59,6 @@ lines_begin v n [] h = tt
 lines_begin v n (l ∷ ls) h = all-append (BeginsLineIn v) (events_of_line n l) (events_from (n + 1) ls) (line_begins v n l h.0)
     (lines_begin v (n + 1) ls h.1)
 
--- If each event of the schedule starts a call of this version or no call, the same is true of `event_at` at every
--- index. (Beyond the last event, `event_at` returns a step, which starts no call.)
 event_begins : (v : Version) (es : List LineEvent) (k : ℕ) → AllByRecursion (BeginsLineIn v) es
     → BeginsIn v (event_at (only_events es) k)
 event_begins v [] k h = tt

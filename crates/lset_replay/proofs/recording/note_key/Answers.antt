@@ -14,7 +14,6 @@ other_bool true false d = refl
 other_bool false true d = refl
 other_bool a b d = absurd cc
 
--- A change to a state that the key does not have yet adds an absent key or removes a present key.
 turn_of : (changes : ℕ → List ℕ) (key moment : ℕ) (there present : Bool) → ((j : ℕ) → All (λ m. m < moment) (changes j))
     → there ≡ is_present changes key moment → not (beq there present) ≡ true → present ≡ not (is_present_now changes key)
 turn_of changes key moment there present later is other =
@@ -35,7 +34,6 @@ no_turn : (b : Bool) → b ≡ not b → ⊥
 no_turn true e = absurd cc
 no_turn false e = absurd cc
 
--- A change to the state that the key already has does not add an absent key and does not remove a present key.
 not_turned : (changes : ℕ → List ℕ) (key moment : ℕ) (there present : Bool) → ((j : ℕ) → All (λ m. m < moment) (changes j))
     → there ≡ is_present changes key moment → not (beq there present) ≡ false → present ≡ not (is_present_now changes key) → ⊥
 not_turned changes key moment there present later is same turn =
