@@ -35,7 +35,6 @@ is_call One s a b c (d ∷ more) some (inl opening) = rw opening refl
 is_call Two s a b c (d ∷ more) some (inl opening) = rw opening refl
 is_call v s a b c (d ∷ more) some (inr calls) = rw calls refl
 
--- A line with nine fields or more is not the line of a call.
 pub call_many : (v : Version) (w i t a b c d e : List ℕ) (parts : List (List ℕ)) → 0 < length parts
     → Err wrong.Line ≡ first_of v wrong.Line (open_kind ∷ ended_kind ∷ []) (w ∷ i ∷ t ∷ a ∷ b ∷ c ∷ d ∷ e ∷ parts)
 call_many v w i t a b c d e [] some = absurd (omega arith)

@@ -32,7 +32,6 @@ not_or false b = refl
 abbrev Apart : ℕ → CallRecord → Type 0
 Apart m y = (m ≢ y.begun) × IfSome y.ended (λ (d : ℕ × Reply). m ≢ d.0)
 
--- Decides whether a call neither starts nor ends at moment m.
 apart_by : (m begun : ℕ) (o : Option (ℕ × Reply)) → Decides (not (eqb begun m || ends_at m o)) ((m ≢ begun) × IfSome o (λ d. m ≢ d.0))
 apart_by m begun None = grind (arith, nat_tests)
 apart_by m begun (Some e) = grind (arith, nat_tests)
@@ -142,8 +141,6 @@ taken_pushed calls x m past =
     list_any-append (is_entry m) calls (x ∷ []) ∙ ap (λ c. is_taken calls m || c) (or-false (is_entry m x))
     ∙ ap (λ c. is_taken calls m || (c || ends_at m x.ended)) other
 
--- If the last end of thread t is replaced by v, the result of `is_last_end` can change only for v and for the replaced
--- end. `ends` contains the end of each thread's last call.
 last_end_set : (ends : List ℕ) (t m v : ℕ) → t < length ends → eqb (get_or ends t 0) m ≡ false
     → is_last_end (set ends t v) m ≡ (is_last_end ends m || eqb v m)
 last_end_set [] t m v low old = absurd (omega (arith, low))

@@ -80,7 +80,6 @@ line_read s r x l e =
 
 -- ---- Lemmas about lines that can cause a failed allocation
 
--- The text `end` is read as the line End and as no other line.
 end_is : (v : Version) (s : Section) (l : Line) → line_in v wrong.Line (kinds v s) last_line ≡ Ok l → End ≡ l
 end_is One section.Opening l e = ok_is End l e
 end_is v section.Done l e = absurd cc
@@ -112,7 +111,6 @@ stops_at all start s line rest x after e parts (inr full) stands =
 
 -- ---- Lemmas about the whole text, header included
 
--- Returns the report read so far, as the result of reading a text.
 abbrev pub report_told : SoFar → Result ReportValue LineFault
 report_told s = Ok s.report
 
@@ -123,7 +121,6 @@ module _ (bytes : List ℕ) (v : Version) (version_is : v ≡ version_told (cut_
   in_version : reading bytes ≡ told_by (text_from (text v) (cut_at 10 bytes))
   in_version = ap (λ (u : Version). told_by (text_from (text u) (cut_at 10 bytes))) (sym version_is)
 
-  -- If the header has an error, the whole text has the same error.
   pub header_fault : (e : LineFault) → header_of (title v) (cut_at 10 bytes) ≡ Err e → reading bytes ≡ Err e
   header_fault e is = in_version ∙ ap told_by (text_refused (text v) (cut_at 10 bytes) e is)
 
@@ -131,8 +128,6 @@ module _ (bytes : List ℕ) (v : Version) (version_is : v ≡ version_told (cut_
   still_good line (Ok s) good = tt
   still_good line (Err e) good = good
 
-  -- An allocation can fail at the last line of the header or at a later line, if neither this line nor an earlier line
-  -- has an error.
   runs_out : (index : ℕ) → last_of_header ≤ 1 + index
       → IsGoodLine 1 (cut_at 10 bytes) (text_from (text v) (cut_at 10 bytes)) (1 + index)
       → get_or (cut_at 10 bytes) index [] ≢ last_line → RunsOut 1 (cut_at 10 bytes) (reading bytes) (fault (1 + index) wrong.Memory)
@@ -156,8 +151,6 @@ module _ (bytes : List ℕ) (v : Version) (version_is : v ≡ version_told (cut_
         runs_out 3 (omega arith) (header_good (text v) bytes rest h head)
         (λ is_end. (let same = sym here ∙ is_end in cc))
 
-    -- If the header has no error, the loop over the lines after the header determines the result of reading the whole
-    -- text.
     pub report_is : (s : Reader) → s.section ≡ section.Opening → so_far s ≡ no_lines v h
         → reading bytes ≡ told_by (AllOf rest (state s))
     report_is s section_is so_far_is =

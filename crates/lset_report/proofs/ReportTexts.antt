@@ -90,7 +90,6 @@ one_call : (f : List (List ℕ)) (cs : List CallRecord) (ps : List Placed) (ks :
     ≡ f ++ call_lines 0 cs ++ map place_line ps ++ map key_line ks ++ call_line (0 + length cs) x ∷ []
 one_call f cs ps ks x p n = rw (p, n, calls_pushed 0 cs x) (simp (append-nil, append_assoc))
 
--- After a line is read, the text of the report is the previous text followed by this line.
 more_lines : (r : ReportValue) (l : Line) → Reaches (section_after l) r → IsGood r l
     → lines_at (record { section = section_after l; report = with_line r l }) ≡ to_end r ++ line_text l ∷ []
 more_lines r (told.Opening k) next good =
@@ -209,8 +208,6 @@ none_reached section.Calls v h = (refl, refl)
 none_reached section.Order v h = refl
 none_reached s v h = tt
 
--- Reading a line succeeds if the line passes the checks and its kind is allowed in the section that the reader has
--- reached.
 step_again : (s : SoFar) (l : Line) → IsTold s.report.version (kinds s.report.version s.section) l → IsGood s.report l
     → step s (line_text l) ≡ Ok (with_told s l)
 step_again s l is good =
@@ -354,7 +351,6 @@ words_in One calls order are places = (
 )
 words_in Two calls order are places = tt
 
--- A report that can be written as text uses only words of its format version.
 pub has_words : (r : ReportValue) → IsReport r → HasWordsOfVersion r
 has_words r is = record { opening = is.opening; words = words_in r.version r.history.calls r.order is.calls is.places }
 

@@ -59,8 +59,6 @@ by_ranks xs ys moved increase stable = record {
   stable = ranks_stay rank_of HasSmallerNumber xs ys stable;
 }
 
--- If the entries xs are sorted by call number, sorting them by linearization point results in the order that the
--- definition [Placement] requires.
 pub sorted_rises : (xs ys : List Pointed) → AreByPoints xs ys → AllPairs HasSmallerNumber xs → AllPairs IsPlacedBefore ys
 sorted_rises xs ys are numbers = pairs_std IsPlacedBefore ys (in_order rank_of HasSmallerNumber ys
     (pairs_rec (λ x y. rank_of x ≤ rank_of y) ys (λ i j d l m. are.increase i j d (omega arith) m))

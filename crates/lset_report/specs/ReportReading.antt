@@ -53,8 +53,8 @@ abbrev pub most_keys : Version → ℕ
 most_keys One = MOST_KEYS
 most_keys Two = MOST_KEYS_OPENED
 
--- A report that can be written as text. A set can open with the report's thread count, quota and opening keys. The
--- report's calls are a history, and its version of the format has words for the opening keys, the calls and the
+-- Holds if the report can be written as text. A set can open with the report's thread count, quota and opening keys.
+-- The report's calls are a history, and its version of the format has words for the opening keys, the calls and the
 -- replies. All numbers are within their limits, and so are the counts of calls, entries and keys. The order and the
 -- final keys are otherwise arbitrary.
 pub record IsReport (r : ReportValue) : Type 0 where

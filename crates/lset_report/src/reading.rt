@@ -233,7 +233,6 @@ pub fn read_report(alloc: Global, bytes: &[u8]) -> Result<Report, ReportFault>
 }
 
 /// Lemma: `read_report` accepts exactly the texts of reports. If it accepts bytes, they are the text of its result.
-/// The function does nothing.
 pub fn reports_read_back()
     ensures { ReportsReadBack }
 {}
