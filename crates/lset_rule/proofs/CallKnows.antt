@@ -1,5 +1,5 @@
--- Proofs about the view of a seat after each step of its call. A seat is the right to call the set as one thread; its
--- view is its knowledge of the run.
+-- Proofs about the view of a seat after each step of its call. A seat is a per-thread handle to the set; its view is
+-- its knowledge of the run.
 use Rattle.std.proofs.Common.{◌≡◌, ℕ, ◌+◌, List, [], ◌∷◌, ◌++◌, length, Option, Some, None, MatchOption, ◌<◌, refl, sym, ap, ◌∙◌}
 use Rattle.std.proofs.Common.{subst, append-nil, append_assoc, length-append, false}
 use Rattle.lset_words.specs.declared.Call.{Call}
@@ -69,7 +69,6 @@ by_answer m c v b log l (Some r) mid on st =
       stands = st;
     }
 
--- After any step of a pending call c, the call has ended with a reply or is still pending, as `Comes` states.
 pub comes : (m : Table) (c : Call) (v b : View) (log : List Event) (n : ℕ) (w : View) (f : Fed) → IsMid c v b →
     StartsWith log b.seen → w ≡ gone_view m log n b → Stands m w → f ≡ m.feed b.local n → Comes m c v f w
 comes m c v b log n w f mid on is st fed = let f' : Fed = m.feed b.local n in let w' : View = gone_view m log n b in
@@ -122,13 +121,10 @@ reached_first m law c low v l st idle is =
     occurs m v (v.seen ++ Begin v.thread c ∷ []) l (subst (IsAt m v.shape (v.seen ++ Begin v.thread c ∷ []) v.thread) (sym is)
     (begun_at m law v st c low idle))
 
--- The registers after the start of a call depend on the thread's slots (nodes for keys that it adds), but on no other
--- registers of the thread.
 pub begun_from_slots : (m : Table) → Lawful m → (c : Call) (v : View) (s : OwnSlots) (r l : Local) → s ≡ slots_of v.local →
     r ≡ resting s → l ≡ m.begin c r → l ≡ m.begin c v.local
 begun_from_slots m law c v s r l same rest is = is ∙ (ap (m.begin c) (rest ∙ ap resting same) ∙ sym (law.begins c v.local).alike)
 
--- The registers that the interpreter computes for the start of a call occur in some run.
 pub first_reached : (m : Table) → Lawful m → (c : Call) → target c < tail_word → (v : View) (s : OwnSlots) (r l : Local) → Stands m v
     → IsIdle v → s ≡ slots_of v.local → r ≡ resting s → l ≡ m.begin c r → Occurs m l
 first_reached m law c low v s r l st idle same rest is =

@@ -29,7 +29,6 @@ abbrev pub steps_left : Option Reply → ℕ → ℕ → ℕ
 steps_left (Some r) bound steps = 0
 steps_left None bound steps = bound - steps
 
--- Counting the steps of a thread's last call in the log gives the same number as counting them in the events.
 counted : (T : Table) (k : Opening) (es : ℕ → Event) (t j : ℕ) → (last_at (log_of T k es) t j).steps ≡ steps_since es t j
 counted T k es t zero = refl
 counted T k es t (suc j) = by_event (es j) (counted T k es t j)

@@ -1,5 +1,5 @@
--- Proof: if a seat (the right to call the set as one thread) has as many threads as the set, it has each thread of the
--- set. Therefore, when the set is closed, this seat knows the words exactly.
+-- Proof: if a seat (per-thread handle) has as many threads as the set, it has each thread of the set. Therefore, when
+-- the set is closed, this seat knows the words exactly.
 use Rattle.std.proofs.Common.{◌≡◌, ◌≢◌, ◌⊎◌, inl, inr, ⊎_elim, ℕ, zero, suc, ◌+◌, ◌<◌, ◌≤◌, List, [], ◌∷◌, length, refl, sym, ap}
 use Rattle.std.proofs.Common.{◌∙◌, subst, arith, ◌++◌, false, append-nil, length-append}
 use mathlib.Core.Logic.{dite}
@@ -103,7 +103,6 @@ by_small : (s : State) (e : Event) → Enabled s e → thread_of e < length s.lo
 by_small s (Begin t c) en = en.0
 by_small s (Go t) en = en.0
 
--- If a seat (the right to call the set) has gathered all threads of the set, it has seen all events of the run.
 no_more : (m : Table) (law : Lawful m) (k : Opening) (v : View) (es rest : List Event) → ((t : ℕ) → t < k.threads → HasThread v t)
     → IsRunOf m k (es ++ rest) → IsQuiet v rest → rest ≡ []
 no_more m law k v es [] all r quiet = refl
@@ -115,8 +114,6 @@ no_more m law k v es (e ∷ rest) all r quiet =
     let en : Enabled s e = subst (λ z. Enabled s z) (event_first es rest e) (r.enabled (length es) (omega arith)) in
     absurd (quiet.0 (all (thread_of e) (subst (λ z. thread_of e < z) laws.locals (by_small s e en))))
 
--- When the set is closed, the seat (the right to call the set) that has all threads knows the words exactly: they are
--- the words after the events that the seat has seen.
 pub closes : (m : Table) (law : Lawful m) (k : Opening) (id : ℕ) (v : View) (ws : List ℕ) (xs : List (Unit {0})) → v.shape ≡ k →
     v.spent ≡ false → length v.others + 1 ≡ k.threads → Final (Seen (Holds m k) id v) ws xs
     → ws ≡ (end_of m k v.seen).words

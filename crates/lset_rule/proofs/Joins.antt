@@ -1,6 +1,6 @@
 -- Proof: splitting and joining seats, and issuing and using receipts, preserve the invariant of the shared words and
--- all seats. A seat is the right to call the set as one thread. A receipt contains the events that a seat has seen, and
--- is used by another seat.
+-- all seats. A seat is a per-thread handle: one thread calls the set through it. A receipt contains the events that a
+-- seat has seen, and is used by another seat.
 use Rattle.std.proofs.Common.{◌≡◌, ◌≢◌, ◌⊎◌, inl, inr, ⊎_elim, ℕ, ◌+◌, ◌<◌, ◌≤◌, ◌==◌, Bool, true, false, cond, List}
 use Rattle.std.proofs.Common.{[], ◌∷◌, ◌++◌, length, set, nat_le, Option, None, refl, sym, ap, ◌∙◌, subst, arith, rules, tests}
 use Rattle.std.proofs.Common.{append-nil, eq-eqb, ne_eqb}
@@ -31,8 +31,6 @@ use Rattle.lset_rule.proofs.ViewsFit.{is_in, set_there, stands_else, stands_stil
 use Rattle.lset_rule.proofs.MovesKeepRule.{M}
 use Rattle.lset_words.specs.Words.{Opening}
 
--- If no thread of view v (a seat's knowledge of the run) executed these events, and v has each thread of view w, then
--- no thread of w executed them. A seat is the right to call the set as one thread.
 quiet_less : (v w : View) → ((t : ℕ) → HasThread w t → HasThread v t) → (es : List Event) → IsQuiet v es → IsQuiet w es
 quiet_less v w less [] q = tt
 quiet_less v w less (e ∷ es) q = (λ h. q.0 (less (thread_of e) h), quiet_less v w less es q.1)
@@ -69,8 +67,7 @@ longer_of log xs ys x y = by_test (nat_le (length xs) (length ys)) refl
     by_test false is = let le : length ys ≤ length xs = search (rules, tests) in
         record { begins = x; first = omega arith; second = le }
 
--- ---- Lemmas about the spare threads of two seats (rights to call the set): idle threads that a seat can still split
--- off
+-- ---- Lemmas about the spare threads of two seats (per-thread handles): idle threads that a seat can still split off
 has_end : (os ps : List SpareThread) (t : ℕ) → HasAside (os ++ ps) t → HasAside os t ⊎ HasAside ps t
 has_end [] ps t h = inr h
 has_end (o ∷ os) ps t h = ⊎_elim (λ e. inl (inl e)) (λ x. ⊎_elim (λ y. inl (inr y)) (λ y. inr y) (has_end os ps t x)) h
@@ -90,8 +87,6 @@ asides_join ends t r (o ∷ os) ps apart a b = (
   asides_join ends t r os ps (λ u h. apart u (inr h)) a.3 b,
 )
 
--- The spare threads of a seat (a right to call the set) stay idle if the seat's record r is replaced by a record r'
--- with the same calls of these threads.
 asides_in : (ends : ℕ → Here) (t t' : ℕ) (r r' : Past) (os : List SpareThread) →
     ((u : ℕ) → HasAside os u → (u ≢ t') × (calls_of u r' ≡ calls_of u r)) → AreIdle ends t r os → AreIdle ends t' r' os
 asides_in ends t t' r r' [] same a = tt
@@ -107,7 +102,6 @@ not_own w t r [] a h = h
 not_own w t r (o ∷ os) a h = ⊎_elim (λ e. a.0 (sym e)) (λ x. not_own w t r os a.3 x) h
 
 module _ (m : Table) where
-  -- If a view (a seat's knowledge of the run) loses threads, it still matches the events.
   fits_less : (k : Opening) (log : List Event) (so so' : ℕ → ℕ) (i j : ℕ) (v w : View) (f : MatchesLog m k log so i v) →
       w.shape ≡ v.shape → w.seen ≡ v.seen → StartsWith log w.ours → StartsWith log w.theirs
       → ((t : ℕ) → HasThread w t → HasThread v t) → Stands m w → ((t : ℕ) → HasThread w t → so' t ≡ j) → MatchesLog m k log so' j w
@@ -127,7 +121,7 @@ module _ (m : Table) where
   fits_seat k log so so' j v same f =
       fits_less k log so so' j j v v f refl refl f.ours f.theirs (λ t h. h) f.stands (λ t h. same t (f.seat t h) h)
 
-  -- ---- Lemmas about splitting a seat (a right to call the set) into two
+  -- ---- Lemmas about splitting a seat (per-thread handle) into two
   module _ (v0 : View) (o : SpareThread) (os : List SpareThread) where
     abbrev V : View
     V = record v0 { spent = false; under = None; past = Fresh v0.thread; others = o ∷ os }
@@ -210,8 +204,6 @@ module _ (m : Table) where
     still_there : (t : ℕ) → HasThread v t → at_end m v.shape to t ≡ at_end m v.shape v.seen t
     still_there t h = ap (λ l. at_end m v.shape l t) more.1 ∙ still_quiet m v.shape v v.seen more.0 t h quiet.0
 
-    -- After a view (a seat's knowledge of the run) has learned of the events `to`, it still matches all events. The two
-    -- lists that the view keeps after a join can be any prefixes of all events.
     sees : (mine theirs : List Event) → StartsWith log mine → StartsWith log theirs →
         MatchesLog m k log so i (record v { seen = to; ours = mine; theirs = theirs })
     sees mine theirs ours other = record {
@@ -251,8 +243,6 @@ module _ (m : Table) where
     abbrev F : Stands m (record v { seen = J.seen })
     F = (sees k log so i v f ran J.seen lo.begins lo.first v.ours v.theirs f.ours f.theirs).stands
 
-    -- View w (a seat's knowledge of the run) is still correct after it has learned of all events that the joined view
-    -- has seen.
     abbrev S : Stands m (record w { seen = J.seen; shape = v.shape })
     S = subst (λ z. Stands m (record w { seen = J.seen; shape = z })) (g.shape ∙ sym f.shape)
         (sees k log so j w g ran J.seen lo.begins lo.second w.ours w.theirs g.ours g.theirs).stands
@@ -317,8 +307,6 @@ module _ (m : Table) where
   other_there s id other v w apart there = ⊎_elim (λ (t : (other ≡ id) × (v ≡ w)). absurd (apart t.0))
       (λ (t : (other ≢ id) × (get_elem? s.views other ≡ some w)). t.1) (at_set s.views id other v w there)
 
-  -- After seat `other` has joined seat `id`, every view (a seat's knowledge of the run) is correct: view `id` has
-  -- changed to v, view `other` is spent, and all other views are unchanged.
   takes_in : (k : Opening) (log : List Event) (so : ℕ → ℕ) (s : St) (id other : ℕ) (v : View) → MatchesLog m k log so id v →
       ((j : ℕ) (x : View) → j ≢ other → j ≢ id → get_elem? s.views j ≡ some x → Fits m k log so j x)
       → (j : ℕ) (x : View) → get_elem? (set (set s.views id v) other nobody) j ≡ some x → Fits m k log so j x

@@ -1,5 +1,5 @@
 -- Proof: the start of a call and each step of a call preserve the invariant of the shared words and all seats. A seat
--- is the right to call the set as one thread.
+-- is a per-thread handle: one thread calls the set through it.
 use Rattle.std.proofs.Common.{◌≡◌, ◌≢◌, inl, inr, ℕ, ◌+◌, ◌<◌, ◌≤◌, false, List, [], ◌∷◌, ◌++◌, length, set, slice_index}
 use Rattle.std.proofs.Common.{slice_set, Option, Some, None, refl, sym, ap, ◌∙◌, subst, arith, append-nil, append_assoc, length-append}
 use mathlib.Core.Option.{some}
@@ -46,8 +46,6 @@ module _ (m : Table) where
       at_end m k log t ≡ at_end m k v.seen t
   still k log so j v f t h = ap (λ l. at_end m k l t) f.is ∙ still_quiet m k v v.seen f.rest t h f.quiet
 
-  -- A view (a seat's knowledge of the run) still matches the events after event e is appended, if a thread of another
-  -- seat executed e.
   pub others_fit : (k : Opening) (log : List Event) (so : ℕ → ℕ) (j : ℕ) (v : View) (e : Event) → ¬ (HasThread v (thread_of e)) →
       MatchesLog m k log so j v → MatchesLog m k (log ++ e ∷ []) so j v
   others_fit k log so j v e other f = record {
@@ -159,8 +157,6 @@ module _ (m : Table) where
       pub is_at : IsAt m v.shape h.log v.thread v.local
       is_at = (record { run = h.ran; thread = small; open_call = busy }, local_stood)
 
-      -- After the seat with view v (its knowledge of the run) has taken the step at the current row of its call, the
-      -- invariant of the shared words and all seats still holds. A seat is the right to call the set as one thread.
       pub steps : let a = m.next v.local in
           let n = slice_index s.words (word_named a) in
           let w = gone_view m h.log (found a n) v in
@@ -223,8 +219,6 @@ module _ (m : Table) where
 abbrev pub M : Type 0
 M = Me (Unit {0}) View
 
--- The step at the current row of a call, whether a load, a store or a compare-and-exchange, preserves the invariant of
--- the shared words and all seats (rights to call the set).
 pub goes_on : (m : Table) (law : Lawful m) (slots id : ℕ) (me : M) (k : Opening) (a : Action) → a ≡ m.next me.0.local →
     me.0.shape ≡ k → IsOpen me.0
     → Allows (Holds m k) slots id me (word_named a) (left a) (λ n me'. Goes m me.0 (found a n) me'.0 × (me'.1 ≡ me.1))
@@ -239,8 +233,7 @@ goes_on m law slots id me k a acts shape is_open = let v : View = me.0 in
       (r.0, refl),
     ))
 
--- The first step of a call preserves the invariant of the shared words and all seats (rights to call the set). The
--- call starts with this step.
+-- The first step of a call preserves the invariant. The call starts with this step.
 pub goes_first : (m : Table) (law : Lawful m) (slots id : ℕ) (me : M) (k : Opening) (c : Call) → target c < tail_word →
     (a : Action) → a ≡ m.next (m.begin c me.0.local) → me.0.shape ≡ k → IsIdle me.0
     → Allows (Holds m k) slots id me (word_named a) (left a) (λ n me'. Starts m c me.0 (found a n) me'.0 × (me'.1 ≡ me.1))
@@ -282,7 +275,7 @@ goes_first m law slots id me k c low a acts shape is_idle = let v : View = me.0 
       ),
     ))
 
--- ---- Lemmas about the state of the own thread of a seat (a right to call the set)
+-- ---- Lemmas about the state of the own thread of a seat (per-thread handle)
 module _ (m : Table) (law : Lawful m) (v : View) (st : Stands m v) where
   own_small : v.thread < v.shape.threads
   own_small = st.in_range v.thread (inl refl)
@@ -308,8 +301,6 @@ module _ (m : Table) (law : Lawful m) (v : View) (st : Stands m v) where
     ap (λ (x : Here). x.local) st.own,
   )
 
-  -- After the start of call c and before its first step, the thread of the seat (the right to call the set as one
-  -- thread) has the registers `m.begin c v.local`.
   pub begun_at : (c : Call) → target c < tail_word → IsIdle v → IsAt m v.shape (v.seen ++ Begin v.thread c ∷ []) v.thread
       (m.begin c v.local)
   begun_at c low is_idle =
@@ -328,7 +319,6 @@ module _ (m : Table) (law : Lawful m) (v : View) (st : Stands m v) where
         is,
       )
 
--- The next step of a thread with a pending call accesses one of the words of the set.
 in_table : (m : Table) → Lawful m → (k : Opening) (es : List Event) (t : ℕ) (l : Local) → IsAt m k es t l →
     word_named (m.next l) < word_count (sizes k)
 in_table m law k es t l at =

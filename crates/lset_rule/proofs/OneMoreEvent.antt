@@ -76,7 +76,6 @@ under_case None false u = refl
 under_case (Some r) true u = refl
 under_case (Some r) false u = refl
 
--- A step of a thread changes its pending call in the way that `under_after` computes.
 pub under_step : (m t : ℕ) (ch : Option Change) (a : Option Reply) (x : LastCall)
     → pending_of (last_after m (stepped t ch a) x) ≡ under_after a (pending_of x)
 under_step m t ch a x = under_case a x.pending (record { call = x.call; begun = x.begun; steps = x.steps })
@@ -254,7 +253,6 @@ run_of_first T k es rest r = record {
       )) (r.enabled j (omega arith));
 }
 
--- The last state of a run has the properties that the list's laws guarantee for each state of a run.
 module _ (T : Table) (law : Lawful T) (k : Opening) (es : List Event) (r : IsRunOf T k es) where
   pub end_laws : StateLaws T.marks (sizes k) (end_of T k es)
   end_laws = law.states k (length es) (length es) (event_at es) r (omega arith)

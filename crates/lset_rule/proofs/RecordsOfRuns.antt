@@ -1,5 +1,5 @@
--- Proofs that compare two lists: the calls of a thread in the record of a seat (the right to call the set as one
--- thread), and the calls that the thread has made in the run.
+-- Proofs that compare two lists: the calls of a thread in the record of a seat (per-thread handle), and the calls that
+-- the thread has made in the run.
 use Rattle.std.proofs.Common.{◌≡◌, ◌≢◌, ◌⊎◌, inl, inr, ℕ, zero, suc, ◌<◌, ◌≤◌, Bool, true, false, if◌then◌else◌, cond, List, [], ◌∷◌}
 use Rattle.std.proofs.Common.{◌++◌, Option, Some, None, refl, sym, ap, ◌∙◌, subst, arith, eq-eqb, ne_eqb, append-nil, append_assoc}
 use Rattle.lset_words.specs.declared.Reply.{Reply}
@@ -111,8 +111,6 @@ none_of_another u (Called' p r c) out =
 none_of_another u (Gathered' p r q g) out = λ i. none_of_another u r (λ h. out (inl h)) i
     ++ none_of_another u g (λ h. out (inr h)) i
 
--- After a step of thread t, the calls of t in its record are its earlier calls and the call that the step ended, if
--- any.
 pub after_calls : (t : ℕ) (r : Past) (a : Option Reply) (u : Option PendingCall) (n : ℕ) → root r ≡ t → calls_of t r
     ++ ending a u n ≡ calls_of t (record_after r a u n)
 after_calls t r (Some x) (Some u) n is = ap (λ b. calls_of t r ++ cond b (own u x n ∷ []) []) (sym (eq-eqb t (root r) (sym is)))

@@ -1,5 +1,4 @@
--- Proof: when a set has been opened, the invariant of the shared words and all seats (rights to call the set as one
--- thread) holds.
+-- Proof: when a set has been opened, the invariant of the shared words and all seats (per-thread handles) holds.
 use Rattle.std.proofs.Common.{◌≡◌, ◌≢◌, inl, inr, ⊎_elim, ℕ, zero, suc, ◌+◌, ◌-◌, ◌<◌, ◌≤◌, List, [], ◌∷◌, length, None}
 use Rattle.std.proofs.Common.{refl, sym, ap, ◌∙◌, subst, arith}
 use mathlib.Core.Option.{some, some-injective, some-ne-none}
@@ -22,8 +21,8 @@ use Rattle.lset_rule.specs.Runs.{here, at_end, IsRunOf, StartsWith}
 use Rattle.lset_rule.specs.Rule.{Holds, MatchesLog, opener, asides_from, left_view, right_view}
 use Rattle.lset_rule.specs.Views.{Stands, HasThread, HasAside, AreIdle, IsIdle}
 
--- Returns the view of a new seat (its knowledge of the run). The seat (a right to call the set) was just split off for
--- thread t, and has not called yet.
+-- Returns the view of a new seat (its knowledge of the run). The seat (per-thread handle) was just split off for thread
+-- t, and has not called yet.
 abbrev pub fresh : Opening → ℕ → View
 fresh k t = record (opener k) { thread = t; local = idle k.quota t; others = []; past = Fresh t }
 
@@ -31,8 +30,7 @@ fresh k t = record (opener k) { thread = t; local = idle k.quota t; others = [];
 abbrev pub spare : Opening → ℕ → View
 spare k t = record (opener k) { others = asides_from k t (k.threads - 1 - t) }
 
--- Holds if s is a new seat (the right to call the set as one thread) that was just split off for thread t. The seat has
--- not called yet.
+-- Holds if s is a new seat (per-thread handle) that was just split off for thread t. The seat has not called yet.
 abbrev pub IsNew : TableId → Opening → ℕ → Seat (Unit {0}) View → Type 0
 IsNew z k t s = (s.table_id ≡ z) × (s.me ≡ (fresh k t, []))
 
@@ -144,7 +142,6 @@ spare_all k =
     let e : k.threads - 1 ≡ k.threads - 1 - 0 = omega arith in
     ap (λ n. record (opener k) { others = asides_from k 0 n }) e
 
--- A new seat has no pending call, its view (its knowledge of the run) is correct, and it has one thread.
 pub new_seat : (m : Table) (k : Opening) (t : ℕ) (me : T.Me (Unit {0}) View) → Opens k → t < k.threads → me ≡ (fresh k t, []) →
     (slots : OwnSlots) → slots ≡ slots_of (idle k.quota t)
     → IsIdle me.0 × Stands m me.0 × (slots ≡ slots_of me.0.local) × (1 ≡ length me.0.others + 1) × (me.1 ≡ [])

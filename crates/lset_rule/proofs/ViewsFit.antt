@@ -1,6 +1,5 @@
 -- Lemmas about the list of all seats' views when a view changes or is added: the facts about each view that remain
--- true, and the view of each thread. A seat is the right to call the set as one thread; its view is its knowledge of
--- the run.
+-- true, and the view of each thread. A seat is a per-thread handle to the set; its view is its knowledge of the run.
 use Rattle.std.proofs.Common.{◌≡◌, ◌≢◌, ⊎_elim, ℕ, zero, suc, ◌<◌, true, false, List, [], ◌∷◌, ◌++◌, length, set, refl, sym, ap, ◌∙◌, subst}
 use Rattle.std.proofs.lemmas.Bool.{false≢true}
 use mathlib.Core.Option.{some, some-injective, some-ne-none}
@@ -88,8 +87,6 @@ St = table.State (Unit {0}) View
 pub each_fits : (m : Table) (k : Opening) (s : St) (h : Holds m k s) → Each (Fits m k h.log h.seat_of) s.views
 each_fits m k s h j x is = (h.each j x is, h.known j x is)
 
--- The invariant of the shared words and all seats holds if the words are those at the end of a run, and the view of
--- each seat (its knowledge of the run) satisfies `Fits`.
 abbrev pub holding : (m : Table) (k : Opening) (s : St) (log : List Event) → IsRunOf m k log → s.words ≡ (end_of m k log).words →
     (so : ℕ → ℕ) → Each (Fits m k log so) s.views → ((t : ℕ) → t < k.threads → StandsIn s.views (so t) t) → Holds m k s
 holding m k s log ran words so all placed = record {

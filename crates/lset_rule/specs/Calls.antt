@@ -1,5 +1,5 @@
--- The steps of a call: how each step, and a whole call, changes the view of the caller's seat. A seat is the right to
--- call as one thread; its view is its knowledge of the run.
+-- The steps of a call: how each step, and a whole call, changes the view of the caller's seat. A seat is a per-thread
+-- handle to the set; its view is its knowledge of the run.
 use Rattle.std.specs.Prelude.{◌≡◌, ℕ, ◌+◌, List, [], ◌∷◌, ◌++◌, length, Option, Some, None}
 use Rattle.atomic_table.specs.Table.{Me, Step}
 use Rattle.lset_words.specs.declared.Call.{Call}
@@ -42,23 +42,22 @@ gone_view m log n v = let f = m.feed v.local n in record v {
   seen = log ++ Go v.thread ∷ [];
 }
 
--- How a step that sees the value n changes the view of its seat (its knowledge of the run) from v to w. Some `log` has
--- all events before the step, and starts with the events that v had seen. The view w has seen these events and the
--- step. By `Sees`, a thread with these registers sees n next in some run, as `feed` requires.
+-- Describes how a step that sees the value n changes the view of its seat (its knowledge of the run) from v to w. Some
+-- `log` has all events before the step, and starts with the events that v had seen. The view w has seen these events
+-- and the step. By `Sees`, a thread with these registers sees n next in some run, as `feed` requires.
 abbrev pub Goes : Table → View → ℕ → View → Type 0
 Goes m v n w = (log : List Event) × (on : StartsWith log v.seen) × Sees m v.local n × (w ≡ gone_view m log n v) × Stands m w
     × (seen_next m (end_of m v.shape log) v.thread ≡ n)
 
--- The first step of call c sees the value n, and changes the view of its seat (its knowledge of the run) from v to w.
--- The call starts just before this step.
+-- Describes how the first step of call c, which sees the value n, changes the view of its seat (its knowledge of the
+-- run) from v to w. The call starts just before this step.
 abbrev pub Starts : Table → Call → View → ℕ → View → Type 0
 Starts m c v n w = (log : List Event) × (on : StartsWith log v.seen) × Sees m (m.begin c v.local) n
     × (let b = begun_view m log c v in w ≡ gone_view m b.seen n b) × Stands m w
     × (let b = begun_view m log c v in seen_next m (end_of m v.shape b.seen) v.thread ≡ n)
 
 -- `onward` and `starting` are `Goes` and `Starts` in the form that the crate `atomic_table` requires for an access to
--- the shared words. In addition, the access does not change which cells of the table the seat (the right to call the
--- set) owns.
+-- the shared words. In addition, the access does not change which cells of the table the seat (per-thread handle) owns.
 abbrev pub onward : Table → Step (Unit {0}) → Me (Unit {0}) View → ℕ → Me (Unit {0}) View → Type 0
 onward m st me n me' = Goes m me.0 n me'.0 × (me'.1 ≡ me.1)
 

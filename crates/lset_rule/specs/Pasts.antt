@@ -1,5 +1,5 @@
--- The record of a seat (the right to call the set as one thread): its completed calls, and the records of the seats
--- that were merged into it, oldest first.
+-- The record of a seat (per-thread handle): its completed calls, and the records of the seats that were merged into it,
+-- oldest first.
 use Rattle.std.specs.Prelude.{◌≡◌, ℕ, ◌⊎◌, ◌<◌, ◌==◌, List, [], ◌∷◌, ◌++◌, cond}
 use denote.Bor.{Bor}
 use Rattle.lset_rule.specs.declared.view.OwnCall.{OwnCall}
@@ -11,8 +11,8 @@ nowhere = record { now = tt; ref_ptr = (0, 0) }
 abbrev pub called : Past → OwnCall → Past
 called r c = Called' nowhere r c
 
--- Returns the record of a seat (a right to call the set) after a merge: r was its record, and g the record of the seat
--- that is merged into it.
+-- Returns the record of a seat (per-thread handle) after a merge: r was its record, and g the record of the seat that
+-- is merged into it.
 abbrev pub gathered : Past → Past → Past
 gathered r g = Gathered' nowhere r nowhere g
 
@@ -48,7 +48,7 @@ InOrder (Fresh t) = Unit {0}
 InOrder (Called' p r c) = InOrder r × GatheredBefore c.begun r
 InOrder (Gathered' p r q g) = InOrder r × InOrder g
 
--- The record belongs to thread u, or a record of thread u was merged into it.
+-- Holds if the record belongs to thread u, or a record of thread u was merged into it.
 abbrev pub IsIn : ℕ → Past → Type 0
 IsIn u (Fresh t) = u ≡ t
 IsIn u (Called' p r c) = IsIn u r

@@ -1,8 +1,8 @@
 -- The invariant of a list on shared words (the code calls it the rule). It holds between any two steps: some list of
 -- events is a run that ends with the words in memory, and the view of each seat (its knowledge of the run) matches
--- these events. A seat is the right to call the set as one thread. A receipt contains the events that a seat has seen,
--- and is used by another seat. The definitions after `Holds` are the views after actions that are not events: opening a
--- set, splitting and joining seats, and issuing and using receipts.
+-- these events. A seat is a per-thread handle: one thread calls the set through it. A receipt contains the events that
+-- a seat has seen, and is used by another seat. The definitions after `Holds` are the views after actions that are not
+-- events: opening a set, splitting and joining seats, and issuing and using receipts.
 use Rattle.std.specs.Prelude.{◌≡◌, ℕ, zero, suc, ◌+◌, ◌-◌, ◌<◌, ◌≤◌, true, false, List, [], ◌∷◌, ◌++◌, length, None, cond, nat_le}
 use mathlib.Core.Option.{some}
 use lib.ListN.{get_elem?}
@@ -54,8 +54,8 @@ pub record Holds (m : Table) (k : Opening) (s : table.State (Unit {0}) View) : T
   pub placed : (t : ℕ) → t < k.threads → StandsIn s.views (seat_of t) t
   pub known : (j : ℕ) (v : View) → get_elem? s.views j ≡ some v → StartsWith log v.seen
 
--- Returns the spare threads of the first seat: n idle threads, numbered from t. The first seat (the right to call the
--- set) has all threads of the set: it calls as the last thread, and all other threads are spare.
+-- Returns the spare threads of the first seat: n idle threads, numbered from t. The first seat (per-thread handle) has
+-- all threads of the set: it calls as the last thread, and all other threads are spare.
 abbrev pub asides_from : Opening → ℕ → ℕ → List SpareThread
 asides_from k t zero = []
 asides_from k t (suc n) = record { thread = t; local = idle k.quota t } ∷ asides_from k (t + 1) n
@@ -74,9 +74,9 @@ opener k = record {
   theirs = [];
 }
 
--- The views of two seats (their knowledge of the run) after a split. The old seat loses its first spare thread. The
--- new seat calls as this thread, has an empty record, and has seen the same events as the old seat. A seat is the
--- right to call the set as one thread.
+-- `left_view` and `right_view` return the views of two seats (their knowledge of the run) after a split: the view of the
+-- old seat and the view of the new seat. The old seat loses its first spare thread. The new seat calls as this thread,
+-- has an empty record, and has seen the same events as the old seat.
 abbrev head_aside : View → List SpareThread → View
 head_aside v [] = record v { spent = true }
 head_aside v (o ∷ os) = record v {
@@ -99,15 +99,16 @@ left_view v = record v { others = tail_asides v.others }
 abbrev pub right_view : View → View
 right_view v = head_aside v v.others
 
--- The views of two seats (their knowledge of the run) after they are joined. The first seat also gets the threads and
--- the record of the second seat. The first seat has then seen the longer of the two lists of events, and keeps both
--- lists until its next load. The view of the second seat is spent.
+-- Returns the longer of two lists of events.
 abbrev pub longer : List Event → List Event → List Event
 longer xs ys = cond (nat_le (length xs) (length ys)) ys xs
 
 abbrev pub aside : View → SpareThread
 aside w = record { thread = w.thread; local = w.local }
 
+-- Returns the view of a seat (its knowledge of the run) after another seat has joined it. The seat gets the threads and
+-- the record of the other seat. It has then seen the longer of the two lists of events, and keeps both lists until its
+-- next load. The view of the other seat is spent.
 abbrev pub joined : View → View → View
 joined v w = record v {
   others = v.others ++ aside w ∷ w.others;
@@ -120,13 +121,14 @@ joined v w = record v {
 abbrev pub nobody : View
 nobody = record (opener (record { threads = 0; quota = 0; keys = [] })) { spent = true }
 
--- The view of a new receipt (its knowledge of the run). It has no threads, and has seen the same events as the seat
--- (the right to call the set) that issued the receipt. The view of this seat does not change.
+-- Returns the view of a new receipt (its knowledge of the run). It has no threads, and has seen the same events as the
+-- seat that issued the receipt. The view of the seat does not change.
 abbrev pub without_thread : View → View
 without_thread v = record v { spent = true }
 
--- The view of a seat (its knowledge of the run) after the seat uses a receipt. The seat has then seen the longer of the
--- two lists of events (its own and the receipt's), and keeps both lists until its next load. The receipt is spent.
+-- Returns the view of a seat (its knowledge of the run) after the seat uses a receipt. The seat has then seen the
+-- longer of the two lists of events (its own and the receipt's), and keeps both lists until its next load. The receipt
+-- is spent.
 abbrev pub informed : View → View → View
 informed v w = record v {
   seen = longer v.seen w.seen;
@@ -134,8 +136,8 @@ informed v w = record v {
   theirs = w.seen;
 }
 
--- The effect of the first load after a seat (a right to call the set) joins another seat or uses a receipt. The load
--- shows that both lists kept by the seat are prefixes of the events that it has seen. The seat then drops both lists.
+-- Describes the effect of the first load after a seat joins another seat or uses a receipt. The load shows that both
+-- lists kept by the seat are prefixes of the events that it has seen. The seat then drops both lists.
 abbrev pub learned : Table → Step (Unit {0}) → Me (Unit {0}) View → ℕ → Me (Unit {0}) View → Type 0
 learned m st me n me' =
     (me'.0 ≡ record me.0 { ours = []; theirs = [] }) × Stands m me'.0

@@ -1,6 +1,6 @@
--- The conditions on a single view, whatever the shared words and the other seats are. The view of a seat (the right to
--- call as one thread) is its knowledge of the run: the events that the seat has seen, and the state of each of its
--- threads after these events.
+-- The conditions on a single view, whatever the shared words and the other seats are. The view of a seat (per-thread
+-- handle) is its knowledge of the run: the events that the seat has seen, and the state of each of its threads after
+-- these events.
 use Rattle.std.specs.Prelude.{◌≡◌, ◌≢◌, ◌⊎◌, ℕ, ◌+◌, ◌<◌, false, List, [], ◌∷◌, length, Option, Some, None}
 use Rattle.lset_rule.specs.declared.view.PendingCall.{PendingCall}
 use Rattle.lset_rule.specs.declared.view.SpareThread.{SpareThread}
@@ -19,8 +19,8 @@ HasAside (o ∷ os) t = (t ≡ o.thread) ⊎ HasAside os t
 abbrev pub HasThread : View → ℕ → Type 0
 HasThread v t = (t ≡ v.thread) ⊎ HasAside v.others t
 
--- The spare threads of a seat (a right to call the set) are idle, distinct and different from t. The record r contains
--- exactly the calls that each of them has completed. `ends` returns the state of a thread.
+-- Holds if the spare threads of a seat (per-thread handle) are idle, distinct and different from t. The record r
+-- contains exactly the calls that each of them has completed. `ends` returns the state of a thread.
 abbrev pub AreIdle : (ℕ → Here) → ℕ → Past → List SpareThread → Type 0
 AreIdle ends t r [] = Unit {0}
 AreIdle ends t r (o ∷ os) = (o.thread ≢ t) × (ends o.thread ≡ here o.local None (calls_of o.thread r))
@@ -42,7 +42,7 @@ pub record Stands (m : Table) (v : View) : Type 0 where
   pub others : AreIdle (at_end m v.shape v.seen) v.thread v.past v.others
   pub in_range : (t : ℕ) → HasThread v t → t < v.shape.threads
   -- The record of calls belongs to the seat's own thread. This record and those merged into it belong to different
-  -- threads, and the seat (a right to call the set) has all these threads.
+  -- threads, and the seat has all these threads.
   pub of_thread : root v.past ≡ v.thread
   pub apart : Apart v.past
   pub named : (u : ℕ) → IsIn u v.past → HasThread v u

@@ -31,10 +31,10 @@ macro_rules! ends_or_pauses {
 
 /// Executes a whole call step by step, in at most `N::MOST` rounds of four steps each.
 ///
-/// `place` is an idle seat (the right to call the set as one thread) on the words `table`. `slots` are the thread's
-/// slots (nodes for keys that it adds), as its last call returned them. After each step that does not end the call, the
-/// interpreter calls `pause.failed` if the step has failed, and `pause.moved` otherwise. It also calls `pause.moved`
-/// when the call gets a lock that it has waited for. It never calls `pause.taken`.
+/// `place` is an idle seat (per-thread handle) on the words `table`. `slots` are the thread's slots (nodes for keys
+/// that it adds), as its last call returned them. After each step that does not end the call, the interpreter calls
+/// `pause.failed` if the step has failed, and `pause.moved` otherwise. It also calls `pause.moved` when the call gets a
+/// lock that it has waited for. It never calls `pause.taken`.
 ///
 /// Returns the thread's slots after the call, and the reply. The call started after all events that the seat had seen,
 /// and has been added to the seat's record. Returns `None` if the call has not ended after these rounds. The call is
@@ -75,8 +75,8 @@ pub fn interpret_within<M: Machine, P: Pause, N: Rounds>(
 /// Executes a whole `contains` of `key` step by step, without blocking. `M` is a list that marks nodes before it
 /// unlinks them. Therefore its walk reaches each node at most once (`OpenReads`).
 ///
-/// `place` is an idle seat (the right to call the set as one thread) on the words `table`, and `slots` are the thread's
-/// slots, as the thread's last call returned them. Returns the thread's slots after the call, and the reply.
+/// `place` is an idle seat (per-thread handle) on the words `table`, and `slots` are the thread's slots, as the
+/// thread's last call returned them. Returns the thread's slots after the call, and the reply.
 pub fn interpret_read<M: OpenReads>(
     table: &Words<M>,
     place: &mut TableSeat,

@@ -4,7 +4,7 @@ use crossbeam_utils::Backoff;
 use std::cell::Cell;
 
 /// The code that a call runs between two of its steps. No contract depends on this code: it cannot access the shared
-/// words or the seat (the right to call the set as one thread), and affects only how long a call lasts.
+/// words or the seat (per-thread handle), and affects only how long a call lasts.
 ///
 /// Each outcome of a step has its own function, because the compiled code reads a byte after each call of a function
 /// that can yield the processor. If only `failed` can yield, no byte is read after other steps.

@@ -63,9 +63,9 @@ fn other_step<M: Machine, const SITE: u8>(
 
 /// Executes the next step of a call, with code that is compiled for the call's row of the step table.
 ///
-/// `place` is a seat (the right to call the set as one thread) on the words `table`, with a pending call. `local` is
-/// the state of its thread. Each call site passes its own number `SITE`. Each row of the five lists' step tables has a
-/// match arm. A row of another table can be without a match arm; its step is then slower.
+/// `place` is a seat (per-thread handle) on the words `table`, with a pending call. `local` is the state of its thread.
+/// Each call site passes its own number `SITE`. Each row of the five lists' step tables has a match arm. A row of
+/// another table can be without a match arm; its step is then slower.
 #[inline(always)]
 pub(crate) fn one_step<M: Machine, const SITE: u8>(
     table: &Words<M>,

@@ -1,6 +1,6 @@
 //! The invariant of the shared words and all seats, and how each action changes a view (a seat's knowledge of the run).
-//! A seat is the right to call the set as one thread. A receipt contains the events that one seat has seen, for another
-//! seat.
+//! A seat is a per-thread handle: one thread calls the set through it. A receipt contains the events that one seat has
+//! seen, for another seat.
 ghost use Rattle.lset_words.specs.declared.Call.{Call};
 ghost use Rattle.lset_words.specs.declared.Call.TheVariants.{Contains};
 ghost use Rattle.lset_rule.specs.Rule.{Holds, opener, left_view, right_view, joined, nobody, learned, without_thread, informed};
@@ -95,8 +95,8 @@ impl Join<View> for TakeReceipt {
     ghost spent = { nobody };
 }
 
-/// How the first load of a seat after a merge (or after it uses a receipt) changes the seat's view (its knowledge of
-/// the run). The load shows that the seat has seen both lists of events: its own, and that of the other seat or the
+/// How the first load of a seat changes the seat's view (its knowledge of the run) after a merge or after it uses a
+/// receipt. The load shows that the seat has seen both lists of events: its own, and that of the other seat or the
 /// receipt.
 pub struct Learn<M> {
     machine: PhantomData<M>,

@@ -1,5 +1,5 @@
-//! The view of a seat: its knowledge of the run, as data for contracts. (A seat is the right to call the set as one
-//! thread.) No views exist at run time.
+//! The view of a seat: its knowledge of the run, as data for contracts. (A seat is a thread's handle to the set.) No
+//! views exist at run time.
 ghost use Rattle.std.specs.Prelude.{◌≡◌};
 ghost use Rattle.lset_words.specs.Words.{Opening};
 
@@ -37,7 +37,7 @@ impl Opened {
     }
 }
 
-/// A completed call in the record of a seat (the right to call the set as one thread).
+/// A completed call in the record of a seat (per-thread handle).
 pub struct OwnCall {
     pub call: Call,
     pub reply: Reply,
@@ -56,15 +56,15 @@ pub struct PendingCall {
     pub steps: u64,
 }
 
-/// The record of a seat (the right to call the set as one thread): its completed calls, and the records of the seats
-/// merged into it (gathered), oldest first.
+/// The record of a seat (per-thread handle): its completed calls, and the records of the seats merged into it
+/// (gathered), oldest first.
 pub enum Past {
     /// The record of the thread with this number, which has completed no calls yet.
     Fresh(u32),
     /// An earlier record of a seat, and the call that the seat's own thread completed next.
     Called(&'static Past, OwnCall),
-    /// An earlier record of a seat (the right to call the set as one thread), and the record of another seat that was
-    /// then merged into this seat.
+    /// An earlier record of a seat (per-thread handle), and the record of another seat that was then merged into this
+    /// seat.
     Gathered(&'static Past, &'static Past),
 }
 
@@ -74,7 +74,7 @@ pub struct SpareThread {
     pub local: Local,
 }
 
-/// A view: the knowledge of a seat (the right to call the set as one thread) about the run.
+/// A view: the knowledge of a seat (per-thread handle) about the run.
 pub struct View {
     /// Whether the view has no threads, because its seat was merged into another seat or the view belongs to a receipt.
     /// The invariant then states only which events the view has seen.

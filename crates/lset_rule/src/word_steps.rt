@@ -13,8 +13,8 @@ use atomic_table::{Seat, Shared};
 use lset_steps::{Action, Machine};
 use lset_words::Call;
 
-/// A seat on the shared words: the right to call the set as one thread. A seat is a zero-sized token; its view (its
-/// knowledge of the run) exists only in contracts.
+/// A seat on the shared words: a per-thread handle to the set. A seat is a zero-sized token; its view (its knowledge of
+/// the run) exists only in contracts.
 pub type TableSeat = Seat<(), View>;
 
 /// The shared words of a set with the list `M`: the locks, the counts, and the keys and links of the nodes.
@@ -22,10 +22,10 @@ pub type Words<M> = Shared<(), View, Opened, Follows<M>>;
 
 /// Executes a step of a pending call, other than its first step.
 ///
-/// `place` is a seat (the right to call the set as one thread) on the words `table` with a pending call. `action` is
-/// the action that the step table has at the call's current row. Returns the value to pass to the table's `feed`: the
-/// value that was loaded or stored, or the value that a compare-and-exchange found. (An exchange has succeeded if and
-/// only if it found the expected value.) After the step, the seat has seen all events up to this step.
+/// `place` is a seat (per-thread handle) on the words `table` with a pending call. `action` is the action that the step
+/// table has at the call's current row. Returns the value to pass to the table's `feed`: the value that was loaded or
+/// stored, or the value that a compare-and-exchange found. (An exchange has succeeded if and only if it found the
+/// expected value.) After the step, the seat has seen all events up to this step.
 #[inline(always)]
 pub fn step_on<M: Machine>(table: &Words<M>, place: &mut TableSeat, action: Action) -> u64
     requires place { IsOf table.now.table_id table.now.key place.old }
@@ -49,10 +49,9 @@ pub fn step_on<M: Machine>(table: &Words<M>, place: &mut TableSeat, action: Acti
 
 /// Starts a call and executes its first step. The call starts after all events that the seat had seen.
 ///
-/// `place` is an idle seat (the right to call the set as one thread) on the words `table`. The key of `call` must be
-/// smaller than the key of the tail. `action` is the action that the step table has at the call's first row. Returns
-/// the value to pass to the table's `feed`: the value that was loaded or stored, or the value that a
-/// compare-and-exchange found.
+/// `place` is an idle seat (per-thread handle) on the words `table`. The key of `call` must be smaller than the key of
+/// the tail. `action` is the action that the step table has at the call's first row. Returns the value to pass to the
+/// table's `feed`: the value that was loaded or stored, or the value that a compare-and-exchange found.
 #[inline(always)]
 pub fn start_on<M: Machine, J: Asking>(
     table: &Words<M>,
