@@ -52,8 +52,6 @@ pub record HasText {L : Type 0} (text : EventLines L) (v : Version) (Good : L �
   pub lines : AllByRecursion Good s.lines
   pub few : sum_by text.count s.lines ≤ MOST_EVENTS
 
--- Assumptions about the patterns of event lines: the patterns match exactly the lines of good values, and no such line
--- has the pattern of an opening key.
 module _ {L : Type 0} (text : EventLines L) (v : Version) (title : List ℕ) (pieces : L → List (List ℕ)) (Good : L → Type 0)
     (known : AllByRecursion (Knows v pieces Good) text.kinds) (makes : (l : L) → Good l → IsMade v pieces text.kinds l)
     (apart : (l : L) → Good l → have_form v opening_form (pieces l) ≡ false) where
@@ -219,7 +217,6 @@ module _ {L : Type 0} (text : EventLines L) (v : Version) (title : List ℕ) (pi
     few = omega arith;
   }
 
-  -- If reading a text returns the content t, the text is the text of t, and t is within the limits.
   pub body_found : (bytes : List ℕ) (t : BodyValue L) → text_from (texts text v title) (cut_at 10 bytes) ≡ Ok t
       → HasText text v Good t × (bytes ≡ text_of (text_lines t))
   body_found bytes t is =
@@ -227,7 +224,6 @@ module _ {L : Type 0} (text : EventLines L) (v : Version) (title : List ℕ) (pi
       (λ s u x has e. (line_adds s u x has e).0) (λ s u e. ok_is s u e) bytes t is in
       (found.2, found.0)
 
-  -- If the content t is within the limits, reading the text of t returns t.
   pub body_again : (t : BodyValue L) → Lacks 10 title → HasText text v Good t
       → (cut_at 10 (text_of (text_lines t)) ≡ header_lines title t.header ++ (body_lines t ++ [] ∷ []))
       × (text_from (texts text v title) (header_lines title t.header ++ (body_lines t ++ [] ∷ [])) ≡ Ok t)

@@ -27,8 +27,6 @@ number_told : {L : Type 0} (o : Option ℕ) → (let word : Option (Unit {0}) = 
 number_told None = refl
 number_told (Some n) = refl
 
--- In version 2, a line before the first event line can be an opening key. It is read as an opening key if it has this
--- pattern, else as an event line.
 pub key_told : {L K : Type 0} (text : EventLines L) (ls : List L) (line : List ℕ) (now : K → List ℕ) (o : Option K) → ls ≡ []
     → MatchOption o (have_form Two opening_form (cut_at 32 line) ≡ false) (λ key. cut_at 32 line ≡ codes "opening" ∷ now key ∷ [])
     → MatchOption o (line_in Two Event (kinds_after text Two ls) line ≡ made event (line_in Two Event text.kinds line))
@@ -36,8 +34,6 @@ pub key_told : {L K : Type 0} (text : EventLines L) (ls : List L) (line : List �
 key_told text ls line now None none other = rw (none, other) (first_as event Two Event text.kinds (cut_at 32 line))
 key_told text ls line now (Some key) none is = rw (none, is) (number_told (number_in 0 max_number (now key)))
 
--- In version 1, each line is read as an event line. In version 2, each line after the first event line is read as an
--- event line.
 pub not_due : {L : Type 0} (text : EventLines L) (v : Version) (ls : List L) (line : List ℕ) → (v ≡ Two → ls ≡ [] → ⊥)
     → line_in v Event (kinds_after text v ls) line ≡ made event (line_in v Event text.kinds line)
 not_due text One ls line not = first_as event One Event text.kinds (cut_at 32 line)

@@ -96,8 +96,6 @@ draft_opening T s calls keys h none = record {
 pub goes_on : (s : State) (events m left : ℕ) → events ≡ m → (IsTrue false ↔ IsOver s events left) → IsOver s m left → ⊥
 goes_on s events m left e test over = let f : IsTrue false = test.1 (subst (λ k. IsOver s k left) (sym e) over) in cc
 
--- If a turn has no event and the schedule has not ended, some thread has a pending call. (A turn draws at most one
--- event.)
 idle_with_others : (s : State) (n left t m : ℕ) → length s.locals ≡ n → (IsOver s m left → ⊥) → IsIdle s t left
     → Resting s n → ⊥
 idle_with_others s n left t m len more h rest = more (inr (h.1, λ u lt. rest u (omega arith)))

@@ -56,7 +56,6 @@ event_made v (Begin t c) is =
 event_made v (Go t n) is =
     inr (refl, inl ((tt, (t, (n, tt))), refl, (tt, ((omega arith, omega (arith, is.0)), ((is.1, is.2), tt)))))
 
--- No event line has the pattern of an opening key.
 pub no_opening : (v : Version) (l : Line) → IsLine v l → have_form v opening_form (pieces_of l) ≡ false
 no_opening v (Begin t c) is = refl
 no_opening v (Go t n) is = refl
@@ -91,7 +90,6 @@ is_memory : (c : Cause) → (c ≢ Memory → ⊥) → c ≡ Memory
 is_memory Memory h = refl
 is_memory c h = absurd (h (λ e. cc))
 
--- If a text can be read as a schedule, a function that reads it returns this schedule or fails to allocate.
 pub gives_ok : {X Y : Type 0} (view : X → Y) (r : Result X LineFault) (y : Y) → Gives view r (Ok y)
     → MatchResult r (λ x. view x ≡ y) (λ e. e.cause ≡ Memory)
 gives_ok view (Ok x) y gives = sym (ok_is y (view x) gives)

@@ -127,7 +127,7 @@ pub fn read_schedule(alloc: Global, bytes: &[u8]) -> Result<Schedule, ScheduleFa
 }
 
 /// Lemma: reading inverts writing. A text that can be read as a schedule is the text of this schedule, and the text of
-/// every schedule can be read. The function does nothing.
+/// every schedule can be read.
 pub fn schedules_read_back()
     ensures { SchedulesReadBack }
 {}

@@ -18,7 +18,6 @@ progress s left lines answers = record { state = s; left = left; lines = lines; 
 is_end : (s : State) (events m left : ℕ) → events ≡ m → (IsTrue true ↔ IsOver s events left) → IsOver s m left
 is_end s events m left e test = subst (λ k. IsOver s k left) e (test.0 refl)
 
--- The state after a turn is the state that `progressed` defines, whether or not the turn had an event.
 made_event : (T : Table) (p : Progress) (e : Event) (made : Option Event) (s : State) (left : ℕ) (lines : List Line)
     (answers : Stream) → made ≡ Some e → s ≡ after T p.state e → left ≡ left_after p.left e
     → lines ≡ p.lines ++ line_of_event e ∷ [] → progress s left lines answers ≡ progressed T p made answers
