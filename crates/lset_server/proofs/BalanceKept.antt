@@ -1,5 +1,5 @@
--- Proof: sending, receiving, splitting a pass (a right to use the channel) and joining passes preserve the invariant of
--- the channel.
+-- Proof: sending, receiving, splitting a pass (permission to use the channel) and joining passes preserve the invariant
+-- of the channel.
 use Rattle.std.proofs.Common.{◌≡◌, ◌≢◌, ℕ, zero, suc, ◌+◌, ◌-◌, ◌<◌, ◌≤◌, List, [], ◌∷◌, ◌++◌, set, sym, refl, ap, ◌∙◌, subst}
 use Rattle.std.proofs.Common.{⊎_elim, arith}
 use Rattle.std.proofs.lemmas.List.{append-nil}
@@ -20,8 +20,6 @@ pub weigh-append : (h : ℕ → ℕ) (xs ys : List ℕ) → weigh h (xs ++ ys) �
 weigh-append h [] ys = omega arith
 weigh-append h (x ∷ xs) ys = omega (arith, weigh-append h xs ys)
 
--- If the tally of one pass (a right to use the channel) changes from v to w, the sum of f over all tallies changes by f
--- w - f v.
 total_set : (f : Tally → ℕ) (views : List Tally) (port : ℕ) (v w : Tally) → get_elem? views port ≡ some v →
     total f (set views port w) + f v ≡ total f views + f w
 total_set f [] port v w at = absurd (some-ne-none v (sym at))
@@ -110,8 +108,6 @@ merges port v other u some_part items views b at two at' =
           b.2),
     )
 
--- If every pass (a right to use the channel) has 0 parts, and f is 0 for each pass with 0 parts, then the sum of f over
--- all passes is 0.
 no_parts : (f : Tally → ℕ) (views : List Tally) → ((j : ℕ) (u : Tally) → get_elem? views j ≡ some u → u.parts ≡ 0 → f u ≡ 0) →
     total (λ u. u.parts) views ≡ 0 → total f views ≡ 0
 no_parts f [] h none = refl

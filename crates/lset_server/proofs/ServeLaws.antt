@@ -39,8 +39,6 @@ length-numbers : (n : ℕ) → length (numbers_below n) ≡ n
 length-numbers zero = refl
 length-numbers (suc n) = omega (arith, length-append (numbers_below n) (n ∷ []), length-numbers n)
 
--- If a part is split off the sender's pass (a right to use the channel) after n other parts, the pass has the tally
--- for m = n + 1 split parts.
 pub part_more : (v u u' : Tally) (n m : ℕ) → u ≡ tally (v.parts - n) v.sent v.received →
     u' ≡ tally (u.parts - 1) u.sent u.received → m ≡ n + 1
     → u' ≡ tally (v.parts - m) v.sent v.received
@@ -136,8 +134,6 @@ bound_next' s d most n n' total h e small =
 pub as_many : {H T : Type 0} (seat_of : H → T) (hs : List H) (ss : List T) → map seat_of hs ≡ ss → length hs ≡ length ss
 as_many seat_of hs ss e = sym (length-map hs seat_of) ∙ ap (λ l. length l) e
 
--- After all workers have been joined, the sender's pass (a right to use the channel) has all its parts again, and its
--- tally lists the numbers of all connections that were sent.
 pub whole_again : (n many : ℕ) (v u x y : Tally) (received : List ℕ) (k : ℕ) → v ≡ tally PARTS [] [] → n ≤ MOST_THREADS →
     u ≡ tally (v.parts - n) v.sent v.received
     → x ≡ tally u.parts (u.sent ++ numbers_below many) u.received → k ≡ n →
@@ -187,7 +183,6 @@ times-below (suc n) m lt =
     below : (n ≢ m) → m < n
     below other = omega (arith, lt, other)
 
--- If as many connections were received as were sent, each connection was received exactly once.
 pub received_once : (n : ℕ) (v : Tally) (received left : List ℕ) → v ≡ tally PARTS (numbers_below n) received →
     n ≡ length received
     → ((h : ℕ → ℕ) → weigh h v.sent ≡ weigh h v.received + weigh h left) → ReceivedOnce n v

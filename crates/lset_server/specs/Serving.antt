@@ -1,4 +1,4 @@
--- [Served]: the calls of a server that has ended. The server calls from seats: rights to call the set as one thread.
+-- [Served]: the calls of a server that has ended. The server calls from seats, which are per-thread handles to the set.
 use Rattle.std.specs.Prelude.{◌≡◌, ℕ, List, [], ◌∷◌, length, sum_by, Option, None}
 use Rattle.lset_words.specs.Records.{Record, CallMade, with_calls}
 use Rattle.lset_live.specs.Explained.{IsOneLegalOrder}
@@ -7,8 +7,8 @@ use Rattle.lset_server.specs.declared.channel.Tally.{Tally}
 use Rattle.lset_server.specs.Tallies.{ReceivedOnce}
 use Rattle.lset_words.specs.Words.{Opening}
 
--- Returns the records of the seats (rights to call the set as one thread), each followed by the calls that were made on
--- the seat afterwards.
+-- Returns the records of the seats (per-thread handles), each followed by the calls that were made on the seat
+-- afterwards.
 abbrev pub followed : List Record → List (List CallMade) → List Record
 followed [] more = []
 followed (r ∷ rs) [] = r ∷ rs
@@ -22,8 +22,8 @@ pub record IsServed (k : Opening) (records : List Record) (calls : ℕ) (keys : 
   pub count : calls ≡ sum_by (λ cs. length cs) added
   pub explained : IsOneLegalOrder k (followed records added) keys
 
--- Holds if all workers have ended. Their seats (rights to call the set) have been merged into one, and each connection
--- was received exactly once.
+-- Holds if all workers have ended. Their seats (per-thread handles) have been merged into one, and each connection was
+-- received exactly once.
 pub record HasGathered (starts : List Record) (end : Option Record) (v : Tally) (asked sessions calls : ℕ) : Type 0 where
   pub added : List (List CallMade)
   pub each : length added ≡ length starts

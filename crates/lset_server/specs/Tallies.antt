@@ -1,6 +1,6 @@
--- The invariant of the channel that passes connections to the workers. A pass (a right to use the channel) has a tally:
--- the numbers of the connections that were sent and received with it. No connection is lost or duplicated: each number
--- was sent exactly as often as it was received or is in the queue.
+-- The invariant of the channel that passes connections to the workers. A pass (permission to use the channel) has a
+-- tally: the numbers of the connections that were sent and received with it. No connection is lost or duplicated: each
+-- number was sent exactly as often as it was received or is in the queue.
 use Rattle.std.specs.Prelude.{◌≡◌, ◌==◌, ◌≤◌, ◌<◌, ℕ, ◌+◌, zero, suc, List, [], ◌∷◌, ◌++◌, if◌then◌else◌}
 use mathlib.Core.Option.{some}
 use lib.ListN.{get_elem?}
@@ -35,18 +35,18 @@ one_at n m = if m == n then 1 else 0
 abbrev pub times : ℕ → List ℕ → ℕ
 times n = weigh (one_at n)
 
--- Returns the sum of f over the tallies of all passes (rights to use the channel).
+-- Returns the sum of f over the tallies of all passes (permissions to use the channel).
 abbrev pub total : (Tally → ℕ) → List Tally → ℕ
 total f [] = 0
 total f (v ∷ vs) = f v + total f vs
 
--- Holds if a pass (a right to use the channel) with 0 parts has sent and received nothing. A pass has 0 parts after it
--- was joined to another pass.
+-- Holds if a pass (permission to use the channel) with 0 parts has sent and received nothing. A pass has 0 parts after
+-- it was joined to another pass.
 abbrev pub IdleIsEmpty : List Tally → Type 0
 IdleIsEmpty views = (port : ℕ) (v : Tally) → get_elem? views port ≡ some v → v.parts ≡ 0 → (v.sent ≡ []) × (v.received ≡ [])
 
 -- Holds if the channel has lost and duplicated nothing: for any weights h, the weights of the numbers sent have the
--- same sum as the weights of the numbers received and of the numbers in the queue. The passes (rights to use the
+-- same sum as the weights of the numbers received and of the numbers in the queue. The passes (permissions to use the
 -- channel) together have all parts, and a pass without parts has sent and received nothing.
 abbrev pub IsBalanced : List ℕ → List Tally → Type 0
 IsBalanced queue views =
@@ -59,8 +59,8 @@ abbrev pub numbers_below : ℕ → List ℕ
 numbers_below zero = []
 numbers_below (suc n) = numbers_below n ++ n ∷ []
 
--- Holds if all passes of a channel (rights to use it) were joined into one pass with tally v. The numbers 0 to n - 1
--- were sent, in order. Each of these numbers was received exactly once, and no other number was received.
+-- Holds if all passes of a channel (permissions to use it) were joined into one pass with tally v. The numbers 0 to n -
+-- 1 were sent, in order. Each of these numbers was received exactly once, and no other number was received.
 pub record ReceivedOnce (n : ℕ) (v : Tally) : Type 0 where
   pub parts : v.parts ≡ PARTS
   pub sent : v.sent ≡ numbers_below n

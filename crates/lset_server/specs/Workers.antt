@@ -1,5 +1,4 @@
--- The results of the worker threads of a server. Each worker calls from its own seat (the right to call the set as one
--- thread).
+-- The results of the worker threads of a server. Each worker calls from its own seat (per-thread handle).
 use Rattle.std.specs.Prelude.{◌≡◌, ℕ, ◌+◌, List, [], ◌++◌, length, sum_by, Option, None}
 use Rattle.lset_words.specs.Records.{Record, CallMade, with_calls}
 use Rattle.lset_live.specs.Seats.{SeatValue, gather_onto}
@@ -7,7 +6,7 @@ use Rattle.lset_server.specs.declared.channel.Tally.{Tally}
 use Rattle.lset_server.specs.Serving.{followed}
 use Rattle.lset_server.specs.Tallies.{tally}
 
--- Holds if a worker has received `sessions` connections with its pass (a right to use the channel), and has made
+-- Holds if a worker has received `sessions` connections with its pass (permission to use the channel), and has made
 -- `calls` calls from its seat. The value of the seat changed from s to s'.
 pub record HasWorked (s s' : SeatValue) (v : Tally) (sessions calls : ℕ) : Type 0 where
   pub received : List ℕ
@@ -18,7 +17,7 @@ pub record HasWorked (s s' : SeatValue) (v : Tally) (sessions calls : ℕ) : Typ
   pub count : calls ≡ length added
   pub held : s'.held ≡ s.held
 
--- The results of `workers` workers that have ended. Their passes (rights to use the channel) were joined to the
+-- The results of `workers` workers that have ended. Their passes (permissions to use the channel) were joined to the
 -- sender's pass, and its tally changed from v to v'. Their seats were merged into `end`. Their sessions and calls were
 -- added up.
 pub record HaveWorked (starts : List Record) (end : Option Record) (v v' : Tally) (workers sessions calls : ℕ) : Type 0 where

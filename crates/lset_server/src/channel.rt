@@ -29,9 +29,9 @@ pub(crate) enum Message<S> {
     Close,
 }
 
-/// The tally of a pass (a right to use the channel): how many parts the pass has, and which connections were sent and
-/// received with it. The tally of a pass with all parts lists all connections that were sent and received. Exists in
-/// contracts only.
+/// The tally of a pass (permission to use the channel): how many parts the pass has, and which connections were sent
+/// and received with it. The tally of a pass with all parts lists all connections that were sent and received. Exists
+/// in contracts only.
 pub(crate) struct Tally {
     pub parts: u64,
     pub sent: LinkedList<u64>,
@@ -51,7 +51,7 @@ impl<S> Protocol<Message<S>, Tally> for NothingLost {
     ghost first = { tally PARTS [] [] };
 }
 
-/// Defines the tallies after a part of a pass (a right to use the channel) is split off as a new pass, and after two
+/// Defines the tallies after a part of a pass (permission to use the channel) is split off as a new pass, and after two
 /// passes are joined.
 pub(crate) struct Parting;
 
@@ -95,7 +95,7 @@ impl<S> Lesson<Message<S>, Tally> for Receiving {
     ghost fact = { λ v items. ⊤ };
 }
 
-/// Lemma: if a pass (a right to use the channel) has all parts, the connections sent are exactly the connections
+/// Lemma: if a pass (permission to use the channel) has all parts, the connections sent are exactly the connections
 /// received and the connections in the queue.
 pub(crate) struct Balanced;
 
@@ -146,7 +146,7 @@ pub fn receive<S: Drop, R: Wait>(
     from.recv_as::<Receiving, R>(rt, pass)
 }
 
-/// Splits a new pass (a right to use the channel) for a receiver off the sender's `pass`.
+/// Splits a new pass (permission to use the channel) for a receiver off the sender's `pass`.
 pub(crate) fn cut_part<S: Drop>(to: &Sender<S>, pass: &mut Token<S>) -> Token<S>
     requires channel { IsSeatAt (sends_on to.now) pass.old }
     requires parts { 1 < (view pass.old).parts }
@@ -157,7 +157,7 @@ pub(crate) fn cut_part<S: Drop>(to: &Sender<S>, pass: &mut Token<S>) -> Token<S>
     to.another::<Parting>(pass)
 }
 
-/// Joins `other`, a receiver's pass (a right to use the channel), to the sender's `pass`.
+/// Joins `other`, a receiver's pass (permission to use the channel), to the sender's `pass`.
 pub(crate) fn take_back<S: Drop>(to: &Sender<S>, pass: &mut Token<S>, other: Token<S>)
     requires channel { IsSeatAt (sends_on to.now) pass.old × IsSeatAt (sends_on to.now) other }
     requires part { 0 < (view pass.old).parts }
@@ -168,8 +168,8 @@ pub(crate) fn take_back<S: Drop>(to: &Sender<S>, pass: &mut Token<S>, other: Tok
     to.absorb::<Parting>(pass, other)
 }
 
-/// States a lemma: if `pass` (a right to use the channel) has all parts of the right, the connections sent are exactly
-/// the connections received and the connections in the queue. Does nothing at run time.
+/// Lemma: if `pass` (permission to use the channel) has all parts, the connections sent are exactly the connections
+/// received and the connections in the queue. The function has no effect at run time.
 pub(crate) fn balance<S: Drop>(to: &Sender<S>, pass: &mut Token<S>)
     requires channel { IsSeatAt (sends_on to.now) pass.old }
     requires all { (view pass.old).parts ≡ PARTS }

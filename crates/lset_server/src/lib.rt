@@ -1,5 +1,4 @@
-//! The set server: sessions with clients on a running set. Each seat (the right to call the set as one thread) has its
-//! own worker thread.
+//! The set server: sessions with clients on a running set. Each seat (per-thread handle) has its own worker thread.
 #![tactic(auto)]
 
 mod channel;

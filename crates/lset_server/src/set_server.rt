@@ -1,5 +1,5 @@
-//! Serves a running set to the connections that a listener accepts. A seat is the right to call the set as one thread.
-//! Seats can be merged into one seat.
+//! Serves a running set to the connections that a listener accepts. A seat is a per-thread handle: one thread calls the
+//! set through it. Seats can be merged into one seat.
 ghost use Rattle.std.specs.Prelude.{◌≡◌, ◌≢◌, ◌<◌, ◌≤◌, ◌↔◌, ◌++◌, [], All, None, Some, length, map, sum_by};
 ghost use Rattle.std.specs.Prelude.{IfErr, IfOk, IfSome, IsOk, OnOk};
 ghost use Rattle.std.specs.Option.{option_map};
@@ -58,8 +58,8 @@ pub struct Served {
     pass: Token<TcpStream>,
 }
 
-/// The error of `serve`. After `Seats`, no connection was accepted, and `back` contains the set and the seats (rights
-/// to call as one thread). After the other causes, `back` is `None`.
+/// The error of `serve`. After `Seats`, no connection was accepted, and `back` contains the set and the seats
+/// (per-thread handles). After the other causes, `back` is `None`.
 #[derive(Drop, Error)]
 #[error("{cause}")]
 pub struct ServeFault<M: Running> {
@@ -141,8 +141,8 @@ fn send_all<R: Wait>(
     close_all(rt, to, pass, workers)
 }
 
-/// Starts the workers, sends them `sessions` connections, and waits for them to end. Returns the pass (the right to use
-/// the channel), which has all parts again, and the seat that results from merging all seats.
+/// Starts the workers, sends them `sessions` connections, and waits for them to end. Returns the pass (permission to
+/// use the channel), which has all parts again, and the seat that results from merging all seats.
 fn serve_in<'s, E, R: Threads + Wait + Clock + Sync, M: Running + Send + Sync>(
     alloc: Global,
     scope: &Scope<'s, E>,

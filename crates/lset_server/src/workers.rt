@@ -1,4 +1,5 @@
-//! The worker threads of a server, one for each seat. A seat is the right to call the set as one thread.
+//! The worker threads of a server, one for each seat. A seat is a per-thread handle: one thread calls the set through
+//! it.
 ghost use Rattle.std.specs.Prelude.{◌≡◌, ◌≢◌, ◌<◌, ◌≤◌, ◌-◌, ◌*◌, ◌++◌, List, [], ◌∷◌, All, length, map, sum_by};
 ghost use Rattle.std.specs.Prelude.{IfErr, IfOk, IfSome, MatchOption, OnOk};
 ghost use Rattle.std.specs.Option.{option_map};
@@ -24,8 +25,8 @@ use std::sync::Wait;
 use std::thread::{Promise, PromisedHandle, Scope, Threads};
 use std::time::Clock;
 
-/// The result of a worker thread: its pass (a right to use the channel), its seat, and how many sessions and calls it
-/// has completed.
+/// The result of a worker thread: its pass (permission to use the channel), its seat, and how many sessions and calls
+/// it has completed.
 #[derive(Drop)]
 pub(crate) struct WorkerResult<M: Running> {
     pub pass: Token<TcpStream>,
@@ -71,8 +72,8 @@ fn next<R: Wait>(
     }
 }
 
-/// Serves one client in a session on `seat` (the right to call the set as one thread), and prepares the connection for
-/// closing. Returns the number of calls made. A read or write error ends only this session.
+/// Serves one client in a session on `seat` (a per-thread handle), and prepares the connection for closing. Returns the
+/// number of calls made. A read or write error ends only this session.
 fn hold<R: Wait + Clock, M: Running>(
     rt: &R,
     stream: &TcpStream,
@@ -91,8 +92,8 @@ fn hold<R: Wait + Clock, M: Running>(
     ended.calls
 }
 
-/// Serves connections on `seat` (the right to call the set as one thread), until no more connections arrive or `most`
-/// connections have been received.
+/// Serves connections on `seat` (a per-thread handle), until no more connections arrive or `most` connections have been
+/// received.
 fn work<R: Wait + Clock, M: Running>(
     rt: &R,
     from: &Receiver<TcpStream>,
@@ -125,8 +126,7 @@ fn work<R: Wait + Clock, M: Running>(
     }
 }
 
-/// The sums of all workers' sessions and calls, and the seat (the right to call the set as one thread) that results
-/// from merging their seats.
+/// The sums of all workers' sessions and calls, and the seat (per-thread handle) that results from merging their seats.
 #[derive(Drop)]
 pub(crate) struct Gathered<M: Running> {
     pub seat: Option<Seat<M>>,
@@ -174,8 +174,8 @@ impl<'s, R: Threads + Wait + Clock + Sync, M: Running + Send + Sync> Pool<'s, R,
             .ok()
     }
 
-    /// Starts a worker thread on each seat. Each worker has its own pass (a right to use the channel), which is split
-    /// off the sender's `pass`. Allocates the memory for all thread handles before it starts the first thread.
+    /// Starts a worker thread on each seat. Each worker has its own pass (permission to use the channel), which is
+    /// split off the sender's `pass`. Allocates the memory for all thread handles before it starts the first thread.
     pub fn start_all<E>(
         &self,
         alloc: Global,
@@ -208,8 +208,8 @@ impl<'s, R: Threads + Wait + Clock + Sync, M: Running + Send + Sync> Pool<'s, R,
         Ok(workers)
     }
 
-    /// Waits for the worker threads to end, joins their passes (rights to use the channel) to `pass`, and merges their
-    /// seats into one.
+    /// Waits for the worker threads to end, joins their passes (permissions to use the channel) to `pass`, and merges
+    /// their seats into one.
     pub fn join_all(&self, pass: &mut Token<TcpStream>, workers: Vec<Worker<M>>) -> Gathered<M>
         requires pass { IsSeatAt (sends_on self.now.to) pass.old × (0 < (view pass.old).parts) }
         requires owed { All (λ h. (receives_on h.promise.from.value ≡ sends_on self.now.to)
