@@ -28,7 +28,6 @@ use Rattle.lset_session.specs.declared.sessions.Talk.{Talk}
 
 -- ---- Lemmas about appending bytes to a text
 
--- If bytes without a newline are prepended to a text, they are prepended to the first line of the text.
 cut_more : (q x : List ℕ) (xs : List (List ℕ)) (more : List ℕ) → cut_at 10 more ≡ x ∷ xs → Lacks 10 q
     → cut_at 10 (q ++ more) ≡ (q ++ x) ∷ xs
 cut_more [] x xs more e lacks = e
@@ -63,7 +62,6 @@ turns_line left p more lacks short = by_parts (cut_at 10 more) refl (some_part 1
         let few = le-ltb LONGEST_LINE (length p) short in
         rw (first, e, few) refl
 
--- If the bytes after the last newline are not too long for a line, they cause no turn (answered line).
 pub turns_rest : (left : ℕ) (p : List ℕ) → Lacks 10 p → length p ≤ LONGEST_LINE → turns_at left (cut_at 10 (p ++ [])) ≡ []
 turns_rest left p lacks short =
     let few = le-ltb LONGEST_LINE (length p) short in
@@ -103,8 +101,6 @@ counted_is e q h = refl
 
 -- ---- Lemmas about the bytes that the session has processed
 
--- The last line of a session ends it for the reason `why`, or for the reason WriteFault if the line could not be
--- written completely.
 told_last : (left left' : ℕ) (bytes p' : List ℕ) (talk : List Exchange) (why : EndReason) (whole : Bool) → IsLast why
     → ((more : List ℕ) → turns_at left (cut_at 10 (bytes ++ more)) ≡ turns_in talk ++ []) → end_of (turns_in talk) ≡ why
     → Told left bytes (ending whole why) left' p' talk
@@ -281,8 +277,6 @@ heard_then l l' l'' p p' p'' cs o r r' r'' w w' w'' n n' n'' h k = record {
 
 -- ---- Lemmas about processing the bytes of a single read
 
--- Induction step for the bytes of one read: the state after i bytes and the effect of the next byte give the state
--- after i + 1 bytes.
 pub heard_byte : (l l' l'' : ℕ) (p p' p'' xs : List ℕ) (i : ℕ) (o : Option EndReason) (r r' r'' : Record) (w w' w'' : Option (List ℕ))
     (n n' n'' : ℕ)
     → i < length xs → Heard l (p ++ take i xs) None l' p' r r' w w' n n' →
@@ -295,7 +289,6 @@ heard_byte l l' l'' p p' p'' xs i o r r' r'' w w' w'' n n' n'' lt h k =
     subst (λ t. Heard l t o l'' p'' r r'' w w'' n n'') regrouped
     (heard_then l l' l'' (p ++ take i xs) p' p'' (get_or xs i 0 ∷ []) o r r' r'' w w' w'' n n' n'' h k)
 
--- If a session ends before it has processed all bytes of a read, the remaining bytes do not change the session's state.
 pub heard_rest : (l l' : ℕ) (p p' xs : List ℕ) (i : ℕ) (end : EndReason) (r r' : Record) (w w' : Option (List ℕ)) (n n' : ℕ)
     → Heard l (p ++ take i xs) (Some end) l' p' r r' w w' n n' → Heard l (p ++ xs) (Some end) l' p' r r' w w' n n'
 heard_rest l l' p p' xs i end r r' w w' n n' h = record {
@@ -317,7 +310,6 @@ heard_rest l l' p p' xs i end r r' w w' n n' h = record {
 
 -- ---- Lemmas about the end of the input
 
--- If the input ends and no line has ended the session, the bytes after the last newline cause no turn (answered line).
 pub spoken_rest : (end : EndReason) (bytes : List ℕ) (t : Talk) (r r' : Record) (s s' w w' : Option (List ℕ)) → IsTalk t
     → ((talk : List Exchange) → Appends w w' (answers_in talk) → Wrote end w w' talk) → why.End ≡ text_end end
     → (end ≡ why.End → IsAtEnd s') → Consumes s s' bytes →

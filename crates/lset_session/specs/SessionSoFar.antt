@@ -27,8 +27,9 @@ IsLast why.End = ⊥
 IsLast why.ReadFault = ⊥
 IsLast end = Unit {0}
 
--- Holds if `talk` contains the first turns (answered lines) of the input. If the session has not ended, the remaining
--- turns of the input are the turns of the incomplete line `pending` followed by all later bytes.
+-- Holds if `talk` contains the first turns of the input. A turn is a line that the session answers, or the notice that
+-- the limit is reached. If the session has not ended, the remaining turns of the input are the turns of the incomplete
+-- line `pending` followed by all later bytes.
 abbrev pub Told : ℕ → List ℕ → Option EndReason → ℕ → List ℕ → List Exchange → Type 0
 Told left bytes None left' pending talk =
     (end_of (turns_in talk) ≡ why.End)
@@ -67,8 +68,8 @@ pub record IsTalk (t : Talk) : Type 0 where
 abbrev pub Nearer : Talk → Talk → ℕ → Type 0
 Nearer t u n = (LONGEST_LINE + 1) * u.left + t.len + n ≤ (LONGEST_LINE + 1) * t.left + u.len
 
--- Holds if the session has processed these bytes. This changed the session from state t to u, its record of calls with
--- replies from r to r', and the written bytes from w to w'.
+-- Holds if the session has processed these bytes. Processing them changed the session from state t to u, its record of
+-- calls with replies from r to r', and the written bytes from w to w'.
 abbrev pub Hears : List ℕ → Option EndReason → Talk → Talk → Record → Record → Option (List ℕ) → Option (List ℕ) → Type 0
 Hears bytes o t u r r' w w' = Heard t.left (pending_of t ++ bytes) o u.left (pending_of u) r r' w w' t.calls u.calls
 

@@ -49,15 +49,15 @@ pub data Turn : Type 0 where
   long : Turn
   limit : Turn
 
--- Returns the turns (answered lines) of a session that starts with a line with this request. `later` contains the turns
--- of the following lines. No turn follows QUIT. If `left` is 1, the session can answer only this line, and the turn for
--- the limit follows.
+-- Returns the turns of a session that starts with a line with this request. `later` contains the turns of the following
+-- lines. No turn follows QUIT. If `left` is 1, the session can answer only this line, and the turn for the limit
+-- follows.
 abbrev pub turns_after : ℕ → Request → List Turn → List Turn
 turns_after left request.Quit later = line request.Quit ∷ []
 turns_after left other later = line other ∷ (if left == 1 then limit ∷ [] else later)
 
--- Returns the turns (answered lines) of an input that was cut into lines. The session can answer `left` lines. The last
--- part of the input has no newline, and causes a turn only if it is too long.
+-- Returns the turns of an input that was cut into lines. The session can answer `left` lines. The last part of the
+-- input has no newline, and causes a turn only if it is too long.
 abbrev pub turns_at : ℕ → List (List ℕ) → List Turn
 turns_at left [] = []
 turns_at left (rest ∷ []) = if nat_lt LONGEST_LINE (length rest) then long ∷ [] else []
@@ -68,7 +68,7 @@ turns_at left (first ∷ next ∷ more) =
 unfoldable pub turns_of : List ℕ → List Turn
 turns_of bytes = turns_at MOST_LINES (cut_at 10 bytes)
 
--- Returns the reason why a session ends with this turn (answered line), or `otherwise` if it does not end.
+-- Returns the reason why a session ends with this turn, or `otherwise` if it does not end.
 abbrev pub end_after : Turn → EndReason → EndReason
 end_after (line request.Quit) otherwise = why.Quit
 end_after (line other) otherwise = otherwise
@@ -81,8 +81,7 @@ end_of (t ∷ ts) = end_after t (end_of ts)
 
 -- ---- The answers to requests
 
--- A turn of a session (an answered line) with its answer: a call with its reply, or one of the answers BAD, BYE, LONG
--- and LIMIT.
+-- A turn of a session with its answer: a call with its reply, or one of the answers BAD, BYE, LONG and LIMIT.
 pub data Exchange : Type 0 where
   made : CallMade → Exchange
   bad : Exchange

@@ -28,12 +28,13 @@ text_end end = end
 -- Holds if a session has ended for the reason `end` after this number of calls. The session changed the remaining
 -- input from s to s', its record of calls with replies from r to r', and the bytes written to its client from w to w'.
 pub record IsSession (end : EndReason) (calls : ℕ) (s s' : Option (List ℕ)) (r r' : Record) (w w' : Option (List ℕ)) : Type 0 where
-  -- The bytes that the session has read. `talk` lists the turns (answered lines) with their answers.
+  -- The bytes that the session has read. `talk` lists the turns of the session (its lines, and the notice of the limit)
+  -- with their answers.
   pub bytes : List ℕ
   pub talk : List Exchange
   pub read : Consumes s s' bytes
-  -- The turns in `talk` (answered lines) are the first turns of the bytes that were read. Unless a write has failed,
-  -- they are all turns of these bytes.
+  -- The turns in `talk` are the first turns of the bytes that were read. Unless a write has failed, they are all turns
+  -- of these bytes.
   pub turns : (later : List Turn) × (turns_of bytes ≡ turns_in talk ++ later) × (end ≢ why.WriteFault → later ≡ [])
   pub recorded : r' ≡ with_calls r (calls_in talk)
   pub count : calls ≡ length (calls_in talk)

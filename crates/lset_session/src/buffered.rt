@@ -138,7 +138,7 @@ impl<O: Sink> Sink for Buffered<'_, O> {
 
 /// Serves one client as `session` does, but buffers up to 4,096 bytes of answers. Writes them before each read of
 /// `reader`, when the buffer is full, and at the end of the session. `reader` and `writer` must not have failed, and
-/// `seat` (the right to call the set as one thread) must belong to `set`.
+/// `seat` (a per-thread handle) must belong to `set`.
 ///
 /// If a write fails, the session ends with `WriteFault` and writes nothing more. The bytes written are then a prefix of
 /// the answers. A call counts as made even if its answer was not written. Blocks when its set, its reader or its writer
@@ -152,7 +152,7 @@ pub fn buffered_session<R: Wait, I: Source + Drop, O: Sink + Drop, S: SetCalls>(
 ) -> Ended
     requires seat { S.is_of set.now seat.old }
     requires works { (I.has_failed reader ≡ false) × (O.has_failed writer ≡ false) }
-    // [Session] is true of the bytes read and the calls made. No contract covers the bytes written.
+    // The definition [Session] holds for the bytes read and the calls made. No contract covers the bytes written.
     ensures session { (end : Ending) × (left : Option (List ℕ)) × (result.why ≢ EndReason.WriteFault → result.why ≡ end)
         × IsSession end result.calls (I.remaining reader) left (S.record_of seat.old) (S.record_of seat.new) None None }
     ensures few { result.calls ≤ MOST_LINES }

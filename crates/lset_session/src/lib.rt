@@ -1,6 +1,6 @@
 //! Sessions: a client sends one request per line, and the session answers each request. A session reads from any
-//! `Source`, writes to any `Sink`, and calls any set that implements `SetCalls`. It calls from one seat of the set: the
-//! right to call the set as one thread.
+//! `Source`, writes to any `Sink`, and calls any set that implements `SetCalls`. It calls through one seat of the set,
+//! a per-thread handle.
 #![tactic(auto)]
 
 mod buffered;

@@ -1,5 +1,5 @@
 //! Sessions: a session reads lines from a reader, makes the calls in them on a set, and writes the answers to a writer.
-//! The session calls from one seat of the set. A seat is the right to call the set as one thread.
+//! The session calls from one seat of the set. A seat is a per-thread handle: one thread calls the set through it.
 ghost use Rattle.std.specs.Prelude.{◌≡◌, ◌≤◌, ◌↔◌, ◌∷◌, [], Bool, true, false, IsTrue, if◌then◌else◌, length, None};
 ghost use Rattle.lset_words.specs.Records.{with_calls};
 ghost use Rattle.lset_session.specs.Devices.{Writes};
@@ -209,9 +209,8 @@ fn bytes_in<R: Wait, W: Sink, S: SetCalls>(
     None
 }
 
-/// Serves one client: reads lines from `reader`, makes their calls from `seat` (the right to call the set as one
-/// thread), which must belong to `set`, and writes an answer for each line to `writer`. `reader` and `writer` must not
-/// have failed.
+/// Serves one client: reads lines from `reader`, makes their calls from `seat` (a per-thread handle), which must belong
+/// to `set`, and writes an answer for each line to `writer`. `reader` and `writer` must not have failed.
 ///
 /// Each line ends with a newline. A line `ADD k`, `REMOVE k`, `CONTAINS k` or `CEILING k` is answered with `TRUE`,
 /// `FALSE`, `FULL`, `AT x` (the key x) or `NONE` (no key). `QUIT` is answered with `BYE`, and any other line with
