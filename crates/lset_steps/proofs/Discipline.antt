@@ -95,8 +95,6 @@ pub record Discipline (T : Table) (marks : Bool) (At : Outline) : Type 1 where
       (locals t).pc ≢ 0
       → StepOf T marks At sz t vs first now ws used done locals
 
--- Extends `Course`, the properties of a run's views (the list's nodes and locks), from moment `s` to moment s + 1, if
--- the next step preserves these properties.
 course_more : (vs : ℕ → View) (s : ℕ) → Course vs s → KeepsNodes (vs s) (vs (suc s)) → KeepsMarked (vs s) (vs (suc s))
     → IsOrdered (vs (suc s)) → Course vs (suc s)
 course_more vs s r g m ord = record {

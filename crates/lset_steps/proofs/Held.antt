@@ -110,7 +110,6 @@ module _ {v w : View} {t : ℕ} (s : Leaves v w t) where
   pub removing_on : {curr : ℕ} {op : Call} → v.published curr → Removing v curr op → Removing w curr op
   removing_on {curr} p a = record { call = a.call; found = s.keys curr p ∙ a.found }
 
--- Steps of other threads do not change the slot that thread `t` will use next (the node for its next successful add).
 module _ {v w : View} {q t : ℕ} (r : Rely v w q t) where
   pub own_key_on : (x : ℕ) → v.used t < q → v.key (slot_node q t (v.used t)) ≡ x → w.key (slot_node q t (w.used t)) ≡ x
   own_key_on x room e = rw r.used (r.own_key room ∙ e)
@@ -181,8 +180,6 @@ module _ {marks : Bool} {sz : Sizes} {ws : List ℕ} {used : ℕ → ℕ} (m : M
   pub held_from : {a : ℕ} → node_lock ws a ≡ t + 1 → InChain (view sz ws used) a → Held (view sz ws used) t a
   held_from {a} mine i = record { mine = mine; at = i; published = in_chain_published (view sz ws used) m.ordered a i }
 
-  -- If a thread holds the lock of `pred`, and `pred` is unmarked and has a smaller key than `key`, then `Behind` holds
-  -- for `pred` and the next node.
   pub behind_from : {pred key : ℕ} → Held (view sz ws used) t pred → node_link ws pred % 2 ≡ 0 → node_key ws pred < key
       → key < tail_word
       → Behind (view sz ws used) t key pred (node_link ws pred / 2)
@@ -243,7 +240,6 @@ module _ {marks : Bool} {sz : Sizes} {ws : List ℕ} {used : ℕ → ℕ} (m : M
     (b.walk.held.mine, b.mine),
   )
 
--- Lemmas about the assertions on locked nodes that a thread's own steps preserve.
 module _ {marks : Bool} {sz : Sizes} {ws : List ℕ} {used : ℕ → ℕ} (m : Memory marks sz ws used) {t : ℕ} (tn : t < sz.threads) where
   pub leaves_locked : (a : ℕ) → node_lock ws a ≡ 0
       → Leaves (view sz ws used) (view sz (slice_set ws (lock_index a) (t + 1)) used) t
@@ -267,7 +263,6 @@ module _ {marks : Bool} {sz : Sizes} {ws : List ℕ} {used : ℕ → ℕ} (m : M
     published = h.published;
   }
 
-  -- After curr is marked, curr is still the node after pred.
   pub between_marked : {pred curr : ℕ} {op : Call} (x : ℕ) → Between (view sz ws used) t (target op) pred curr
       → Removing (view sz ws used) curr op → node_link ws curr % 2 ≡ 0 → x ≡ node_link ws curr + 1 → target op < tail_word
       → Between (view sz (slice_set ws (link_index curr) x) used) t (target op) pred curr

@@ -22,7 +22,6 @@ later_published vs n b (suc d) m t r e l mb =
 pub key_stays : (vs : ℕ → View) (n b m t : ℕ) → Course vs n → m ≤ t → t ≤ n → (vs m).published b → (vs t).key b ≡ (vs m).key b
 key_stays vs n b m t r l h mb = (later_published vs n b (t - m) m t r (omega arith) h mb).1
 
--- A marked node keeps its link, and therefore its mark, at all later moments.
 marked_by : (vs : ℕ → View) (n b d m t : ℕ) → Course vs n → t ≡ m + d → t ≤ n → (vs m).published b → (vs m).link b % 2 ≡ 1
     → (vs t).link b ≡ (vs m).link b
 marked_by vs n b zero m t r e l p odd = let f : m ≡ t = omega arith in subst (λ x. (vs x).link b ≡ (vs m).link b) f refl
@@ -112,7 +111,6 @@ lacked_between vs n first now a l k r le na s lo hi =
           gap (vs s.at) ord a c.0 s.in_chain c.1 na (omega arith) (omega arith);
     }
 
--- If a `contains` finds its key at an unmarked node, the set had the key at some moment of the call.
 pub had_at : (vs : ℕ → View) (n first now b k : ℕ) → Course vs n → now ≤ n → InPast vs first now b → 1 < b
     → (vs now).key b ≡ k + 1 → (vs now).link b % 2 ≡ 0 → Had vs first now k
 had_at vs n first now b k r le p user kb even =
@@ -128,7 +126,6 @@ had_at vs n first now b k r le p user kb even =
       has = (b, s.in_chain, user, sym ks ∙ kb, ap (λ x. x % 2) s.link ∙ even);
     }
 
--- If a `contains` finds its key at a marked node, the set lacked the key at some moment of the call.
 pub lacked_at : (vs : ℕ → View) (n first now b k : ℕ) → Course vs n → now ≤ n → InPast vs first now b
     → (vs now).key b ≡ k + 1 → (vs now).link b % 2 ≡ 1 → Lacked vs first now k
 lacked_at vs n first now b k r le p kb odd =

@@ -52,7 +52,6 @@ module _ (marks : Bool) (v w : View) (ord : IsOrdered v) where
     λ j n. (unlink_others v w ord pred curr q j (inr (λ f. n (omega arith))), unlink_only v w ord pred curr q j),
   )
 
-  -- A marked node stays marked: no move changes its link.
   pub marked_stays : (ch : Option (Key × Bool)) → Move marks v w ch → (b : ℕ) → v.published b → v.link b % 2 ≡ 1
       → w.link b ≡ v.link b
   marked_stays ch (quiet q) b i o = q.links b i
@@ -75,8 +74,6 @@ tail_stays marks v w ord ch (removes pred curr k y q m u e) = q.links 1 ord.tail
 not_both : {A : Type 0} (b : Bool) → b ≡ true → b ≡ false → A
 not_both b x y = absurd (let z : true ≡ false = sym x ∙ y in cc)
 
--- In a list that marks nodes, every unmarked node that has been in the chain (is published) is still in the chain
--- after a move.
 module _ (v w : View) (ord : IsOrdered v) where
   live_stays : (ch : Option (Key × Bool)) → Move true v w ch → UnmarkedInChain true v → UnmarkedInChain true w
   live_stays ch (quiet q) h b mb e =

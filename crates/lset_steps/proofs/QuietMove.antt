@@ -8,13 +8,10 @@ use Rattle.lset_steps.proofs.Segments.{segment-append, segment_published, segmen
 pub in_chain_published : (v : View) → IsOrdered v → (b : ℕ) → InChain v b → v.published b
 in_chain_published v ord b ib = segment_published v ord 0 b ib.0 ord.head_published ib.1
 
--- If each link leads to the same node as before, each node of the chain is still in the chain.
 pub chain_same : (v w : View) → IsOrdered v → ((a : ℕ) → v.published a → w.link a / 2 ≡ v.link a / 2) → (b : ℕ)
     → InChain v b → InChain w b
 chain_same v w ord h b ib = (ib.0, segment_same v w ord 0 b 0 ib.0 (λ a m l t. h a m) ord.head_published (omega arith) ib.1)
 
--- If all nodes with smaller keys than p's keep their links, each node of the chain with a key up to p's stays in the
--- chain.
 pub chain_before : (v w : View) → IsOrdered v → (p b : ℕ)
     → ((a : ℕ) → v.published a → v.key a < v.key p → w.link a / 2 ≡ v.link a / 2)
     → v.key b ≤ v.key p → InChain v b → InChain w b
@@ -25,8 +22,6 @@ pub chain_on : (v : View) (p q b : ℕ) (cs : List ℕ) → InChain v p → p �
 chain_on v p q b cs ip n e s =
     (ip.0 ++ (p ∷ cs), segment-append v 0 p b ip.0 (p ∷ cs) ip.1 (refl, n, subst (λ x. Segment v x cs b) (sym e) s))
 
--- If node `i` and all nodes with greater keys keep their links, each piece of the chain that starts at `i` stays the
--- same.
 pub segment_after : (v w : View) → IsOrdered v → (i j : ℕ) (cs : List ℕ)
     → ((a : ℕ) → v.published a → v.key i ≤ v.key a → w.link a / 2 ≡ v.link a / 2)
     → v.published i → Segment v i cs j → Segment w i cs j

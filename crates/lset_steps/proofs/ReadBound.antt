@@ -104,7 +104,6 @@ tally_more {v} {size} {amount} c p l a = record {
   ]) ∙ ap (λ k. suc k) a.amount_is;
 }
 
--- A call that has not visited the tail has visited fewer nodes than the list has.
 tally_few : {v : View} {size below amount : ℕ} → v.published 1 → 1 < size → below ≤ v.key 1 → Tally v size below amount
     → amount < size
 tally_few {v} {size} {below} {amount} p l le a =

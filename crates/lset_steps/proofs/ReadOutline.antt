@@ -64,7 +64,6 @@ pub begun_reading_is : (call : Call) (l : Local) → BeginLaws begun_reading cal
 begun_reading_is (Add k) l = record { called = refl; used = refl; opened = λ e. omega arith; alike = refl }
 begun_reading_is call l = record { called = refl; used = refl; opened = λ e. omega arith; alike = refl }
 
--- A call starts at the head, which is in the chain at every moment and has the smallest key.
 at_head : (vs : ℕ → View) (first now : ℕ) (v : View) (k : ℕ) → first ≤ now → vs now ≡ v → v.key 0 ≡ 0 → At20 vs first now k 0
 at_head vs first now v k from present head =
     let low : (vs now).key 0 ≡ 0 = ap (λ x. x.key 0) present ∙ head in
@@ -83,8 +82,6 @@ call_begins At q t vs now v (Contains k) l e z walks reads =
 call_begins At q t vs now v (Ceiling k) l e z walks reads =
     reads (begun_reading (Ceiling k) l) (reads23 refl refl refl (at_head vs now now v k.0 (omega arith) e z))
 
--- `True` is a correct reply to a `contains` if the set had the key at some moment of the call, and `False` if the set
--- lacked the key at some moment.
 fits_had : (q : ℕ) (vs : ℕ → View) (first now t : ℕ) (call : Call) → call ≡ Contains (key_of call)
     → Had vs first now (key_of call).0
     → FitsSometime q (contents_of vs) (counts_of vs) first now t call True
@@ -150,8 +147,6 @@ module _ (T : Table) (P : Protocol T.marks) (At : Outline) (sz : Sizes) (t : ℕ
       let low : target l.call < tail_word = regs.low in
       omega arith
 
-  -- Loading the link of `curr` at row 20 of the step table leads to row 21: the assertion of row 21 holds for the next
-  -- node.
   behind : At20 vs first now (key_of l.call).0 l.curr
       → (node_link ws l.curr / 2 < node_count sz) × At21 vs first (suc now) (key_of l.call).0 (node_link ws l.curr / 2)
   behind a =
@@ -257,8 +252,6 @@ module _ (T : Table) (P : Protocol T.marks) (At : Outline) (sz : Sizes) (t : ℕ
       (keep_walk sz t 24 l.pred (s / 2) l regs.pred next.0 regs, refl, refl, λ x. omega arith)
       (reading (record l { pc = 24; curr = s / 2 }) (reads24 refl d c next.1))
 
-  -- If a `ceiling` stops at a key word, its reply was correct at the moment when the previous node was in the chain
-  -- with the link that the call read.
   found_then : (a : At21 vs first now (key_of l.call).0 l.curr) (c : ℕ) → l.call ≡ Ceiling (key_of l.call)
       → (vs a.seen.at).key l.curr ≡ c → target l.call ≤ c → (c < tail_word → (vs now).link l.curr % 2 ≡ 0)
       → FitsSometime sz.quota (contents_of vs) (counts_of vs) first now t l.call (ceiling_at c)

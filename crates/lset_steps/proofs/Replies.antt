@@ -54,13 +54,10 @@ decided_cases a d u q t v (Contains k) true room c l hit miss full over = inl (T
 decided_cases a d u q t v (Contains k) false room c l hit miss full over = inl (False, refl, miss refl)
 decided_cases a d u q t v (Ceiling k) found room c l hit miss full over = inl (ceiling_at c, refl, over)
 
--- If the key `k` is between the keys of two neighbours in the chain, `k` is not in the set.
 pub absent_between : (v : View) → IsOrdered v → (p k : ℕ) → InChain v p → p ≢ 1 → v.key p < k + 1
     → k + 1 < v.key (v.link p / 2) → InContent v k → ⊥
 absent_between v ord p k i d lo hi c = let e : v.key c.0 ≡ k + 1 = c.3 in gap v ord p c.0 i c.1 d (omega arith) (omega arith)
 
--- Let two nodes be neighbours in the chain, and let the key of a `ceiling` be above the first node's key but not above
--- the second's. If the second node is not marked, its key is a correct reply (`Nothing` at the tail).
 pub ceiling_fits : (q t : ℕ) (v : View) (p c : ℕ) (k : Key) → IsOrdered v → v.key 0 ≡ 0 → v.key 1 ≡ tail_word → InChain v p
     → p ≢ 1 → v.key p < k.0 + 1 → c ≡ v.key (v.link p / 2) → k.0 + 1 ≤ c → (c < tail_word → v.link (v.link p / 2) % 2 ≡ 0)
     → FitsIn q v t (Ceiling k) (ceiling_at c)
@@ -106,7 +103,6 @@ or_false false = refl
 abbrev pub fed : Local → Option Reply → Fed
 fed l a = record { local = l; answer = a }
 
--- A thread's registers (the nodes and key words in its private state) stay in range when the thread begins a call.
 pub registers_begun : (sz : Sizes) (t pc : ℕ) (call : Call) (l : Local) → target call < tail_word → Registers sz t l
     → Registers sz t (begun pc call l)
 registers_begun sz t pc call l low r =
@@ -114,14 +110,10 @@ registers_begun sz t pc call l low r =
     let smallest : 0 ≤ tail_word = omega arith in
     assumption
 
--- A thread's registers (the nodes and key words in its private state) stay in range when a successful add uses up a
--- slot and stores the reply `True`.
 pub keep_more : (sz : Sizes) (t p : ℕ) (l : Local) → l.used < sz.quota → Registers sz t l
     → Registers sz t (record l { pc = p; reply = Some True; used = l.used + 1 })
 keep_more sz t p l room r = let most : l.used + 1 ≤ sz.quota = omega (arith, room) in assumption
 
--- A thread's registers (the nodes and key words in its private state) stay in range when a successful add uses up a
--- slot, and no reply is stored.
 pub keep_used : (sz : Sizes) (t p : ℕ) (l : Local) → l.used < sz.quota → Registers sz t l
     → Registers sz t (record l { pc = p; used = l.used + 1 })
 keep_used sz t p l room r = let most : l.used + 1 ≤ sz.quota = omega (arith, room) in assumption

@@ -60,8 +60,6 @@ module _ (vs : ℕ → View) {start now t pred : ℕ} {v : View} (present : vs n
     node_published = l.grows node x.node_published;
   }
 
-  -- If `SecondWalk` holds for a node, and thread `t` loads the link of this node, then `SecondWalk` holds for the next
-  -- node.
   pub second_walk_goes : {node : ℕ} → Course vs now → IsOrdered v → node ≢ 1 → SecondWalk vs start now v t pred node
       → SecondWalk vs start (suc now) v t pred (v.link node / 2)
   second_walk_goes {node} course ord inn x = record {
@@ -75,7 +73,6 @@ module _ (vs : ℕ → View) {start now t pred : ℕ} {v : View} (present : vs n
     node_published = ord.next_published node x.node_published inn;
   }
 
-  -- If the second walk reaches pred, pred is in the chain now.
   pub second_walk_arrives : {node : ℕ} → node ≡ pred → SecondWalk vs start now v t pred node → InChain v pred
   second_walk_arrives e x =
       let u : x.seen.at ≤ now = x.seen.upto in

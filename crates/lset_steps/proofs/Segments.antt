@@ -39,7 +39,6 @@ segment_meet v i j k [] bs s t = inl (bs, subst (λ x. Segment v x bs k) s t)
 segment_meet v i j k (a ∷ ns) [] s t = inr (a ∷ ns, subst (λ x. Segment v x (a ∷ ns) j) t s)
 segment_meet v i j k (a ∷ ns) (b ∷ bs) s t = segment_meet v (v.link i / 2) j k ns bs s.2 t.2
 
--- Each node `b` of the chain has a key up to p's, or can be reached from the node after `p`.
 pub sides : (v : View) → IsOrdered v → (p b : ℕ) → InChain v p → InChain v b
     → (v.key b ≤ v.key p) ⊎ ((cs : List ℕ) × Segment v (v.link p / 2) cs b)
 sides v ord p b ip ib = elim (segment_meet v 0 p b ip.0 ib.0 ip.1 ib.1) [

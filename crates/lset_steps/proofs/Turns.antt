@@ -27,7 +27,6 @@ pub due_of : (done : Bool) (q : ℕ) (vs : ℕ → View) (first now t : ℕ) (ca
     → FitsSometime q (contents_of vs) (counts_of vs) first now t call r → Due done q vs first now t call r
 due_of done q vs first now t call r unchanged fits = rw unchanged fits
 
--- If the call has not changed the set, a reply that is correct now is a correct reply of the call.
 pub due_now : (done : Bool) (q : ℕ) (vs : ℕ → View) (first now t : ℕ) (v : View) (call : Call) (r : Reply)
     → done ≡ false → first ≤ now → vs now ≡ v → FitsIn q v t call r → Due done q vs first (suc now) t call r
 due_now done q vs first now t v call r unchanged from present fits = due_of done q vs first (suc now) t call r unchanged (record {
@@ -42,8 +41,8 @@ pub due_on : (done : Bool) (q : ℕ) (vs : ℕ → View) (first now t : ℕ) (ca
 due_on true q vs first now t call r d = d
 due_on false q vs first now t call r d = fitted_on q vs first now (suc now) t call r (omega arith) d
 
--- A call is about to release its locks. Either it has a correct reply, or (`None`) it has changed nothing and will
--- start again.
+-- Holds if a call that is about to release its locks has a correct reply or, if it has no reply yet (`None`), has
+-- changed nothing and will start again.
 abbrev pub Outcome : Bool → ℕ → (ℕ → View) → ℕ → ℕ → ℕ → Call → Option Reply → Type 0
 Outcome done q vs first now t call None = done ≡ false
 Outcome done q vs first now t call (Some reply) = Due done q vs first now t call reply

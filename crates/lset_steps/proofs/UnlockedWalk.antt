@@ -48,8 +48,6 @@ module _ {v w : View} (g : KeepsNodes v w) where
   }
 
 module _ {marks : Bool} {sz : Sizes} {ws : List ℕ} {used : ℕ → ℕ} (m : Memory marks sz ws used) where
-  -- If node `a` is published (has been in the chain) and has a smaller key than the call's, `Spot` holds for `a` and
-  -- the node after it.
   pub spot_behind : {key : ℕ} (a : ℕ) → (view sz ws used).published a → node_key ws a < key
       → Spot (view sz ws used) key a (node_link ws a / 2)
   spot_behind a p below = record { pred_published = p; below = below; curr_published = next_published marks sz ws used m a p }
@@ -71,8 +69,6 @@ module _ {marks : Bool} {sz : Sizes} {ws : List ℕ} {used : ℕ → ℕ} (m : M
       goes_on marks sz ws used m t tn (Exchange (lock_index a) 0 (t + 1)) (slice_set ws (lock_index a) (t + 1)) used None
       (locks_free a inn free).0
 
--- For lists that mark nodes: if a thread holds the lock of `pred`, and pred's link has no mark, `pred` is in the
--- chain.
 pub behind_of_load : {sz : Sizes} {ws : List ℕ} {used : ℕ → ℕ} (m : Memory true sz ws used) {t key pred curr : ℕ} → key < tail_word
     → Spot (view sz ws used) key pred curr → node_lock ws pred ≡ t + 1 → node_link ws pred ≡ 2 * curr
     → Behind (view sz ws used) t key pred curr

@@ -58,8 +58,6 @@ module _ {A : Type 0} (answers : ChainKey → Option A → Type 0) (v : View) (o
             ∙ sym (ap (λ ks. filter_map pick ks) (chain_keys-append v w.nodes (curr ∷ [])));
       })
 
-  -- The loop invariant still holds after the walk has passed a node with a key and has collected the answer (if any)
-  -- for this key.
   pub picked_more : (items : List A) (curr next : ℕ) (met : ChainKey) (answer : Option A) → v.key 0 ≡ 0 → curr ≢ 1
       → next ≡ v.link curr / 2 → met ≡ record { key = v.key curr - 1; marked = v.link curr % 2 == 1 } → answers met answer
       → HasPicked answers v items curr → HasPicked answers v (items ++ option_to_list answer) next
@@ -101,7 +99,6 @@ module _ {A : Type 0} (answers : ChainKey → Option A → Type 0) (v : View) (o
         picked = w.picked;
       }
 
--- The mark of a node is the last bit of its link word.
 pub mark_of_word : (word : ℕ) (mark : Bool) → (IsTrue mark ↔ (word % 2 ≡ 1)) → mark ≡ (word % 2 == 1)
 mark_of_word word true same = let e : word % 2 ≡ 1 = same.0 refl in search rules
 mark_of_word word false same = let e : word % 2 ≢ 1 = λ p. not_true (same.1 p) in search rules

@@ -58,8 +58,6 @@ is_run_opening T op opens =
       locals = none.locals;
     }
 
--- The opening state of a world with these keys is the state of a run without events, if the number of keys agrees with
--- the world's sizes.
 pub is_run_of_keys : (T : Table) (sz : Sizes) (keys : List ℕ) → length keys ≡ sz.opening → IsWithin sz → IsStrictlyIncreasing keys
     → All (λ (k : ℕ). k < 2 ^ 32) keys
     → IsRun T (record { sizes = sz; state = opening (opening_of sz keys) })

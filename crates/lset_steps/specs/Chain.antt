@@ -72,8 +72,8 @@ pub record IsOrdered (v : View) : Type 0 where
   pub next_published : (i : ℕ) → v.published i → i ≢ 1 → v.published (v.link i / 2)
   pub increases : (i : ℕ) → v.published i → i ≢ 1 → v.key i < v.key (v.link i / 2)
 
--- In a list that marks nodes before it unlinks them (`true`), each unmarked published node is in the chain. (A
--- published node has been in the chain at some time.) In any other list, no published node has a mark.
+-- Holds if, in a list that marks nodes before it unlinks them (`true`), each unmarked published node is in the chain.
+-- (A published node has been in the chain at some time.) In any other list, holds if no published node has a mark.
 abbrev pub UnmarkedInChain : Bool → View → Type 0
 UnmarkedInChain true v = (b : ℕ) → v.published b → v.link b % 2 ≡ 0 → InChain v b
 UnmarkedInChain false v = (b : ℕ) → v.published b → v.link b % 2 ≡ 0

@@ -1,5 +1,5 @@
--- The law of a machine, a list set described as a table of steps. Each list of this project proves that it satisfies
--- the law in every run.
+-- The law of a machine. A machine is the algorithm of a list-based set, as a table of steps. Each list of this project
+-- proves that it satisfies the law in every run.
 use Rattle.std.specs.Prelude.{◌≡◌, ◌≢◌, ℕ, suc, ◌+◌, ◌<◌, ◌≤◌, ◌⊎◌, ◌%◌, Bool, false, List, Option, Some, None, slice_index, length}
 use Rattle.lset_words.specs.Words.{lock_index, word_count, node_count, tail_word, target, Sizes, Opening, sizes}
 use Rattle.lset_words.specs.declared.Key.{Key}

@@ -1,5 +1,5 @@
--- [Machine] and [Run]: list sets as tables of steps, the states of a list, and runs. In a run, several threads take
--- single steps.
+-- [Machine] and [Run]: the algorithms of list-based sets as tables of steps, the states of a list, and runs. In a run,
+-- several threads take single steps.
 use Rattle.std.specs.Prelude.{◌≡◌, ◌≢◌, ℕ, ◌<◌, ◌*◌, ◌+◌, ◌-◌, ◌/◌, ◌%◌, nat_lt, Bool, if◌then◌else◌, List, map, length, Option}
 use Rattle.std.specs.Prelude.{None, ◌==◌, slice_index, slice_index_or, slice_set, zero, suc}
 use Rattle.std.specs.List.{range_with_len}
@@ -17,9 +17,9 @@ use Rattle.lset_steps.specs.declared.Told.{Told}
 use Rattle.lset_steps.specs.declared.Event.{Event}
 use Rattle.lset_steps.specs.declared.Event.TheVariants.{Begin, Go}
 
--- A machine: a list set as a table of steps. `begin` returns a thread's state at the start of a call, `next` the
--- thread's next access to a word, `feed` the state and reply after the access, and `effect` the key that the step adds
--- or removes. `marks` is true if the list marks nodes before it unlinks them.
+-- A machine: the algorithm of a list-based set, as a table of steps. `begin` returns a thread's state at the start of a
+-- call, `next` the thread's next access to a word, `feed` the state and reply after the access, and `effect` the key
+-- that the step adds or removes. `marks` is true if the list marks nodes before it unlinks them.
 pub record Table : Type 0 where
   pub marks : Bool
   pub begin : Call → Local → Local

@@ -1,6 +1,6 @@
-//! Laws of every run of every machine (a list as a table of steps), for any number of events: about the chain of nodes,
-//! locks (who can take and release them), marks, changes of keys, and replies. Each law is the contract of a function
-//! that does nothing.
+//! Laws of every run of every machine (a list algorithm as a table of steps), for any number of events: about the chain
+//! of nodes, locks (who can take and release them), marks, changes of keys, and replies. Each law is the contract of an
+//! empty function.
 
 ghost use Rattle.lset_steps.specs.BoundedReads.{BoundedReads, WalkWasInChain};
 ghost use Rattle.lset_steps.specs.Promises.{

@@ -1,5 +1,5 @@
-//! Step machines: list sets described as tables of atomic steps, one row for each step. A world runs a machine event
-//! by event.
+//! Step machines: the algorithms of list-based sets as tables of atomic steps, one row for each step. A world runs a
+//! machine event by event.
 #![tactic(auto)]
 
 ghost use Rattle.std.specs.Prelude.{◌≡◌, ◌+◌, ◌*◌, ◌<◌};
@@ -98,9 +98,9 @@ pub struct Told {
     pub change: Option<(Key, bool)>,
 }
 
-/// A list set as a table of steps. Each function describes one step of one thread. The five lists of this library are
-/// Herlihy and Shavit's algorithms. The argument `seen` is the value that the step loads or stores; for an exchange, it
-/// is the value before the exchange. The exchange succeeds if `seen` is the expected value.
+/// The algorithm of a list-based set, as a table of steps. Each function describes one step of one thread. The five
+/// lists of this library are Herlihy and Shavit's algorithms. The argument `seen` is the value that the step loads or
+/// stores; for an exchange, it is the value before the exchange. The exchange succeeds if `seen` is the expected value.
 pub trait Machine {
     const KIND: Kind;
 
@@ -134,7 +134,7 @@ pub trait Machine {
     ghost lawful: { Lawful table };
 }
 
-/// A list set with a `contains` that takes no lock and writes nothing. Therefore a `contains` never waits for another
+/// A machine with a `contains` that takes no lock and writes nothing. Therefore a `contains` never waits for another
 /// thread (Herlihy and Shavit's wait-free `contains`).
 pub trait OpenReads: Machine {
     /// Returns the maximum number of steps that a `contains` takes, whatever the other threads do. Each step is a load.

@@ -325,7 +325,6 @@ impl<M: Machine> World<M> {
     }
 
     /// Lemma: the state of a world (a list with its threads) satisfies the laws that hold in every state of every run.
-    /// The function does nothing.
     fn keeps_its_laws(&self)
         ensures { StateLaws M.table.marks self.now.sizes self.now.state }
     {
