@@ -17,12 +17,11 @@ pub made_ok : {X Y : Type 0} (f : X → Y) (r : Result X Cause) (y : Y) → made
 made_ok f (Ok x) y e = (x, refl, ok_is (f x) y e)
 made_ok f (Err d) y e = absurd cc
 
--- Two properties of a kind of line. Its form can be read back. Each value made from fields that the version can spell
--- has the property `Good`, and the value's spelling consists of these fields.
+-- Holds if a kind of line has two properties. Its form can be read back. Each value made from fields that the version
+-- can spell has the property `Good`, and the value's spelling consists of these fields.
 abbrev pub Knows : {X : Type 0} → Version → (X → List (List ℕ)) → (X → Type 0) → LineKind X → Type 0
 Knows v pieces Good k = IsForm k.0 × ((t : Told k.0) → AllFit v k.0 t → (spell k.0 t ≡ pieces (k.1 t)) × Good (k.1 t))
 
--- If a value was read from a line, the value has the property `Good`, and its spelling is the line.
 pub first_found : {X : Type 0} (v : Version) (none : Cause) (pieces : X → List (List ℕ)) (Good : X → Type 0)
     (ks : List (LineKind X)) (ps : List (List ℕ)) (x : X)
     → AllByRecursion (Knows v pieces Good) ks → first_of v none ks ps ≡ Ok x → (ps ≡ pieces x) × Good x
@@ -84,8 +83,6 @@ first_made v none pieces Good (k ∷ ks) x known (inl m) =
     ap (first_of v none (k ∷ ks)) (sym spelled) ∙ here ∙ ap Ok m.1
 first_made v none pieces Good (k ∷ ks) x known (inr m) = rw m.0 (first_made v none pieces Good ks x known.1 m.1)
 
--- If `P` holds for every spelling of valid fields, then `P` holds for the spelling of each value that one of the kinds
--- makes.
 made_spells : {X : Type 0} (v : Version) (pieces : X → List (List ℕ)) (Good : X → Type 0) (P : List (List ℕ) → Type 0)
     → ((k : LineKind X) → IsForm k.0 → (t : Told k.0) → AllFit v k.0 t → P (spell k.0 t))
     → (ks : List (LineKind X)) (x : X) → AllByRecursion (Knows v pieces Good) ks → IsMade v pieces ks x → P (pieces x)

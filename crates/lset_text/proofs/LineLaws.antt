@@ -66,7 +66,6 @@ pub starts : {S : Type 0} (g : Grammar S) (first : ℕ) (text : List ℕ) (s : S
     → Stands g first text (lines_from g first s (cut_at 10 text)) first s text
 starts g first text s = record { so_far = refl; above = []; parts = refl; number = omega arith; left = omega arith }
 
--- If the next line is accepted, the loop's invariant also holds after this line.
 pub goes_on : {S : Type 0} (g : Grammar S) (first : ℕ) (text : List ℕ) (read : Result S LineFault) (line : ℕ) (s t : S)
     (rest x after : List ℕ) → cut_at 10 rest ≡ x ∷ cut_at 10 after → length x + length after + 1 ≡ length rest → g.step s x ≡ Ok t
     → Stands g first text read line s rest → Stands g first text read (line + 1) t after
@@ -113,7 +112,6 @@ is_good {S} g first text read line s t rest x after parts is stands =
       rw (← more) (faultless_from g line (line + 1) t (cut_at 10 after) (omega arith)),
     )
 
--- Lemmas about the last line that is read, if it has an error or an allocation failed.
 module _ {S : Type 0} (g : Grammar S) (first : ℕ) (text : List ℕ) (read : Result S LineFault) (line : ℕ) (s : S)
     (rest x after : List ℕ) (parts : cut_at 10 rest ≡ x ∷ cut_at 10 after) (stands : Stands g first text read line s rest)
     (cause : Cause) where
@@ -128,7 +126,6 @@ module _ {S : Type 0} (g : Grammar S) (first : ℕ) (text : List ℕ) (read : Re
   ran_out never (inl is) same = absurd (never (is ∙ ap (λ (c : Cause). Err c) same))
   ran_out never (inr none) same = is_good g first text read line s none.1 rest x after parts none.2 stands
 
--- The loop's next line is the part of the text that follows the lines already read.
 pub line_at : {S : Type 0} (g : Grammar S) (first : ℕ) (text : List ℕ) (read : Result S LineFault) (line : ℕ) (s : S)
     (rest x after : List ℕ) → cut_at 10 rest ≡ x ∷ cut_at 10 after → (stands : Stands g first text read line s rest)
     → get_or (cut_at 10 text) (length stands.above) [] ≡ x
@@ -143,8 +140,6 @@ ended : {S : Type 0} (g : Grammar S) (line : ℕ) (other : Cause) (b : Bool) (s 
 ended g line other true s t e = (refl, map_fault_ok (fault line) (g.ends s) t e)
 ended g line other false s t e = absurd cc
 
--- Suppose that each accepted line preserves `P`, and is appended to the text of the state. Then the lines that were
--- read are the text of the last state, and `P` holds for this state.
 pub lines_hold : {S : Type 0} (g : Grammar S) (P : S → Type 0) (text : S → List (List ℕ))
     → ((s t : S) (x : List ℕ) → P s → g.step s x ≡ Ok t → P t × (text t ≡ text s ++ x ∷ []))
     → ((s t : S) → g.ends s ≡ Ok t → s ≡ t)
@@ -192,7 +187,6 @@ leads_all g P Q one s t [] holds leads = tt
 leads_all g P Q one s t (x ∷ xs) holds leads =
     let moved = one s leads.0 x holds leads.1 in (moved.1, leads_all g P Q one leads.0 t xs moved.0 leads.2)
 
--- If reading the line of one item adds the item to the state, reading the lines of a whole list adds all its items.
 pub items_lead : {S X : Type 0} (g : Grammar S) (state : List X → S) (lines : ℕ → List X → List (List ℕ))
     (line : ℕ → X → List ℕ) → ((n : ℕ) → lines n [] ≡ [])
     → ((n : ℕ) (x : X) (xs : List X) → lines n (x ∷ xs) ≡ line n x ∷ lines (n + 1) xs) → (before xs : List X)

@@ -39,7 +39,6 @@ push_before f a line xs x none = rw (none, map_push line xs x) (simp (append-nil
 
 -- ---- Lemmas about the current section of the reader
 
--- Returns the current section of the reader: `s` if the list of items is still empty, else `t`.
 abbrev pub later : {X T : Type 0} → List X → T → T → T
 later [] s t = s
 later (x ∷ xs) s t = t
@@ -59,7 +58,6 @@ section_leads g state line P most xs few are each =
     items_lead g state (λ n. map line) (λ n. line) (λ n. refl) (λ n x ys. refl) [] xs
     (λ front more x is. each front more x is (omega (arith, shorter front more xs x is, few)) (middle P front more xs x is are))
 
--- Reading the lines of the opening keys adds all these keys to the state. A file of version 1 has no opening keys.
 pub openings_lead : {S : Type 0} (g : Grammar S) (state : List ℕ → S) (v : Version) (o : Opening) → Opens o
     → HasOpening v o.keys
     → ((front : List ℕ) (k : ℕ) → v ≡ Two → length front < MOST_OPENING → k < 2 ^ 32 → is_above front k ≡ true

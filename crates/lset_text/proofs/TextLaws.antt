@@ -52,8 +52,6 @@ good_in_text g bytes rest h line is good =
       subst (IsFaultlessTo line) (sym (text_after g (cut_at 10 bytes) (cut_at 10 rest) h is)) good.2,
     )
 
--- If an allocation fails while the lines after the header are read, the reported line is below the header. Neither this
--- line nor an earlier line has an error.
 pub good_after : {S X : Type 0} (g : TextGrammar S) (bytes rest : List ℕ) (h : Header)
     (r : Result X LineFault) → header_of g.title (cut_at 10 bytes) ≡ Ok (h, cut_at 10 rest)
     → IfErr r (λ e. e.cause ≡ Memory → IsGoodLine first_line (cut_at 10 rest)
@@ -66,8 +64,6 @@ good_after g bytes rest h (Err e) is good = λ m.
 
 -- ---- Proof that reading and writing are inverse
 
--- If reading a file returns a state, the file is the text of this state. If, in addition, `P` holds for the header's
--- start state and each line preserves `P`, then `P` holds for the returned state.
 pub text_found : {S : Type 0} (g : TextGrammar S) (P : S → Type 0) (text : S → List (List ℕ))
     → ((h : Header) → IsHeader h → P (g.start h) × (text (g.start h) ≡ header_lines g.title h))
     → ((s t : S) (x : List ℕ) → P s → g.lines.step s x ≡ Ok t → P t × (text t ≡ text s ++ x ∷ []))
@@ -92,8 +88,6 @@ some_first : (ls : List (List ℕ)) → (y : List ℕ) × (more : List (List ℕ
 some_first [] = ([], [], refl)
 some_first (l ∷ ls) = (l, ls ++ [] ∷ [], refl)
 
--- If some lines lead from the header's start state to a possible last state, reading the header and these lines
--- returns the last state.
 pub text_again : {S : Type 0} (g : TextGrammar S) (P : S → Type 0)
     → ((s t : S) (x : List ℕ) → P s → g.lines.step s x ≡ Ok t → P t × Lacks 10 x)
     → (h : Header) (xs : List (List ℕ)) (t : S) → Lacks 10 g.title → IsHeader h → P (g.start h)
@@ -112,8 +106,6 @@ text_again g P free h xs t title_free is start leads at_end =
           ∙ lines_again g.lines first_line (g.start h) t xs leads at_end,
     )
 
--- If a file was written in a version of its format, it is read in this version, since its first line is the title of
--- the version.
 pub version_again : {S : Type 0} (g : Version → TextGrammar S) → bytes_eq (g One).title (g Two).title ≡ false
     → (v : Version) (h : Header) (rest : List (List ℕ)) → version_in (g Two).title (header_lines (g v).title h ++ rest) ≡ v
 version_again g other One h rest = rw other refl

@@ -37,7 +37,6 @@ some_is a b e = cc
 no_word : {A : Type 0} (k : A) → None ≡ Some k → ⊥
 no_word k e = cc
 
--- A value that is read from a field is one of the given values, and the field is the value's text.
 pub value_ok : {A : Type 0} (text : A → List ℕ) (P : A → Type 0) (values : List A) (piece : List ℕ) (x : A)
     → AllByRecursion P values → value_of text values piece ≡ Some x → (piece ≡ text x) × P x
 value_ok text P [] piece x all is = absurd cc
@@ -129,7 +128,6 @@ at_ok piece r is = by_number (number_in 0 max_number (drop 3 piece)) refl (test_
           it,
         )
 
--- Proof by cases: the reply contains a number, or it does not.
 either : (piece : List ℕ) (r : Reply) (o : Option Reply) → reply_of (plain_in Two) piece ≡ o
     → option_or o (at_number piece) ≡ Some r → ReadFrom Two r piece (is_some o || begins_at piece)
 either piece r None e is = at_ok piece r is

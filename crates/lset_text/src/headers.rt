@@ -108,7 +108,7 @@ pub fn read_header<'a>(title: &[u8], text: &'a [u8]) -> Result<(Header, &'a [u8]
     header_due(title, text)
 }
 
-/// Lemma: reading the text of a header returns this header, whatever text follows. The function does nothing.
+/// Lemma: reading the text of a header returns this header, whatever text follows.
 #[tactic(auto, using(crate::proofs::HeaderLaws::header_from_text))]
 pub fn headers_read_back()
     ensures { HeadersReadBack }

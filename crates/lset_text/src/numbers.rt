@@ -58,8 +58,7 @@ pub fn long_number(piece: &[u8], low: u64, high: u64) -> Option<u64>
     Some(value)
 }
 
-/// Lemma: a field is read as a number if and only if it is the decimal numeral of this number. The function does
-/// nothing.
+/// Lemma: a field is read as a number if and only if it is the decimal numeral of this number.
 pub fn numbers_read_back()
     ensures { NumbersReadBack }
 {}

@@ -187,7 +187,7 @@ pub fn is_reply(version: Version, piece: &[u8]) -> bool
 }
 
 /// Lemma: reading inverts writing for the names of list kinds and calls, and for replies. Each name or reply is read
-/// from its own text and from no other text. The function does nothing.
+/// from its own text and from no other text.
 pub fn words_read_back()
     ensures kinds { KindsReadBack }
     ensures calls { CallsReadBack }
