@@ -13,8 +13,6 @@ few_nodes threads quota opening few small opens =
 pub nodes_within : (s : Sizes) → IsWithin s → node_count s ≤ MOST_NODES
 nodes_within s w = few_nodes s.threads s.quota s.opening w.few w.small w.opens
 
--- Different slots (nodes that successful adds use up) are different nodes: if slot `i` of thread `t` and slot `j` of
--- thread `u` have the same number, then `t` equals `u`, and `i` equals `j`.
 pub row_once : (quota t u i j : ℕ) → i < quota → j < quota → t * quota + i ≡ u * quota + j → (t ≡ u) × (i ≡ j)
 row_once quota t u i j a b e =
     let row : t ≡ u = grind arith in

@@ -74,7 +74,6 @@ increases_after x (y ∷ ys) h =
           subst (λ n. get_or (y ∷ ys) k 0 < get_or (x ∷ (y ∷ ys)) n 0) e (h (suc k) (omega arith))),
     )
 
--- `IncreasesFrom` is equivalent to `IsStrictlyIncreasing` of the standard library.
 pub increases_from_increasing : (xs : List ℕ) → IsStrictlyIncreasing xs → IncreasesFrom 0 xs
 increases_from_increasing [] h = tt
 increases_from_increasing (x ∷ xs) h = (omega arith, increases_after x xs h)

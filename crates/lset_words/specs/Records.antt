@@ -1,6 +1,5 @@
--- The [Record] of a seat (the right to call the set as one thread): the thread, its own calls with their replies, and
--- the records of the seats that were merged into it (gathered). `Keeps` defines when an order of calls agrees with a
--- record.
+-- The [Record] of a seat (per-thread handle): the thread, its own calls with their replies, and the records of the
+-- seats that were merged into it (gathered). `Keeps` defines when an order of calls agrees with a record.
 use Rattle.std.specs.Prelude.{◌≡◌, ℕ, ◌==◌, ◌⊎◌, List, [], ◌∷◌, ◌++◌, filter, map}
 use Rattle.lset_words.specs.declared.Call.{Call}
 use Rattle.lset_words.specs.declared.Reply.{Reply}
@@ -11,9 +10,8 @@ pub record CallMade : Type 0 where
   pub call : Call
   pub reply : Reply
 
--- The record of a seat (the right to call the set as one thread). `fresh` is the record of a thread without calls.
--- `called` appends a call that the thread made itself. `gathered` appends the record of a seat that was merged into
--- this one.
+-- The record of a seat (per-thread handle). `fresh` is the record of a thread without calls. `called` appends a call
+-- that the thread made itself. `gathered` appends the record of a seat that was merged into this one.
 pub data Record : Type 0 where
   fresh : ℕ → Record
   called : Record → CallMade → Record

@@ -10,8 +10,8 @@ use Rattle.lset_words.specs.declared.Call.TheVariants.{Add, Remove, Contains, Ce
 use Rattle.lset_words.specs.declared.layout_fault.LayoutFault.{LayoutFault}
 use Rattle.lset_words.specs.declared.layout_fault.LayoutFault.TheVariants as fault
 
--- The sizes of a list: the number of threads, the quota (the number of slots of each thread, which are nodes for its
--- adds), and the number of opening keys.
+-- The sizes of a list: the number of threads, the quota (the maximum number of successful adds of each thread), and the
+-- number of opening keys.
 pub record Sizes : Type 0 where
   pub threads : ℕ
   pub quota : ℕ
@@ -24,8 +24,8 @@ pub record IsWithin (s : Sizes) : Type 0 where
   pub small : s.quota ≤ MOST_QUOTA
   pub opens : s.opening ≤ MOST_OPENING
 
--- The parameters of a set when it opens: the number of threads, the quota (the number of slots of each thread, which
--- are nodes for its adds), and the opening keys.
+-- The parameters of a set when it opens: the number of threads, the quota (the maximum number of successful adds of
+-- each thread), and the opening keys.
 pub record Opening : Type 0 where
   pub threads : ℕ
   pub quota : ℕ
@@ -104,7 +104,7 @@ WordsApart = (i j : ℕ)
     × (key_index i ≢ link_index j) × (key_index i ≢ lock_index j) × (link_index i ≢ lock_index j)
     × (i ≢ j → (key_index i ≢ key_index j) × (link_index i ≢ link_index j) × (lock_index i ≢ lock_index j))
 
--- Different slots (nodes that adds use up) are different nodes, and no slot is the head or the tail.
+-- Different slots are different nodes, and no slot is the head or the tail.
 abbrev pub SlotsApart : Type 0
 SlotsApart = (quota t u i j : ℕ) → i < quota → j < quota
     → (1 < slot_node quota t i) × (slot_node quota t i ≡ slot_node quota u j → (t ≡ u) × (i ≡ j))

@@ -159,7 +159,7 @@ pub fn increases(keys: &[u32]) -> bool
     true
 }
 
-/// Lemma: each of the keys is below `2^32`. The function does nothing.
+/// Lemma: each of the keys is below `2^32`.
 pub fn keys_are_small(keys: &[u32])
     ensures { All (λ k. k < 2 ^ 32) keys.now }
 {

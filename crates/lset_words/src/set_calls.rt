@@ -5,19 +5,19 @@ ghost use Rattle.lset_words.specs.Records.{Record, called};
 use crate::{Call, Reply};
 use std::sync::Wait;
 
-/// A set that several threads can call. A thread calls the set through a seat, which is the right to call the set as
-/// one thread. The function `session` serves any set that implements this trait.
+/// A set that several threads can call. Each thread calls the set through its own seat, a per-thread handle. The
+/// function `session` serves any set that implements this trait.
 pub trait SetCalls {
     type Seat;
 
-    /// The seat (the right to call the set as one thread) belongs to this set.
+    /// Holds if the seat (per-thread handle) belongs to this set.
     ghost is_of: { Self → Self.Seat → Type 0 };
 
-    /// Returns the record of a seat (the right to call the set as one thread): its calls with their replies.
+    /// Returns the record of a seat (per-thread handle): its calls with their replies.
     ghost record_of: { Self.Seat → Record };
 
-    /// Returns the number of seats (rights to call the set as one thread) that this seat contains: itself, and the
-    /// seats that were merged into it.
+    /// Returns the number of seats (per-thread handles) that this seat contains: itself, and the seats that were merged
+    /// into it.
     ghost held_by: { Self.Seat → ℕ };
 
     /// Executes `call` for the thread of `seat`, which must belong to this set, and returns the reply. Appends the call
