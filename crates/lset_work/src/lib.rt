@@ -1,5 +1,5 @@
-//! Runs programs of calls on a running set at the same time, one program and one thread for each seat. A seat is the
-//! right to call the set as one thread.
+//! Runs programs of calls on a running set at the same time, one program and one thread for each seat. A seat is a
+//! per-thread handle: one thread calls the set through it.
 #![tactic(auto)]
 
 mod gate;

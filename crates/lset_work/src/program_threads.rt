@@ -12,16 +12,16 @@ use std::snapshot::Snapshot;
 use std::sync::Wait;
 use std::thread::{Promise, PromisedHandle, Scope, Threads};
 
-/// The result of a thread: its seat (the right to call the set as one thread), and the replies to the calls of its
-/// program, or `None` if the gate (which decides before each call whether to make it) has stopped the program.
+/// The result of a thread: its seat (per-thread handle), and the replies to the calls of its program, or `None` if the
+/// gate (a callback that permits or refuses each call) has stopped the program.
 #[derive(Drop)]
 pub(crate) struct Done<M: Running> {
     pub seat: Seat<M>,
     pub replies: Option<Vec<Reply>>,
 }
 
-/// The promise of a thread in contracts: it makes the calls of its program on its seat, unless the gate (which decides
-/// before each call whether to make it) stops the program.
+/// The promise of a thread in contracts: it makes the calls of its program on its seat, unless the gate (a callback
+/// that permits or refuses each call) stops the program.
 #[derive(Drop)]
 pub(crate) struct WorkerPromise<M: Running, G: Gate> {
     pub set: Snapshot<LiveSet<M>>,
@@ -40,8 +40,8 @@ impl<M: Running, G: Gate> Promise<Done<M>> for WorkerPromise<M, G> {
 /// A started thread that runs a program.
 pub(crate) type Worker<M, G> = PromisedHandle<Done<M>, WorkerPromise<M, G>>;
 
-/// Makes the calls of a program until the gate (which decides before each call whether to make it) stops the program,
-/// and appends the replies. Returns whether all calls were made.
+/// Makes the calls of a program until the gate (a callback that permits or refuses each call) stops the program, and
+/// appends the replies. Returns whether all calls were made.
 fn make_calls<R: Wait, M: Running, G: Gate>(
     rt: &R,
     set: &LiveSet<M>,
@@ -96,8 +96,8 @@ fn run_program<R: Wait, M: Running, G: Gate>(
     }
 }
 
-/// The values that all threads share: the set, the gate (which decides before each call whether to make it), and the
-/// runtime that they use to wait.
+/// The values that all threads share: the set, the gate (a callback that permits or refuses each call), and the runtime
+/// that they use to wait.
 #[derive(Drop)]
 pub(crate) struct Shared<'s, R, M: Running, G: Gate> {
     pub rt: &'s R,
@@ -163,16 +163,15 @@ impl<'s, R: Wait + Sync, M: Running + Send + Sync, G: Gate + Sync> Shared<'s, R,
     }
 }
 
-/// The replies of all programs, and the seat (the right to call the set as one thread) that results from merging all
-/// seats.
+/// The replies of all programs, and the seat (per-thread handle) that results from merging all seats.
 #[derive(Drop)]
 pub(crate) struct Gathered<M: Running> {
     pub seat: Option<Seat<M>>,
     pub replies: Vec<Vec<Reply>>,
 }
 
-/// Waits for the threads to end and merges their seats into one. Returns `None` if the gate (which decides before each
-/// call whether to make it) has stopped a program.
+/// Waits for the threads to end and merges their seats into one. Returns `None` if the gate (a callback that permits or
+/// refuses each call) has stopped a program.
 pub(crate) fn join_all<R: Threads, M: Running, G: Gate>(
     rt: &R,
     set: &LiveSet<M>,

@@ -12,8 +12,8 @@ pub enum WorkCause {
     /// The system refused to start a thread. The threads that had been started have ended.
     #[error("the system refused to start a thread")]
     Spawn,
-    /// The gate (which decides before each call whether to make it) stopped a program: it returned false, and no
-    /// further call of this program was made. All threads have ended.
+    /// The gate (a callback that permits or refuses each call) stopped a program: it returned false, and no further
+    /// call of this program was made. All threads have ended.
     #[error("the gate returned false")]
     Gate,
     /// An allocation failed. No thread was started.
@@ -22,7 +22,7 @@ pub enum WorkCause {
 }
 
 /// The error of `work`. After `Programs` and `Memory`, no thread was started, and `back` contains the set and the seats
-/// (a seat is the right to call the set as one thread), unchanged. After the other causes, `back` is `None`.
+/// (a seat is a per-thread handle to the set), unchanged. After the other causes, `back` is `None`.
 #[derive(Drop, Error)]
 #[error("{cause}")]
 pub struct WorkFault<M: Running> {

@@ -1,5 +1,5 @@
-//! Runs programs of calls on the seats of a running set, all at the same time. A seat is the right to call the set as
-//! one thread.
+//! Runs programs of calls on the seats of a running set, all at the same time. A seat is a per-thread handle: one
+//! thread calls the set through it.
 ghost use Rattle.std.specs.Prelude.{◌≡◌, ◌<◌, ◌^◌, ◌↔◌, IfOk, IfErr, IsOk, MatchResult, All, map, length, true};
 ghost use Rattle.lset_live.specs.Explained.{IsOneLegalOrder};
 ghost use Rattle.lset_work.specs.Programs.{Fit, GivesBack, HaveRun, IsOfThreads, IsWorkInTime, worked};
@@ -18,7 +18,7 @@ use std::thread::{Scope, Threads};
 /// The outcome of `work`.
 #[derive(Drop)]
 pub struct Outcome {
-    /// The replies to the calls of each program, in the order of the seats (rights to call the set as one thread).
+    /// The replies to the calls of each program, in the order of the seats (per-thread handles).
     pub replies: Vec<Vec<Reply>>,
     /// The final keys of the set, in increasing order.
     pub keys: Vec<u32>,
@@ -121,7 +121,7 @@ pub fn work<R: Threads + Wait + Sync, M: Running + Send + Sync, G: Gate + Sync>(
     ensures fitting { IsOk result → Fit set seats.items (length programs.items) }
     ensures refused { IfErr result (λ f. f.cause ≡ WorkCause.Programs ↔ ¬ (Fit set seats.items (length programs.items))) }
     ensures back { IfErr result (λ f. GivesBack (set, seats) f.cause f.back) }
-    // If the gate (which decides before each call whether to make it) never returns false, no program stops early.
+    // If the gate (a callback that permits or refuses each call) never returns false, no program stops early.
     ensures gate { IfErr result (λ f. f.cause ≡ WorkCause.Gate → G.may_shut gate.now ≡ true) }
 {
     if programs.len() != seats.len() || !set.is_held_by(&seats) {
