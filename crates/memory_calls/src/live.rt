@@ -1,5 +1,5 @@
 //! Makes all calls of sets in threads, from opening a set to reading its final keys, on each of the five lists. A seat
-//! is the right to call a set as one thread.
+//! is a per-thread handle: one thread calls the set through it.
 
 use crate::prelude::*;
 use lset_coarse::CoarseList;
@@ -143,7 +143,7 @@ fn answer_session<M: Running, R: Wait>(
     check(written.as_slice() == b"TRUE\nFALSE\nTRUE\nBAD\nTRUE\nBYE\n".as_slice())
 }
 
-/// Merges both seats (rights to call the set as one thread) into one and closes the set.
+/// Merges both seats (per-thread handles) into one and closes the set.
 fn gather_and_close<M: Running>(
     alloc: Global,
     calls: &mut Calls,
@@ -161,7 +161,7 @@ fn gather_and_close<M: Running>(
     check(keys.as_slice() == [1, 2, 4, 5, 6].as_slice())
 }
 
-/// Opens a set, makes calls from both of its seats (rights to call the set as one thread), and closes the set.
+/// Opens a set, makes calls from both of its seats (per-thread handles), and closes the set.
 fn running_set<M: Running, R: Wait>(rt: &R, alloc: Global, calls: &mut Calls) -> Result<()> {
     let (set, mut zero, mut one) = opened::<M>(alloc, calls)?;
     change_and_look(rt, alloc, calls, &set, &mut zero)?;

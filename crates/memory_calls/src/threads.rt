@@ -7,8 +7,7 @@ use lset_work::{Always, Outcome, WorkCause, WorkFault, work};
 use std::io::{self, Read, Write};
 use std::net::Shutdown;
 
-/// Opens a set and returns it with its seats (rights to call the set as one thread). Repeats the attempt if the first
-/// one fails.
+/// Opens a set and returns it with its seats (per-thread handles). Repeats the attempt if the first one fails.
 fn open_seats(
     alloc: Global,
     calls: &mut Calls,
@@ -36,8 +35,8 @@ fn two_programs(alloc: Global) -> Result<Vec<Vec<Call>>, AllocError> {
     Ok(programs)
 }
 
-/// Records why `work` failed. Returns the set and the seats (rights to call the set as one thread) that `work` returned
-/// with its error, or a new set and its seats.
+/// Records why `work` failed. Returns the set and the seats (per-thread handles) that `work` returned with its error,
+/// or a new set and its seats.
 fn after_refusal(
     alloc: Global,
     calls: &mut Calls,
