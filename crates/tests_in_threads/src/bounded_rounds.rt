@@ -55,8 +55,8 @@ fn contains_of_a_marking_list_ignores_the_bound(rt: HostRuntime) {
     walks_on::<LockFreeList, HostRuntime>(&rt, rt.alloc());
 }
 
-/// Returns a set and one of its two seats (rights to call the set as one thread). A call from the other seat ran out of
-/// rounds and still holds its locks.
+/// Returns a set and one of its two seats (per-thread handles). A call from the other seat ran out of rounds and still
+/// holds its locks.
 fn stuck<M: Bounded, R: Abort>(rt: &R, alloc: Global) -> (LiveSet<M>, Seat<M>) {
     let (set, zero, one) = two_seats_on::<M, R>(rt, alloc, &KEYS);
     let made = set.call_within::<Spin, UpTo<2>>(one, Call::Add(Key(25)), &Spin::new());

@@ -10,8 +10,8 @@ pub fn last_of<M: Machine, R: Abort>(
     seats.pop().expect(rt, "no seat is left")
 }
 
-/// Opens a set that contains `keys` for two threads. Returns the set and the seats 0 and 1 (a seat is the right to call
-/// as one thread). Each seat can add 4 keys.
+/// Opens a set that contains `keys` for two threads. Returns the set and the seats 0 and 1 (a seat is a per-thread
+/// handle to the set). Each seat can add 4 keys.
 pub fn two_seats_on<M: Machine, R: Abort>(
     rt: &R,
     alloc: Global,
@@ -50,7 +50,7 @@ pub fn make_calls<M: Running, R: Host>(
     }
 }
 
-/// Merges all seats (rights to call the set as one thread) into one seat. Returns `None` if `seats` is empty.
+/// Merges all seats (per-thread handles) into one seat. Returns `None` if `seats` is empty.
 pub fn gathered<M: Machine>(set: &LiveSet<M>, mut seats: Vec<Seat<M>>) -> Option<Seat<M>> {
     let mut all = None;
     while let Some(seat) = seats.pop() {

@@ -51,8 +51,8 @@ impl Pause for Count {
     }
 }
 
-/// Makes calls one after another from seat 1 of an empty set (the right to call the set as thread 1), and asserts the
-/// reply and the number of steps of each call.
+/// Makes calls one after another from seat 1 of an empty set (the handle of thread 1), and asserts the reply and the
+/// number of steps of each call.
 fn makes_steps<M: Running, R: Host>(rt: &R, alloc: Global, rows: &[(Call, Reply)], steps: &[u64]) {
     let (set, _zero, mut one) = two_seats::<M, R>(rt, alloc);
     assert!(rt; rows.len() == steps.len());

@@ -1,5 +1,5 @@
-//! Tests of programs in threads, and of the gates that can stop a program before a call. Each program runs on a seat:
-//! the right to call the set as one thread.
+//! Tests of programs in threads, and of the gates that can stop a program before a call. Each program runs on a seat, a
+//! per-thread handle to the set.
 
 use crate::meeting::Meeting;
 use crate::opened::{last_of, make_calls, two_seats};
@@ -29,7 +29,7 @@ fn in_a_row<M: Running, R: Abort>(rt: &R, alloc: Global, seats: u32) -> (LiveSet
     open::<M>(alloc, seats, 4).expect(rt, "not opened")
 }
 
-/// Runs these programs on a set with two seats (rights to call the set as one thread) and returns the error of `work`.
+/// Runs these programs on a set with two seats (per-thread handles) and returns the error of `work`.
 fn fault_of<R: Host, G: Gate + Sync>(
     rt: &R,
     alloc: Global,
@@ -81,8 +81,8 @@ fn two_programs_return_their_replies_and_the_final_key(rt: HostRuntime) {
     at_each_list!(answers, rt);
 }
 
-/// Asserts that `work` failed because the number of programs differs from the number of seats (rights to call the set).
-/// The error must return the set, which has two seats, and all `seats` seats that `work` received.
+/// Asserts that `work` failed because the number of programs differs from the number of seats (per-thread handles). The
+/// error must return the set, which has two seats, and all `seats` seats that `work` received.
 fn gave_all_back<R: Abort>(rt: &R, fault: WorkFault<LazyList>, seats: usize) {
     assert!(rt; fault.cause == WorkCause::Programs);
     let (set, back) = fault.back.expect(rt, "nothing came back");
@@ -143,8 +143,8 @@ fn a_program_can_be_empty(rt: HostRuntime) {
     assert!(rt; are_as_wanted(&outcome, &[&[Reply::True], &[]], &[5]));
 }
 
-/// A gate that refuses one call of one seat (the right to call the set as one thread). `counts` has how often the gate
-/// was asked: an entry for each of the first three calls of the seats 0 to 2, and one entry for all other calls.
+/// A gate that refuses one call of one seat (per-thread handle). `counts` has how often the gate was asked: an entry
+/// for each of the first three calls of the seats 0 to 2, and one entry for all other calls.
 #[derive(Drop)]
 struct Shut {
     seat: u32,
@@ -161,8 +161,7 @@ impl Shut {
         }
     }
 
-    /// Returns `true` if the gate (which decides before each call whether to make it) was asked as often as `wanted`
-    /// states.
+    /// Returns `true` if the gate (a callback that permits or refuses each call) was asked as often as `wanted` states.
     fn was_asked(&self, wanted: &[u32]) -> bool {
         self.counts
             .iter()
@@ -204,8 +203,8 @@ fn a_gate_that_refuses_a_call_ends_only_its_program(rt: HostRuntime) {
     }
 }
 
-/// Opens a set with three seats (rights to call the set as one thread), and merges seat 1 into seat 2. Returns the set,
-/// and the seats 2 and 0, in this order.
+/// Opens a set with three seats (per-thread handles), and merges seat 1 into seat 2. Returns the set, and the seats 2
+/// and 0, in this order.
 fn two_before_zero<M: Running, R: Abort>(rt: &R, alloc: Global) -> (LiveSet<M>, Vec<Seat<M>>) {
     let (set, mut seats) = in_a_row::<M, R>(rt, alloc, 3);
     let mut two = last_of(rt, &set, &mut seats);
@@ -216,8 +215,8 @@ fn two_before_zero<M: Running, R: Abort>(rt: &R, alloc: Global) -> (LiveSet<M>, 
     (set, seats)
 }
 
-/// Tests that the gate (which decides before each call whether to make it) receives the thread number of each seat, and
-/// that the replies are in the order of the seats.
+/// Tests that the gate (a callback that permits or refuses each call) receives the thread number of each seat, and that
+/// the replies are in the order of the seats.
 #[test]
 fn seats_work_in_any_order(rt: HostRuntime) {
     let (set, seats) = two_before_zero::<LazyList, HostRuntime>(&rt, rt.alloc());
@@ -233,8 +232,7 @@ fn seats_work_in_any_order(rt: HostRuntime) {
     assert!(rt; are_as_wanted(&outcome, &[&[Reply::True], &[Reply::False]], &[2]));
 }
 
-/// Returns a program of two adds for each seat (the right to call the set as one thread). Different programs add
-/// different keys.
+/// Returns a program of two adds for each seat (per-thread handle). Different programs add different keys.
 fn two_adds_each<R: Abort>(rt: &R, alloc: Global, seats: u32) -> Vec<Vec<Call>> {
     let mut programs = Vec::new(alloc);
     for seat in 0..seats {

@@ -1,5 +1,5 @@
-//! Tests of sets that open with the final keys of a closed set. The new set has a different number of seats (rights to
-//! call as one thread), a different quota or a different kind of list.
+//! Tests of sets that open with the final keys of a closed set. The new set has a different number of seats (per-thread
+//! handles), a different quota or a different kind of list.
 
 use crate::opened::{close_with, gathered, increasing_keys, keys_left, last_of, make_calls};
 use crate::prelude::*;
@@ -12,8 +12,8 @@ const CALLS_ON_A_KEY: [(Call, Reply); 3] = [
     (Call::Remove(Key(9)), Reply::True),
 ];
 
-/// Opens a set with three seats (rights to call the set as one thread) and the key 9. The set cannot add keys. Asserts
-/// that the opening key can be removed like any other key.
+/// Opens a set with three seats (per-thread handles) and the key 9. The set cannot add keys. Asserts that the opening
+/// key can be removed like any other key.
 fn opens_with_a_key<M: Running, R: Host>(rt: &R, alloc: Global) {
     let (set, mut seats) = open_with::<M>(alloc, 3, 0, &[9]).expect(rt, "not opened");
     let mut last = last_of(rt, &set, &mut seats);
@@ -52,8 +52,7 @@ fn the_smallest_and_the_largest_key_can_be_opening_keys(rt: HostRuntime) {
     at_each_list!(keeps_its_keys, rt);
 }
 
-/// A number of seats (rights to call the set as one thread), a quota and opening keys, and the error that `open_with`
-/// returns for them.
+/// A number of seats (per-thread handles), a quota and opening keys, and the error that `open_with` returns for them.
 const REFUSED: [(u32, u32, [u32; 2], OpenFault); 4] = [
     (0, 16_385, [5, 5], OpenFault::Seats),
     (1, 16_385, [5, 5], OpenFault::Quota),
@@ -87,7 +86,7 @@ fn life<R: Host>(
     }
 }
 
-/// Each kind of list, with a number of seats (rights to call the set as one thread) and a quota.
+/// Each kind of list, with a number of seats (per-thread handles) and a quota.
 const LIVES: [(Kind, u32, u32); 5] = [
     (Kind::Coarse, 6, 40),
     (Kind::Fine, 4, 30),

@@ -1,5 +1,5 @@
-//! Tests of seats (a seat is the right to call a set as one thread): seats call one after another or at the same time,
-//! are gathered, pass receipts (records of the events that they have seen), and close the set.
+//! Tests of seats (per-thread handles): seats call one after another or at the same time, are gathered, pass receipts
+//! (records of the events that they have seen), and close the set.
 
 use crate::meeting::{Meeting, calls};
 use crate::opened::{close_with, make_calls, two_seats, two_seats_on};
@@ -8,15 +8,15 @@ use lset_live::Receipt;
 use lset_rule::TableSeat;
 use std::mem::size_of;
 
-/// The calls of one seat (the right to call the set as one thread) on key 9, and their replies.
+/// The calls of one seat (per-thread handle) on key 9, and their replies.
 pub const ADDS: [(Call, Reply); 1] = [(Call::Add(Key(9)), Reply::True)];
 
 pub const FINDS: [(Call, Reply); 1] = [(Call::Contains(Key(9)), Reply::True)];
 
 const FINDS_NOTHING: [(Call, Reply); 1] = [(Call::Contains(Key(9)), Reply::False)];
 
-/// A number of seats (rights to call the set as one thread), a quota, and the error that `open` returns for them
-/// (`None` if `open` returns a set).
+/// A number of seats (per-thread handles), a quota, and the error that `open` returns for them (`None` if `open`
+/// returns a set).
 const LIMITS: [(u32, u32, Option<OpenFault>); 5] = [
     (0, 4, Some(OpenFault::Seats)),
     (65, 4, Some(OpenFault::Seats)),
@@ -33,8 +33,8 @@ fn open_refuses_seats_and_then_a_quota_outside_their_limits(rt: HostRuntime) {
     }
 }
 
-/// Merges seat 1 into seat 0 (rights to call the set as one thread), finds the key 9, and closes the set. Asserts that
-/// 9 is the only final key.
+/// Merges seat 1 into seat 0 (per-thread handles), finds the key 9, and closes the set. Asserts that 9 is the only
+/// final key.
 fn gathers_and_closes<M: Running, R: Host>(
     rt: &R,
     set: LiveSet<M>,
@@ -92,9 +92,8 @@ fn close_with_a_missing_seat_returns_set_and_seat(rt: HostRuntime) {
     at_each_list!(comes_back, rt);
 }
 
-/// Copies a receipt (the events that a seat, the right to call the set as one thread, has seen) three times. Of the
-/// four receipts, one is dropped, one is passed to the other seat, one is passed to the seat that issued it, and one
-/// still exists when the set is closed.
+/// Copies a receipt (the events that a seat has seen) three times. Of the four receipts, one is dropped, one is passed
+/// to the other seat, one is passed to the seat that issued it, and one still exists when the set is closed.
 fn are_passed_on<M: Running, R: Host>(rt: &R, alloc: Global) {
     let (set, mut zero, mut one) = two_seats::<M, R>(rt, alloc);
     make_calls(rt, &set, &mut one, &ADDS);
@@ -114,8 +113,8 @@ fn receipts_can_be_copied_dropped_and_taken(rt: HostRuntime) {
     at_each_list!(are_passed_on, rt);
 }
 
-/// Asserts that passing an old receipt to a seat (the right to call the set as one thread) has no effect. A receipt
-/// contains only the events that its seat had seen when it issued the receipt.
+/// Asserts that passing an old receipt to a seat (per-thread handle) has no effect. A receipt contains only the events
+/// that its seat had seen when it issued the receipt.
 fn may_be_old<M: Running, R: Host>(rt: &R, alloc: Global) {
     let (set, mut zero, mut one) = two_seats::<M, R>(rt, alloc);
     let early = set.receipt(&mut zero);
@@ -139,8 +138,8 @@ fn a_receipt_has_no_bytes(rt: HostRuntime) {
     assert!(rt; size_of::<TableSeat>() == 0);
 }
 
-/// Two calls at the same time, from seat 0 and from seat 1 (rights to call the set as one thread), for each operation.
-/// The set contains the keys 3 and 4.
+/// Two calls at the same time, from seat 0 and from seat 1 (per-thread handles), for each operation. The set contains
+/// the keys 3 and 4.
 const OF_EACH_KIND: [(Call, Call); 4] = [
     (Call::Add(Key(1)), Call::Add(Key(2))),
     (Call::Remove(Key(3)), Call::Remove(Key(4))),

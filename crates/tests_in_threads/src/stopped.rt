@@ -1,6 +1,6 @@
-//! Tests of two calls at the same time, from two seats (rights to call the set as one thread). One call stops between
-//! two of its steps until the other call has ended or waits. Each case runs twice: with the loops of the list, and with
-//! the interpreter of its step table.
+//! Tests of two calls at the same time, from two seats (per-thread handles). One call stops between two of its steps
+//! until the other call has ended or waits. Each case runs twice: with the loops of the list, and with the interpreter
+//! of its step table.
 
 use crate::meeting::{calls, comes};
 use crate::opened::two_seats_on;
@@ -143,8 +143,8 @@ fn both_call<M: Running + Send + Sync, R: Host>(
     )
 }
 
-/// A call from one seat (the right to call the set as one thread), the number of the step that it stops after (counted
-/// from 0), its reply, the number of its steps before the reply, and how many of these steps failed.
+/// A call from one seat (per-thread handle), the number of the step that it stops after (counted from 0), its reply,
+/// the number of its steps before the reply, and how many of these steps failed.
 type Part = (Call, u64, Reply, u64, u64);
 
 fn is_as_told<M: Running + Send + Sync, R: Host>(
@@ -259,8 +259,8 @@ fn a_ceiling_misses_a_key_added_before_its_position(rt: HostRuntime) {
     both_are::<LockFreeList, HostRuntime>(&rt, rt.alloc(), &[9], both);
 }
 
-/// Asserts that seat 0 attempts at least three times to acquire a lock that seat 1 holds. (A seat is the right to call
-/// as one thread.) Seat 1 acquires this lock (the lock of the list or of its head) in step number `locks_at`.
+/// Asserts that seat 0 attempts at least three times to acquire a lock that seat 1 holds. (A seat is a thread's handle
+/// to the set.) Seat 1 acquires this lock (the lock of the list or of its head) in step number `locks_at`.
 fn waits_at_a_lock<M: Running + Send + Sync, R: Host>(rt: &R, alloc: Global, locks_at: u64) {
     let (set, zero, one) = two_seats_on::<M, R>(rt, alloc, &[]);
     let stopping = Stopping::new(rt, NEVER, locks_at);
@@ -278,8 +278,8 @@ fn a_call_waits_for_a_lock_that_another_seat_holds(rt: HostRuntime) {
     waits_at_a_lock::<LazyList, HostRuntime>(&rt, rt.alloc(), 2);
 }
 
-/// Waits until the call of the other seat (the right to call the set as one thread) has been stopped. Then looks for
-/// the key 10 with both `contains` functions, and for the first key above 10. Returns the replies.
+/// Waits until the call of the other seat (per-thread handle) has been stopped. Then looks for the key 10 with both
+/// `contains` functions, and for the first key above 10. Returns the replies.
 fn reads<M: RunningReads, R: Clock + Wait>(
     rt: &R,
     set: &LiveSet<M>,
@@ -294,8 +294,8 @@ fn reads<M: RunningReads, R: Clock + Wait>(
     (looked, asked, sought)
 }
 
-/// Removes the key 10 with a call from seat 1 (the right to call the set as one thread), and stops this call after step
-/// `stops_at` until seat 0 has looked for the key 10. The set also contains 20. Returns the replies.
+/// Removes the key 10 with a call from seat 1 (per-thread handle), and stops this call after step `stops_at` until seat
+/// 0 has looked for the key 10. The set also contains 20. Returns the replies.
 fn reads_beside<M: RunningReads + Send + Sync, R: Host>(
     rt: &R,
     alloc: Global,
@@ -315,8 +315,8 @@ fn reads_beside<M: RunningReads + Send + Sync, R: Host>(
     found
 }
 
-/// Asserts that seat 0 (the right to call the set as one thread) finds the key 10 if seat 1 stopped before it marked
-/// the node, and does not find the key otherwise.
+/// Asserts that seat 0 (per-thread handle) finds the key 10 if seat 1 stopped before it marked the node, and does not
+/// find the key otherwise.
 fn answers_beside<M: RunningReads + Send + Sync, R: Host>(
     rt: &R,
     alloc: Global,

@@ -23,9 +23,9 @@ fn makes<M: Running, R: Host>(rt: &R, set: &LiveSet<M>, seat: &mut Seat<M>, made
     }
 }
 
-/// Asserts that "quota used up" and "already present" are different results. A seat (the right to call the set as one
-/// thread) that has added its 4 keys cannot add a new key, but its `add` of a present key still returns "already
-/// present". The other seat can still add its keys.
+/// Asserts that "quota used up" and "already present" are different results. A seat (per-thread handle) that has added
+/// its 4 keys cannot add a new key, but its `add` of a present key still returns "already present". The other seat can
+/// still add its keys.
 fn tells_full_from_already<M: Running, R: Host>(rt: &R, alloc: Global) {
     let (set, mut zero, mut one) = two_seats::<M, R>(rt, alloc);
     makes(rt, &set, &mut zero, Adds(7, Added::New));
@@ -85,7 +85,7 @@ fn ceiling_returns_a_key_or_none(rt: HostRuntime) {
     at_each_list!(tells_the_smallest_key, rt);
 }
 
-/// Adds the key 9. Returns the seat (the right to call the set as one thread), and whether the key was new.
+/// Adds the key 9. Returns the seat (per-thread handle), and whether the key was new.
 fn claim<M: Running, R: Wait>(rt: &R, set: &LiveSet<M>, mut seat: Seat<M>) -> (Seat<M>, Added) {
     let added = seat.add(rt, set, Key(9));
     (seat, added)
