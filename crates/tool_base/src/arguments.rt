@@ -53,7 +53,7 @@ pub struct LivesRequest {
 pub struct ServeRequest {
     /// The kind of list.
     pub kind: Kind,
-    /// The number of seats (rights to call the set as one thread), 1 to `MOST_THREADS`.
+    /// The number of seats (per-thread handles), 1 to `MOST_THREADS`.
     pub seats: u32,
     /// The quota: the number of keys that each seat can add, 0 to `MOST_QUOTA`.
     pub quota: u32,

@@ -37,14 +37,14 @@ pub enum ValueName {
 /// `Trouble::Memory` instead.
 #[derive(Clone, Copy)]
 pub enum SystemCause {
-    /// The number of programs (the calls of one thread each) differs from the number of seats, or some seats of the
-    /// set are missing. (A seat is the right to call the set as one thread.)
+    /// The number of programs (the calls of one thread each) differs from the number of seats, or some seats of the set
+    /// are missing. (A seat is a thread's handle to the set.)
     Programs,
     /// The gate, which decides before each call whether the call is made, refused a call.
     Gate,
     /// A round (the calls on one set) has left more final keys than the next set can open with.
     Opening,
-    /// Some seats of the set are missing. (A seat is the right to call the set as one thread.)
+    /// Some seats of the set are missing. (A seat is a thread's handle to the set.)
     Seats,
     /// The system could not accept a connection.
     Accept,
