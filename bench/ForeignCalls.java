@@ -26,7 +26,7 @@ final class ForeignCalls {
         boolean contains(int key) throws Throwable;
     }
 
-    /** A seat of a list (the right to call the set as one thread), called through liblistset.so. */
+    /** A seat of a list (one thread's access to the set), called through liblistset.so. */
     private record Seat(MemorySegment at) implements Calls {
         private static final int SIZE = 128;
         private static final ValueLayout.OfByte U8 = ValueLayout.JAVA_BYTE;

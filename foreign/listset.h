@@ -20,13 +20,13 @@
 //   its size.
 // - No function is called in a signal handler, or in the forked child of a process with threads.
 //
-// Any number of threads may call at the same time. A call stores nothing for later calls. It does not block, except that
-// `listset_judge_from` waits for its input.
+// Any number of threads may call at the same time. A call stores nothing for later calls. It does not block, except
+// that `listset_judge_from` waits for its input.
 //
-// THE SETS: each thread calls from its own seat, the right to call the set as one thread. `listset_open` returns a seat that
-// contains all others; `listset_split` splits one of these seats off for another thread; `listset_gather` merges a seat into
-// another seat of the same set. Once one seat has gathered all others, `listset_close` closes the set and `listset_keys`
-// returns its final keys.
+// THE SETS: each thread calls through its own seat. `listset_open` returns a seat that contains all others;
+// `listset_split` splits one of these seats off for another thread; `listset_gather` merges a seat into another seat of
+// the same set. Once one seat has gathered all others, `listset_close` closes the set and `listset_keys` returns its
+// final keys.
 //
 //     uint32_t none;
 //     listset_seat seat = LISTSET_NONE;
@@ -217,7 +217,7 @@ const char *listset_fault_text(listset_fault fault);
 LISTSET_USED listset_fault listset_open(listset_list kind, uint32_t seats, uint32_t quota, uint64_t number, const uint32_t *keys,
                                         size_t count, listset_seat *out);
 
-/// Splits a seat (the right to call the set as one thread) off `seat` and stores it in `out`, which must be empty. Returns
+/// Splits a seat (one thread's access to the set) off `seat` and stores it in `out`, which must be empty. Returns
 /// LISTSET_NO_MORE if no seat can be split off: `seat` contains no other seat, or has gathered a seat.
 LISTSET_USED listset_fault listset_split(listset_seat *seat, listset_seat *out);
 
@@ -248,16 +248,15 @@ uint64_t listset_most_reads(uint32_t seats, uint32_t quota, uint32_t opening);
 /// thread with any message.
 LISTSET_USED listset_fault listset_receipt_of(listset_seat *seat, listset_receipt *out);
 
-/// Passes a receipt of this set to `seat` (the right to call the set as one thread). In the order of all calls, later calls of `seat`
-/// follow every call that the receipt covers. `given` is empty afterwards.
+/// Passes a receipt of this set to `seat` (one thread's access to the set). In the order of all calls, later calls of
+/// `seat` follow every call that the receipt covers. `given` is empty afterwards.
 LISTSET_USED listset_fault listset_after(listset_seat *seat, listset_receipt *given);
 
 /// Returns how many seats of its set `seat` contains, including itself. Writes the number of all seats of the set to
 /// `*all`. Both numbers are 0 if `seat` is empty or a closed set.
 uint64_t listset_seats_within(listset_seat *seat, uint32_t *all);
 
-/// Merges `from`, including all seats (rights to call the set as one thread) that it contains, into `into`. `from` is empty
-/// afterwards.
+/// Merges `from`, including all seats (one for each thread) that it contains, into `into`. `from` is empty afterwards.
 LISTSET_USED listset_fault listset_gather(listset_seat *into, listset_seat *from);
 
 /// Closes the set. `seat` must contain all seats of the set, and contains the final keys afterwards. If the allocation
@@ -268,9 +267,9 @@ LISTSET_USED listset_fault listset_close(listset_seat *seat);
 /// `room`. Returns the number of keys, or SIZE_MAX if `closed` is not a closed set.
 size_t listset_keys(listset_seat *closed, uint32_t *room, size_t places);
 
-/// Gathers all seats (rights to call the set as one thread) in the array `seats`, which has `places` elements, into its first element,
-/// and closes the set. Elements of the array may be empty. If a seat of the set is missing, returns LISTSET_SEATS_OUT and
-/// changes nothing. After LISTSET_OUT_OF_MEMORY nothing is lost, and the call can be repeated.
+/// Gathers all seats (one for each thread) in the array `seats`, which has `places` elements, into its first element,
+/// and closes the set. Elements of the array may be empty. If a seat of the set is missing, returns LISTSET_SEATS_OUT
+/// and changes nothing. After LISTSET_OUT_OF_MEMORY nothing is lost, and the call can be repeated.
 LISTSET_USED listset_fault listset_close_all(listset_seat *seats, size_t places);
 
 /// Closes a set, and opens a set of the list `kind` with the same keys. The array `seats` must contain all seats of the old
@@ -283,8 +282,8 @@ LISTSET_USED listset_fault listset_close_all(listset_seat *seats, size_t places)
 LISTSET_USED listset_fault listset_renew(listset_seat *seats, size_t places, listset_list kind, uint32_t count, uint32_t quota,
                                          uint64_t number);
 
-/// Drops the contents of `seat`, which is empty afterwards. A set cannot be closed once one of its seats (rights to call as
-/// one thread) has been dropped.
+/// Drops the contents of `seat`, which is empty afterwards. A set cannot be closed once one of its seats (one for each
+/// thread) has been dropped.
 void listset_drop(listset_seat *seat);
 
 /// Drops a receipt (a record of the calls that a seat has seen). `receipt` is empty afterwards.

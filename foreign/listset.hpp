@@ -155,9 +155,9 @@ private:
 /// and `opening` keys. Returns 0 if no set can be opened with these values.
 inline uint64_t most_reads(uint32_t seats, uint32_t quota, uint32_t opening) { return listset_most_reads(seats, quota, opening); }
 
-/// A thread's seat in a set (the right to call the set as one thread), or nothing. It can be moved but not copied, and
-/// only one thread at a time may use it. A call throws `fault` if another thread is in a call from the same seat. Seats
-/// are aligned to cache lines, since a call writes to its seat.
+/// A thread's seat (its access to a set), or nothing. It can be moved but not copied, and only one thread at a time may
+/// use it. A call throws `fault` if another thread is in a call from the same seat. Seats are aligned to cache lines,
+/// since a call writes to its seat.
 class alignas(128) seat {
 public:
   seat() = default;
@@ -279,8 +279,8 @@ inline uint64_t next_number() {
   return sets++;
 }
 
-/// Opens a set with keys in strictly increasing order. Returns a seat (the right to call the set as one thread) that contains all
-/// other seats.
+/// Opens a set with keys in strictly increasing order. Returns a seat (one thread's access to the set) that contains
+/// all other seats.
 inline seat open(list kind, uint32_t seats, uint32_t quota, const std::vector<uint32_t> &keys = {}) {
   seat made;
   uint32_t none = 0;
@@ -289,7 +289,7 @@ inline seat open(list kind, uint32_t seats, uint32_t quota, const std::vector<ui
   return made;
 }
 
-/// Closes a set, and opens a set of the list `kind` with the same keys. `seats` must contain all seats (rights to call the set as one
+/// Closes a set, and opens a set of the list `kind` with the same keys. `seats` must contain all seats (one for each
 /// thread) of the old set. Afterwards, `seats` contains the `count` seats of the new set, each with this quota. If this
 /// function throws, nothing is lost: `seats` contains all seats or the closed set, and the call can be repeated.
 inline void renew(std::vector<seat> &seats, list kind, uint32_t count, uint32_t quota) {
@@ -495,7 +495,7 @@ public:
     }
   };
 
-  /// Opens a set with 1 to 64 seats (rights to call the set as one thread) and with keys in strictly increasing order. A seat can add
+  /// Opens a set with 1 to 64 seats (one for each thread) and with keys in strictly increasing order. A seat can add
   /// `quota` keys before the set is renewed.
   renewed_set(list kind, uint32_t seats, uint32_t quota, const std::vector<uint32_t> &keys = {},
               std::chrono::nanoseconds patience = std::chrono::nanoseconds::max())
@@ -559,8 +559,8 @@ class shared {
     return places.front();
   }
 
-  // Calls `call` with a free seat (the right to call the set as one thread). Threads begin their search for a free seat at different
-  // seats, if there are enough seats.
+  // Calls `call` with a free seat (one thread's access to the set). Threads begin their search for a free seat at
+  // different seats, if there are enough seats.
   template <typename Call> auto by(Call call) {
     first();
     static std::atomic<size_t> threads{0};

@@ -12,7 +12,7 @@ A text is str or bytes. If the program `listset` would not exit with status 0, a
 and the text that the program would print. Any number of threads may call at the same time, and run in parallel: a call
 releases Python's global interpreter lock.
 
-The sets are for tests and teaching. Each thread calls from its own seat (the right to call the set as one thread), and
+The sets are for tests and teaching. Each thread calls through its own seat, and
 only one thread at a time uses a seat:
 
     mine = listset.open("lazy", seats=2, quota=1000)
@@ -318,7 +318,7 @@ class Receipt:
 
 
 class Seat:
-    """A thread's seat in a set (the right to call the set as one thread), or nothing after it has been gathered or
+    """A thread's seat (its access to a set), or nothing after it has been gathered or
     closed. Only one thread at a time may use it: a call raises `Fault` if another thread is in a call from the same
     seat.
     """
@@ -445,7 +445,7 @@ def most_reads(seats, quota, keys=0):
 
 
 def open_set(kind, seats, quota, keys=()):
-    """Opens a set with keys in strictly increasing order. Returns a seat (the right to call the set as one thread) that contains all
+    """Opens a set with keys in strictly increasing order. Returns a seat (one thread's access to the set) that contains all
     other seats.
     """
     made, keys, index = Seat(), list(keys), LISTS.index(_list(kind))
@@ -458,7 +458,7 @@ open = open_set  # listset.open. It is not in __all__: `from listset import *` k
 
 
 def _of_all(seats, call):
-    """Calls `call` with an array of these seats (rights to call the set as one thread)."""
+    """Calls `call` with an array of these seats (one for each thread)."""
     raws = (_Raw * max(len(seats), 1))(*(it.raw for it in seats))
     code = call(raws)
     for seat, raw in zip(seats, raws):

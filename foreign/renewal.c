@@ -28,7 +28,7 @@ static int is_closed(seat *it) {
   return it->full && listset_keys(it, &none, 0) != (size_t)-1;
 }
 
-// Returns the index of the first element of the array that contains a seat (the right to call the set as one thread), or
+// Returns the index of the first element of the array that contains a seat (one thread's access to the set), or
 // `places` if all elements are empty.
 static size_t empty_places(const seat *seats, size_t places) {
   size_t first = 0;
@@ -36,8 +36,8 @@ static size_t empty_places(const seat *seats, size_t places) {
   return first;
 }
 
-// Returns whether the array contains all seats (rights to call the set as one thread) of a set. `first` is the index of its
-// first element that contains a seat.
+// Returns whether the array contains all seats (one for each thread) of a set. `first` is the index of its first
+// element that contains a seat.
 static int are_all(seat *seats, size_t first, size_t places) {
   uint32_t all, of_other;
   uint64_t within = listset_seats_within(&seats[first], &all);
@@ -62,8 +62,8 @@ fault listset_close_all(seat *seats, size_t places) {
   return is_closed(&seats[0]) ? OK : listset_close(&seats[0]);
 }
 
-// Opens a set with the keys of the closed set `closed`, and stores the new set's seat (the right to call the set as one
-// thread) in `closed`.
+// Opens a set with the keys of the closed set `closed`, and stores the new set's seat (one thread's access to the set)
+// in `closed`.
 static fault opened_again(seat *closed, fault kind, uint32_t count, uint32_t quota, uint64_t number) {
   uint32_t none;
   const size_t many = listset_keys(closed, &none, 0);

@@ -1,5 +1,5 @@
-// Judges `shared` sets with eight seats (rights to call the set as one thread), of the five lists and of a
-// wrong set, in the way described in docs/YOUR-SET.md.
+// Judges `shared` sets with eight seats (one for each thread), of the five lists and of a wrong set, in the way
+// described in docs/YOUR-SET.md.
 #include "listset.hpp"
 
 #include "listset_judge.hpp"

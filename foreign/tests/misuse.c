@@ -144,8 +144,8 @@ static void reads_and_receipts(uint8_t kind) {
   for (int at = 0; at < 4; at++) expect("no steps", listset_most_reads(outside[at][0], outside[at][1], outside[at][2]), 0);
 }
 
-// Calls `listset_renew` with arguments that it must refuse, for a set with three seats (rights to call the set as one thread) in
-// an array of five.
+// Calls `listset_renew` with arguments that it must refuse, for a set with three seats (one for each thread) in an
+// array of five.
 static void refused_renewals(uint8_t kind) {
   listset_seat seats[5] = {LISTSET_NONE, LISTSET_NONE, LISTSET_NONE, LISTSET_NONE, LISTSET_NONE}, out = LISTSET_NONE;
   uint32_t room[8];
@@ -243,8 +243,8 @@ static void calls_without_memory(uint8_t kind) {
   listset_drop(&a);
 }
 
-// Opens a set with ten seats (rights to call the set as one thread) and splits three seats off the first one. One of the three
-// gathers all other seats and closes the set. Also closes a set while most of its seats have never been split off.
+// Opens a set with ten seats (one for each thread) and splits three seats off the first one. One of the three gathers
+// all other seats and closes the set. Also closes a set while most of its seats have never been split off.
 static void seats_within(uint8_t kind) {
   listset_seat opener = LISTSET_NONE, a = LISTSET_NONE, b = LISTSET_NONE, c = LISTSET_NONE;
   uint32_t room[4];

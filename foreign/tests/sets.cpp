@@ -136,7 +136,7 @@ static bool take_the_free_seat(size_t seats) {
   return true;
 }
 
-// Checks that a set that was closed or moved from has no seat (the right to call the set as one thread).
+// Checks that a set that was closed or moved from has no seat (one thread's access to the set).
 static void expect_no_seat() {
   listset::shared closed(list::lazy, 2, 1), moved(list::lazy, 2, 1);
   seat last = listset::open(list::lazy, 1, 1, {7});
@@ -173,8 +173,8 @@ template <typename Set> static void expect_ends(Set set) {
   expect(set.close() == std::vector<uint32_t>({0, most}), "both are left");
 }
 
-// Assigns a seat (the right to call the set as one thread) to a variable that already has a seat. The old set must then be freed,
-// as the address sanitizer checks.
+// Assigns a seat (one thread's access to the set) to a variable that already has a seat. The old set must then be
+// freed, as the address sanitizer checks.
 static void expect_assigned(list kind) {
   seat mine = listset::open(kind, 2, 1, {1}), other = listset::open(kind, 1, 1, {2});
   mine = std::move(other);

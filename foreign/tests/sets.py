@@ -124,7 +124,7 @@ def numbers():
 
 
 def apart():
-    """Checks that a seat (the right to call the set as one thread) never gathers a seat of another set, among more sets than 16 bits
+    """Checks that a seat (one thread's access to the set) never gathers a seat of another set, among more sets than 16 bits
     can number.
     """
     mine, found = listset.open_set("lazy", 1, 0), set()

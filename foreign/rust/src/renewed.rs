@@ -59,9 +59,9 @@ struct Part {
     stage: Stage,
     /// The number of keys that the set had when it was last opened. Only the number in the first place is used.
     opened_with: u64,
-    /// The number of keys that this seat (the right to call the set as one thread) has added since the set was last opened.
+    /// The number of keys that this seat (one thread's access to the set) has added since the set was last opened.
     adds: u64,
-    /// The number of keys that this seat (the right to call the set as one thread) has removed since the set was last opened.
+    /// The number of keys that this seat (one thread's access to the set) has removed since the set was last opened.
     removes: u64,
 }
 
@@ -119,8 +119,8 @@ impl All<'_> {
             - self.parts.iter().map(|it| it.removes).sum::<u64>()
     }
 
-    /// Sets the stage to `ToBeRenewed`, and calls `call` with all seats (rights to call the set as one thread). If `call` succeeds,
-    /// the caller sets the next stage.
+    /// Sets the stage to `ToBeRenewed`, and calls `call` with all seats (one for each thread). If `call` succeeds, the
+    /// caller sets the next stage.
     fn by_all(&mut self, call: impl FnOnce(&mut [Seat]) -> Result<(), Fault>) -> Result<(), Fault> {
         self.set_stage(Stage::ToBeRenewed);
         let taken = |it: &mut MutexGuard<Part>| std::mem::replace(&mut it.seat, Seat { raw: NONE });
@@ -146,8 +146,8 @@ impl All<'_> {
 }
 
 impl RenewedSet {
-    /// Opens a set that contains `keys`, which must be in strictly increasing order. The set has `seats` seats, 1 to 64. A seat
-    /// is the right to call the set as one thread. Each seat can add `quota` keys before the set has to be renewed.
+    /// Opens a set that contains `keys`, which must be in strictly increasing order. The set has `seats` seats, 1 to
+    /// 64. A seat is one thread's access to the set. Each seat can add `quota` keys before the set has to be renewed.
     pub fn open(list: List, seats: u32, quota: u32, keys: &[u32]) -> Result<RenewedSet, Fault> {
         let mut all = vec![open(list, seats, quota, keys)?];
         while all.len() < seats as usize {

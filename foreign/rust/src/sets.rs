@@ -80,11 +80,11 @@ pub enum Fault {
     Keys,
     /// An allocation failed.
     Memory,
-    /// Some seats (rights to call the set as one thread) of the set have not been gathered.
+    /// Some seats (one for each thread) of the set have not been gathered.
     SeatsOut = 16,
-    /// No seat (the right to call the set as one thread) can be split off.
+    /// No seat (one thread's access to the set) can be split off.
     NoMore,
-    /// The seats (rights to call the set as one thread), or the seat and the receipt (a record of the calls that a seat has seen),
+    /// The seats (one for each thread), or the seat and the receipt (a record of the calls that a seat has seen),
     /// belong to different sets.
     OtherSet,
     /// `contains_now` requires a lazy or lock-free list.
@@ -139,8 +139,8 @@ pub(crate) fn told(code: u8) -> Result<(), Fault> {
     }
 }
 
-/// A thread's seat in a set: the right to call the set as one thread. It cannot be copied. Only one thread at a time
-/// uses it, but it can be passed to another thread.
+/// A thread's seat: its access to a set. It cannot be copied. Only one thread at a time uses it, but it can be passed
+/// to another thread.
 ///
 /// ```
 /// use listset::{open, Added, List};
@@ -195,7 +195,7 @@ pub(crate) fn next_number() -> u64 {
     SETS.fetch_add(1, Ordering::Relaxed)
 }
 
-/// Opens a set with `seats` seats (rights to call the set as one thread) and with keys in strictly increasing order. Each seat may add
+/// Opens a set with `seats` seats (one for each thread) and with keys in strictly increasing order. Each seat may add
 /// `quota` keys. Returns a seat that contains all other seats.
 pub fn open(list: List, seats: u32, quota: u32, keys: &[u32]) -> Result<Seat, Fault> {
     let mut made = Seat { raw: NONE };
@@ -213,7 +213,7 @@ pub enum Left {
     Keys(Vec<u32>),
 }
 
-/// Closes a set, and opens a set of the list `list` with the same keys. `seats` must contain all seats (rights to call the set as one
+/// Closes a set, and opens a set of the list `list` with the same keys. `seats` must contain all seats (one for each
 /// thread) of the old set. Returns the `count` seats of the new set, each with this quota.
 ///
 /// ```
@@ -262,7 +262,7 @@ pub(crate) fn close_in(places: &mut [Seat]) -> Result<(), Fault> {
     by_all(places, |raws, many| unsafe { listset_close_all(raws, many) })
 }
 
-/// Calls `call` with an array of the seats (rights to call the set as one thread) in `places`.
+/// Calls `call` with an array of the seats (one for each thread) in `places`.
 fn by_all(places: &mut [Seat], call: impl FnOnce(*mut Raw, usize) -> u8) -> Result<(), Fault> {
     let mut raws: Vec<Raw> = places.iter_mut().map(|it| replace(&mut it.raw, NONE)).collect();
     let code = call(raws.as_mut_ptr(), raws.len());

@@ -1,4 +1,4 @@
-//! A set that any thread can call: it has a pool of seats (rights to call the set as one thread), and each call uses a free one.
+//! A set that any thread can call: it has a pool of seats (one for each thread), and each call uses a free one.
 
 use std::sync::atomic::{AtomicUsize, Ordering};
 use std::sync::{Mutex, MutexGuard, PoisonError};
@@ -27,8 +27,8 @@ pub struct Shared {
 }
 
 impl Shared {
-    /// Opens a set with `seats` seats (rights to call the set as one thread) and with keys in strictly increasing order. Each seat
-    /// may add `quota` keys. Up to `seats` calls can run at the same time.
+    /// Opens a set with `seats` seats (one for each thread) and with keys in strictly increasing order. Each seat may
+    /// add `quota` keys. Up to `seats` calls can run at the same time.
     pub fn open(list: List, seats: u32, quota: u32, keys: &[u32]) -> Result<Shared, Fault> {
         let mut first = open(list, seats, quota, keys)?;
         let mut all: Vec<Seat> = (1..seats).map(|_| first.split()).collect::<Result<_, _>>()?;
@@ -70,7 +70,7 @@ impl Shared {
         all.close()
     }
 
-    /// Calls `call` with a free seat (the right to call the set as one thread). Threads begin their search for a free seat at
+    /// Calls `call` with a free seat (one thread's access to the set). Threads begin their search for a free seat at
     /// different seats, if there are enough seats.
     fn by<T>(&self, call: impl FnOnce(&mut Seat) -> T) -> T {
         static THREADS: AtomicUsize = AtomicUsize::new(0);

@@ -77,7 +77,7 @@ enum Told {
     Nothing,
 }
 
-/// Opens, uses and closes a set with three seats (rights to call the set as one thread). Allocation number `refused` fails.
+/// Opens, uses and closes a set with three seats (one for each thread). Allocation number `refused` fails.
 fn life(list: List, refused: usize) -> Told {
     ASKED.with(|it| it.set(0));
     BLOCKS.with(|it| it.set(0));

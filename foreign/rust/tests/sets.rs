@@ -145,8 +145,8 @@ fn sets_that_are_opened_at_once_are_told_apart() {
     }
 }
 
-/// Checks that a seat (the right to call the set as one thread) cannot be merged with a seat of another set, even among more sets
-/// than 16 bits can number.
+/// Checks that a seat (one thread's access to the set) cannot be merged with a seat of another set, even among more
+/// sets than 16 bits can number.
 #[test]
 fn sets_are_told_apart() {
     let mut mine = open(List::Lazy, 1, 0, &[]).unwrap();
