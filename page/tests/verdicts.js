@@ -708,14 +708,14 @@ const OF_WHY = [
   [/^because (\d+) of (\d+) contradictions are two overlapping calls that both returned true$/, (it, [some, all]) => Number(some) <= Number(all) &&
     it.calls.some((one) => isChange(one) && one.reply === "true" && it.calls.some((two) => two !== one && two.key === one.key && two.operation === one.operation && two.reply === "true"))],
   [/^likely (.*)$/, (it, found, why) => why.because.length === 1],
-  [/^because an? (add|remove) of the key was still running at the wrong answer$/, (it, [operation], { told }) => told !== null && told.wrong.some((call) => runsBeside(it, call, operation))],
-  [/^because (?:it (?:only )?finds absent keys, and )?at (\d+) of (?:the )?(\d+) (?:wrong answers|of these answers) an? (add|remove) of the key (?:was still running|still ran)$/,
+  [/^because a successful or pending (add|remove) of the key was still running at the wrong answer$/, (it, [operation], { told }) => told !== null && told.wrong.some((call) => runsBeside(it, call, operation))],
+  [/^because (?:it (?:only )?finds absent keys, and )?at (\d+) of (?:the )?(\d+) (?:wrong answers|of these answers) a successful or pending (add|remove) of the key was still running$/,
     (it, [some, all, operation], { told }) => told !== null && told.wrong.length === Number(all) && told.wrong.filter((call) => runsBeside(it, call, operation)).length === Number(some)],
   [/^because it finds keys up to (\d+) moments after their remove has returned(, and never misses a present one)?$/, (it, [latest, never], { told }) => {
     return told.wrong.some((answer) => needsKey(answer) && ofKey(it, answer.key).some((call) => call.operation === "remove" && answer.begun - call.ended === Number(latest)))
       && (never === undefined || (told.isAll && told.wrong.every(needsKey)));
   }],
-  [/^because at all (\d+) wrong answers an? (add|remove) of the key was still running$/, (it, [all, operation], { told }) =>
+  [/^because at all (\d+) wrong answers a successful or pending (add|remove) of the key was still running$/, (it, [all, operation], { told }) =>
     told !== null && told.wrong.length === Number(all) && told.wrong.every((call) => runsBeside(it, call, operation))],
   [/^because it misses present keys$/, (it, found, { told }) => told !== null && told.wrong.some((call) => !needsKey(call))],
   [/^because it misses present keys and never finds an absent one$/, (it, found, { told }) => told !== null && told.isAll && told.wrong.every((call) => !needsKey(call))],
@@ -730,7 +730,7 @@ const OF_WHY = [
     return told.wrong.length === Number(all) && told.wrong.filter(isActive).length === Number(some);
   }],
   [/^because at (\d+) of (\d+) wrong answers the last call of every larger key had left that key absent$/, (it, [some, all], { told }) => told.wrong.length >= Number(all) && Number(some) <= Number(all)],
-  [/^because an (add) of another key ran during (\d+) of the (\d+) wrong answers$/, (it, [operation, some, all], { told }) =>
+  [/^because a successful (add) of another key ran during (\d+) of the (\d+) wrong answers$/, (it, [operation, some, all], { told }) =>
     told !== null && told.wrong.length === Number(all) && told.wrong.filter((call) => it.calls.some((one) => one.key !== call.key && one.operation === operation && one.reply === "true" && inTime(one, call.begun, call.ended))).length === Number(some)],
   [/^because as calls of one key the calls of keys (\d+) and (\d+) have an order$/, (it, [one, two]) => {
     const both = it.calls.filter(({ key }) => key === Number(one) || key === Number(two)).map((call) => ({ ...call, key: Number(one) }));
@@ -779,15 +779,22 @@ const OF_WHY = [
     const seen = ["add", "remove"].map((operation) => keysOf(it).filter((key) => !hasOrderOf(it, key)).flatMap((key) => nextCallsSee(ofKey(it, key), operation)));
     return `${found.map(Number)}` === `${seen.flatMap((some) => [some.filter((isSeen) => !isSeen).length, some.length])}`;
   }],
-  [/^because (\d+) of (\d+) lost adds began during a remove of their key or at most 20 moments later \(of all adds of these keys: (\d+) of (\d+)\)$/, (it, [some, all, usual, adds], { tally }) =>
-    Number(some) <= Number(all) && Number(all) <= tally.lost && Number(usual) <= Number(adds)],
+  [/^because (\d+) of (\d+) lost adds began before or at most 20 moments after the end of the last successful remove of their key \(of all adds of these keys: (\d+) of (\d+)\)$/, (it, [some, all, usual, adds], { tally }) => {
+    const added = it.calls.filter((call) => call.operation === "add" && call.reply === "true" && !hasOrderOf(it, call.key));
+    const lastRemove = (add) => ofKey(it, add.key).filter((call) => call.operation === "remove" && call.reply === "true" && call.begun <= add.begun).sort((one, other) => one.begun - other.begun).at(-1);
+    const soon = added.filter((add) => lastRemove(add) !== undefined && add.begun <= lastRemove(add).ended + 20).length;
+    return Number(some) <= soon && Number(some) <= Number(all) && Number(all) <= tally.lost && Number(usual) === soon && Number(adds) === added.length;
+  }],
   [/^because (\d+) of (\d+) wrong answers, of more than one operation, overlapped a change of another key$/, (it, [some, all], { tally }) => Number(some) <= Number(all) && Number(all) <= tally["one wrong answer"]],
   [/^because another key was lost at (\d+) of the (\d+) removes after which their key came back$/, (it, [some, all], { tally }) => Number(some) <= Number(all) && Number(all) <= tally["came back"]],
   [/^because (\d+) keys are hit, each once$/, (it, [count]) => keysOf(it).filter((key) => !hasOrderOf(it, key)).length === Number(count)],
   [/^because keys are lost \((\d+)\) and added twice \((\d+)\), none comes back, and none is removed twice$/, (it, [lost, twice], { tally }) =>
     Number(lost) === tally.lost && Number(twice) === tally["two adds true"] && tally["two removes true"] === 0 && tally["came back"] === 0],
-  [/^(?:because|fact) an? (?:add|remove) of another key ran during the add of (\d+) of the (\d+) lost keys, but only during (\d+) of 100 adds$/, (it, [some, all, usual], { tally }) =>
-    Number(some) <= Number(all) && Number(all) <= tally.lost && Number(usual) <= 100],
+  [/^(?:because|fact) a successful (add|remove) of another key ran during the add of (\d+) of the (\d+) lost keys, but only during (\d+) of 100 successful adds$/, (it, [operation, some, all, usual], { tally }) => {
+    const adds = it.calls.filter((call) => call.operation === "add" && call.reply === "true" && !hasOrderOf(it, call.key));
+    const isMet = (add) => it.calls.some((one) => one.key !== add.key && one.operation === operation && one.reply === "true" && inTime(one, add.begun, add.ended));
+    return adds.filter(isMet).length >= Number(some) && Number(some) <= Number(all) && Number(all) <= tally.lost && Number(usual) <= 100;
+  }],
   [/^because (\d+) of (\d+) contradictions that one other reply repairs share time with one of another key$/, (it, [some, all]) =>
     Number(some) <= Number(all) && (Number(some) === 0 || keysOf(it).filter((key) => !hasOrderOf(it, key)).length >= 2)],
   [/^because during (\d+) of (\d+) changes that were undone another key came back or was lost$/, (it, [some, all], { tally }) => Number(some) <= Number(all) && Number(all) <= tally.lost + tally["came back"]],
@@ -798,7 +805,7 @@ const OF_WHY = [
     const keys = keysOf(it);
     return keys.length === Number(count) && keys.every((key) => !hasOrderOf(it, key));
   }],
-  [/^because a remove of another key ran during (?:the remove|(\d+) of (\d+) removes) that add did not see, and nearly all later adds failed, too$/, (it, [some = 1, all = 1], { told }) => {
+  [/^because a successful remove of another key ran during (?:the remove|(\d+) of (\d+) removes) that add did not see, and nearly all later adds failed, too$/, (it, [some = 1, all = 1], { told }) => {
     const lastRemove = (answer) => ofKey(it, answer.key).filter((call) => call.operation === "remove" && call.reply === "true" && call.begun <= answer.begun).sort((one, other) => one.begun - other.begun).at(-1);
     const removes = [...new Set(told.wrong.map(lastRemove))].filter((call) => call !== undefined && told.wrong.some((answer) => call.ended < answer.begun && lastRemove(answer) === call));
     const isWith = (call) => it.calls.some((one) => one.key !== call.key && one.operation === "remove" && one.reply === "true" && inTime(one, call.begun, call.ended));
@@ -1050,7 +1057,7 @@ async function main() {
     for (let number = 0; number < count; number++) checkKind(ask, drawn);
   }
   // (few calls contain too few facts to guess a cause)
-  const isRare = (pattern) => /^\^because (?!many keys are added|\(\?:\(\\d\+\) times two|a remove of another key ran during \(\?|\(\\d\+\) adds of an absent|after \()|which do not increase|Your order is possible|have no order\\\.|at first, and/.test(pattern.source);
+  const isRare = (pattern) => /^\^because (?!many keys are added|\(\?:\(\\d\+\) times two|a successful remove of another key ran during \(\?|\(\\d\+\) adds of an absent|after \()|which do not increase|Your order is possible|have no order\\\.|at first, and/.test(pattern.source);
   const properties = [...OF_RECORDING, ...OF_SPLIT, ...OF_LACKING, ...OF_OWN];
   result.failed.push(...properties.filter(([pattern]) => CASES >= 150 && !met.has(pattern) && !isRare(pattern)).map(([pattern]) => `no case has ${pattern}`));
   console.log(JSON.stringify(result));

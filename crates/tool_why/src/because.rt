@@ -17,17 +17,17 @@ fn put_because_of_found(out: &mut String, odd: &Odd, cause: Cause) -> Result<(),
     match cause {
         Cause::MarkNotRead if found == 1 => writeln!(
             out,
-            "a remove of the key was still running at the wrong answer"
+            "a successful or pending remove of the key was still running at the wrong answer"
         ),
         Cause::MarkNotRead => writeln!(
             out,
-            "at {running} of the {found} wrong answers a remove of the key was still running"
+            "at {running} of the {found} wrong answers a successful or pending remove of the key was still running"
         ),
         Cause::SeenEarly => {
             let starting = odd.starting;
             writeln!(
                 out,
-                "at {starting} of the {found} wrong answers an add of the key was still running"
+                "at {starting} of the {found} wrong answers a successful or pending add of the key was still running"
             )
         }
         Cause::TakenLater => {
@@ -46,7 +46,7 @@ fn put_because_of_found(out: &mut String, odd: &Odd, cause: Cause) -> Result<(),
         }
         Cause::MarkOrCopy => writeln!(
             out,
-            "it {only}finds absent keys, and at {running} of {found} of these answers a remove of the key still ran"
+            "it {only}finds absent keys, and at {running} of {found} of these answers a successful or pending remove of the key was still running"
         ),
         Cause::ThreadCache => writeln!(
             out,
@@ -66,11 +66,11 @@ fn put_because_of_missed(out: &mut String, odd: &Odd, cause: Cause) -> Result<()
     match cause {
         Cause::NotSeenYet if missed == 1 => writeln!(
             out,
-            "an add of the key was still running at the wrong answer"
+            "a successful or pending add of the key was still running at the wrong answer"
         ),
         Cause::NotSeenYet => writeln!(
             out,
-            "at all {missed} wrong answers an add of the key was still running"
+            "at all {missed} wrong answers a successful or pending add of the key was still running"
         ),
         Cause::SizeFirst => writeln!(
             out,
@@ -143,7 +143,7 @@ fn put_because_of_odd(out: &mut String, odd: &Odd, cause: Cause) -> Result<(), A
         ),
         Cause::RemoveShortcut => writeln!(
             out,
-            "an add of another key ran during {adding} of the {missed} wrong answers"
+            "a successful add of another key ran during {adding} of the {missed} wrong answers"
         ),
         Cause::MovedKeys => put_during(out, odd.beside, odd, "a change of another key"),
         Cause::HalfDone => put_during(out, odd.same, odd, "another add or remove of the key"),
@@ -212,12 +212,12 @@ fn put_because_of_unlinks(out: &mut String, further: &Further) -> Result<(), All
     let (removes, beside) = (further.unseen, further.unseen_beside);
     if removes == 1 && beside == 1 {
         return out.push_str(
-            "a remove of another key ran during the remove that add did not see, and nearly all later adds failed, too\n",
+            "a successful remove of another key ran during the remove that add did not see, and nearly all later adds failed, too\n",
         );
     }
     writeln!(
         out,
-        "a remove of another key ran during {beside} of {removes} removes that add did not see, and nearly all later adds failed, too"
+        "a successful remove of another key ran during {beside} of {removes} removes that add did not see, and nearly all later adds failed, too"
     )
 }
 
@@ -288,8 +288,8 @@ fn put_because_of_lost(out: &mut String, tally: &Tally, cause: Cause) -> Result<
 fn put_because_of_adds(out: &mut String, tally: &Tally, cause: Cause) -> Result<(), AllocError> {
     let (lost, placed, both) = (tally.lost, tally.placed, tally.both_adds);
     let (count, usual, word) = match cause {
-        Cause::SharedPlace => (tally.with_add, tally.usually_with_add, "an add"),
-        _ => (tally.with_remove, tally.usually_with_remove, "a remove"),
+        Cause::SharedPlace => (tally.with_add, tally.usually_with_add, "add"),
+        _ => (tally.with_remove, tally.usually_with_remove, "remove"),
     };
     match cause {
         Cause::AddLost => writeln!(
@@ -298,7 +298,7 @@ fn put_because_of_adds(out: &mut String, tally: &Tally, cause: Cause) -> Result<
         ),
         _ => writeln!(
             out,
-            "{word} of another key ran during the add of {count} of the {placed} lost keys, but only during {usual} of 100 adds"
+            "a successful {word} of another key ran during the add of {count} of the {placed} lost keys, but only during {usual} of 100 successful adds"
         ),
     }
 }
@@ -322,7 +322,7 @@ fn put_because_of_mixed(out: &mut String, tally: &Tally, cause: Cause) -> Result
             let all = tally.adds;
             writeln!(
                 out,
-                "{soon} of {placed} lost adds began during a remove of their key or at most 20 moments later (of all adds of these keys: {usual} of {all})"
+                "{soon} of {placed} lost adds began before or at most 20 moments after the end of the last successful remove of their key (of all adds of these keys: {usual} of {all})"
             )
         }
         Cause::MovedKeys => {

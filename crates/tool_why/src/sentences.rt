@@ -345,14 +345,14 @@ fn put_gone_beside(out: &mut String, tally: &Tally) -> Result<(), AllocError> {
     if is_more(adds, placed, usual) {
         writeln!(
             out,
-            "an add of another key ran during the add of {adds} of the {placed} lost keys, but only during {usual} of 100 adds"
+            "a successful add of another key ran during the add of {adds} of the {placed} lost keys, but only during {usual} of 100 successful adds"
         )?;
     }
     let (removes, usual) = (tally.with_remove, tally.usually_with_remove);
     if is_more(removes, placed, usual) {
         writeln!(
             out,
-            "a remove of another key ran during the add of {removes} of the {placed} lost keys, but only during {usual} of 100 adds"
+            "a successful remove of another key ran during the add of {removes} of the {placed} lost keys, but only during {usual} of 100 successful adds"
         )?;
     }
     Ok(())
