@@ -79,7 +79,7 @@ module.exports = ({ draw, pick, replyOf, keysAfter, paddingAfter }) => {
 
   // Generates calls of three threads on some keys, with the replies that `replyTo` returns for a call, the set and the calls that run. `replyTo` can also
   // return a function that runs when the call ends.
-  function madeBy(keys, count, replyTo, threads = 3, starts = 2) {
+  function madeBy(keys, count, replyTo, threads = 3, starts = 2, operations = ["add", "remove", "add", "remove", "contains"]) {
     const [calls, open, present] = [[], [], new Set()];
     const set = {
       has: (key) => present.has(key),
@@ -100,7 +100,7 @@ module.exports = ({ draw, pick, replyOf, keysAfter, paddingAfter }) => {
       moment++;
       const idle = [0, 1, 2, 3].slice(0, threads).filter((thread) => !open.some((call) => call.thread === thread));
       if (calls.length < count * keys.length && idle.length > 0 && (open.length === 0 || draw(3) < starts)) {
-        calls.push({ thread: pick(idle), operation: pick(["add", "remove", "add", "remove", "contains"]), key: pick(keys), begun: moment, ended: null, reply: null });
+        calls.push({ thread: pick(idle), operation: pick(operations), key: pick(keys), begun: moment, ended: null, reply: null });
         open.push(calls.at(-1));
         if (draw(2) === 0) take(calls.at(-1));
       } else {
@@ -264,6 +264,65 @@ module.exports = ({ draw, pick, replyOf, keysAfter, paddingAfter }) => {
         const isMet = open.some((one) => one !== call && one.key !== call.key && one.operation === "remove" && one.reply !== "false");
         if (call.operation === "remove" && reply === "true" && isMet && stuck.size === 0) stuck.add(call.key);
         return reply;
+      });
+    },
+    function outlasted() { // an add that another call outlasts gives up
+      return madeBy([1, 2, 5, 6, 9], 55, ({ call, set, open }) => {
+        const isOutlasted = !open.includes(call) && open.some((one) => one.begun < call.begun); // (the call ends now)
+        return call.operation === "add" && isOutlasted && draw(10) > 0 ? "false" : set.take(call);
+      }, 2, 1);
+    },
+    function swapped() { // two calls of two keys return each other's reply
+      const it = madeBy([1, 2, 5], 20, ({ call, set }) => set.take(call));
+      const isPair = (one, two) => one.key !== two.key && one.operation !== two.operation && one.thread !== two.thread && one.reply !== two.reply && one.begun < two.ended && two.begun < one.ended;
+      const pairs = it.calls.flatMap((one) => it.calls.filter((two) => one.begun < two.begun && isPair(one, two)).map((two) => [one, two]));
+      if (pairs.length > 0) {
+        const [one, two] = pick(pairs);
+        [one.reply, two.reply] = [two.reply, one.reply];
+      }
+      return recordingOf(it.calls, it.opening, it.keys);
+    },
+    function ownCopies() { // each thread reads a copy that only its own changes refresh
+      const copies = new Map();
+      const keys = [1, 2, 5, 6];
+      return madeBy(keys, 60, ({ call, set }) => {
+        if (call.operation === "contains") return String((copies.get(call.thread) ?? []).includes(call.key));
+        const reply = set.take(call);
+        copies.set(call.thread, keys.filter((key) => set.has(key)));
+        return reply;
+      }, 4, 2, ["add", "remove", "contains", "contains"]);
+    },
+    function transit() { // now and then no key is found for a while
+      let [changes, hidden] = [0, 0];
+      return madeBy([1, 2, 3, 4, 5, 6, 7, 8], 60, ({ call, set }) => {
+        if (hidden > 0) hidden--;
+        if (call.operation === "contains") return hidden > 0 ? "false" : set.take(call);
+        changes++;
+        if (changes % 60 === 0) hidden = 14;
+        return set.take(call);
+      }, 3, 2, ["add", "add", "remove", "contains", "contains", "contains"]);
+    },
+    function successors() { // contains misses a key while the next smaller one is removed
+      const keys = [1, 2, 3, 4, 5, 6];
+      return madeBy(keys, 60, ({ call, set, open }) => {
+        const isNext = (one) => one.operation === "remove" && one.reply === "true" && one.key < call.key && keys.every((key) => key <= one.key || key >= call.key || !set.has(key));
+        return call.operation === "contains" && open.some(isNext) ? "false" : set.take(call);
+      }, 3, 2, ["add", "remove", "contains"]);
+    },
+    function borrowed() { // a call returns the reply that was stored last, perhaps by another thread
+      let last = null;
+      const isAll = draw(2) === 0;
+      return madeBy([1, 2, 5, 6], 60, ({ call, set }) => {
+        last = set.take(call);
+        return [last, () => { if (isAll || call.operation === "contains") call.reply = last; }];
+      }, 3, 2, ["add", "remove", "contains"]);
+    },
+    function stripes() { // a change writes its bucket back as it was at its start, with its own key changed
+      const [keys, buckets] = [[1, 2, 3, 4, 5, 6, 7, 8], pick([2, 4])];
+      return madeBy(keys, 40, ({ call, set, open }) => {
+        const [inBucket, isMet] = [keys.filter((key) => key !== call.key && key % buckets === call.key % buckets), open.some((one) => one !== call && one.key === call.key)];
+        const [before, reply] = [inBucket.map((key) => [key, set.has(key)]), set.take(call)];
+        return [reply, () => { if (!isMet && reply === "true" && call.operation !== "contains") for (const [key, isThere] of before) set.put(key, isThere); }];
       });
     },
     function ends() { // opening and final keys, few calls or none

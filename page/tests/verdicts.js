@@ -15,6 +15,7 @@ const [verdictOnCalls, verdictOnLacking, verdictOn] = ["verdictOnCalls", "verdic
 const [OwnAnswer, exerciseOf, readReport, LACKING] = ["OwnAnswer", "exerciseOf", "readReport", "LACKING"].map(inPage);
 const LAST = Infinity;
 const LONG = ["inside", "growing", "unlinked"]; // kinds with long recordings
+const OF_FACTS = ["inside", "unlinked", "ownCopies", "transit", "successors", "borrowed", "stripes"]; // kinds of which only the facts are checked
 
 // ---- Random numbers, which are the same each time this script runs.
 
@@ -261,7 +262,7 @@ function checkKind(ask, drawn) {
   const it = drawn();
   const isOk = keysOf(it).every((key) => hasOrderOf(it, key));
   if (/^verdict ok/m.test(ask("listset_judge_record", it.text).text) !== isOk) result.failed.push(`the verdict is wrong on\n${it.text}`);
-  else if (!isOk) (["inside", "unlinked"].includes(drawn.name) ? checkFacts : checkWhy)(ask, it);
+  else if (!isOk) (OF_FACTS.includes(drawn.name) ? checkFacts : checkWhy)(ask, it);
 }
 
 // Checks only the facts of a diagnosis. (The recording is too long to check its headline and picture.)
@@ -721,11 +722,12 @@ const OF_WHY = [
   [/^because it misses present keys and never finds an absent one$/, (it, found, { told }) => told !== null && told.isAll && told.wrong.every((call) => !needsKey(call))],
   [/^because it is wrong both ways, and without it all other calls have an order$/, (it, found, { told }) => told !== null && told.wrong.some(needsKey) && !told.wrong.every(needsKey)],
   [/^because without these answers all other calls have an order$/, (it, found, { told }) => told !== null],
-  [/^because a change of another key ran during (\d+) of the (\d+) wrong answers$/, (it, [some, all], { told }) =>
+  [/^because a change of another key ran during (\d+) of the (\d+) wrong answers(.*)$/, (it, [some, all, rate], { told }) => isRate(rate, some, all) &&
     told.wrong.length === Number(all) && told.wrong.filter((call) => runsDuring(it, call, (one) => one.key !== call.key && one.reply === "true")).length === Number(some)],
-  [/^because another add or remove of the key ran during (\d+) of the (\d+) wrong answers$/, (it, [some, all], { told }) =>
+  [/^because another add or remove of the key ran during (\d+) of the (\d+) wrong answers(.*)$/, (it, [some, all, rate], { told }) => isRate(rate, some, all) &&
     told.wrong.length === Number(all) && told.wrong.filter((call) => runsDuring(it, call, (one) => one.key === call.key)).length === Number(some)],
-  [/^because another add or remove of the key, or a change of another key, ran during (\d+) of the (\d+) wrong answers$/, (it, [some, all], { told }) => {
+  [/^because another add or remove of the key, or a change of another key, ran during (\d+) of the (\d+) wrong answers(.*)$/, (it, [some, all, rate], { told }) => {
+    if (!isRate(rate, some, all)) return false;
     const isActive = (call) => it.calls.some((one) => one !== call && one.operation !== "contains" && (one.key === call.key || one.reply === "true") && inTime(one, call.begun, call.ended));
     return told.wrong.length === Number(all) && told.wrong.filter(isActive).length === Number(some);
   }],
@@ -761,7 +763,7 @@ const OF_WHY = [
   ...[/^because before (\d+) of the (\d+) times that a key was lost, a remove was among overlapping changes of the key$/,
     /^because (\d+) of the (\d+) times that a key was lost or came back, the opposite reply of one call would give an order$/,
     /^because (\d+) of the (\d+) times that a key was lost or came back, a call that returned false can have done it$/,
-    /^because no change of another key ran during (\d+) of the (\d+) times that a key was lost or came back$/,
+    /^because no change of another key ran during (\d+) of the (\d+) times that a key was lost or came back \(at other times: \d{1,2}0? of 100\)$/,
     /^because a smaller key was removed during (\d+) of the (\d+) times that a key was lost or came back, (?:and the smallest key is never hit|any other key during \d+)$/].map((pattern) =>
     [pattern, (it, [some, all], { tally }) => Number(some) <= Number(all) && Number(all) <= tally.lost + tally["came back"]]),
   [/^because keys are lost \((\d+)\)( and never come back)?, and at (\d+)(?: of (\d+))? losses (?:during one|that a call shows)/, (it, [lost, never, some, all], { tally }) =>
@@ -772,7 +774,7 @@ const OF_WHY = [
     Number(back) === tally["came back"] && Number(lost) === tally.lost && Number(some) <= Number(all) && (only === undefined || !isMissed(it, () => true))],
   [/^because during (\d+) of (\d+) contradictions no two calls overlapped, and keys differ by up to (\d+)$/, (it, [some, all, span]) => Number(some) <= Number(all) && isWrongAlone(it)
     && (span === undefined || Number(span) === Math.max(...keysOf(it)) - Math.min(...keysOf(it)))],
-  [/^because keys are lost \((\d+)\) (?:and|more than they) come back \((\d+)\), and (\d+) of (\d+) /, (it, [lost, back, some, all], { tally }) =>
+  [/^because keys are lost \((\d+)\) (?:and|more than they) come back \((\d+)\), and (?:a change of another key ran during )?(\d+) of (\d+) /, (it, [lost, back, some, all], { tally }) =>
     tally.lost === Number(lost) && tally["came back"] === Number(back) && Number(some) <= Number(all)],
   [/^because (\d+) of (\d+) undone changes overlapped a change of another key that can have written an older state back$/, (it, [some, all], { tally }) => Number(some) <= Number(all) && Number(all) <= tally.lost + tally["came back"]],
   [/^because the next call of the key did not see (\d+) of (\d+) adds and (\d+) of (\d+) removes, although no opposite change ran meanwhile$/, (it, found) => {
@@ -800,6 +802,45 @@ const OF_WHY = [
   [/^because during (\d+) of (\d+) changes that were undone another key came back or was lost$/, (it, [some, all], { tally }) => Number(some) <= Number(all) && Number(all) <= tally.lost + tally["came back"]],
   [/^because (\d+) of (\d+) undone changes of key (\d+) overlapped changes of key (\d+), and fewer overlapped those of any third key$/, (it, [some, all, one, two], { tally }) =>
     Number(some) <= Number(all) && Number(all) <= tally.lost + tally["came back"] && one !== two && !hasOrderOf(it, Number(one))],
+  [/^(?:because|fact) at (\d+) of (\d+) undone changes during which only one other key changed, the two keys differ by a multiple of (\d+) \(at sampled changes: (\d+) of 100\)$/, (it, [some, all, multiple, usual], { tally }) => {
+    const hit = keysOf(it).filter((key) => !hasOrderOf(it, key));
+    const changed = [...new Set(it.calls.filter((call) => isChange(call) && call.ended !== null).map(({ key }) => key))];
+    const differ = hit.some((key) => changed.some((other) => other !== key && Math.abs(key - other) % Number(multiple) === 0));
+    return differ && Number(some) <= Number(all) && Number(all) <= tally.lost + tally["came back"] && Number(some) * 10 >= Number(all) * 9 && Number(usual) <= 60;
+  }],
+  [/^(?:because|fact) a successful remove of the next smaller key known to be present ran during at least (\d+) of (\d+) checked answers that missed a key \(during sampled answers that found theirs: (\d+) of 100\)$/, (it, [some, all, usual], { told }) => {
+    const isPresent = (key, moment) => {
+      const ended = ofKey(it, key).filter((call) => call.ended !== null && call.ended < moment).sort((one, other) => one.ended - other.ended);
+      return ended.length === 0 ? opens(it, key) : leaves(ended.at(-1));
+    };
+    const isNext = (call) => {
+      const removes = it.calls.filter((one) => one.key < call.key && one.operation === "remove" && one.reply === "true" && inTime(one, call.begun, call.ended));
+      const next = Math.max(...removes.map(({ key }) => key));
+      return removes.length > 0 && keysOf(it).every((key) => key <= next || key >= call.key || !isPresent(key, call.begun));
+    };
+    const missed = (told?.wrong ?? it.calls.filter((call) => call.reply === "false")).filter((call) => !needsKey(call));
+    return missed.length >= Number(all) && missed.filter(isNext).length >= Number(some) && Number(some) <= Number(all) && Number(usual) <= 100;
+  }],
+  [/^(?:because|fact) before (\d+) of (\d+) checked wrong answers the last change of the key was by another thread \(of sampled answers: (\d+) of 100\), and before (\d+) the thread of the answer had changed a key since$/, (it, [some, all, usual, since], { told }) => {
+    const wrong = (told?.wrong ?? it.calls.filter((call) => call.ended !== null && !isChange(call))).map((answer) => {
+      const change = ofKey(it, answer.key).filter((call) => isChange(call) && call.ended !== null && call.ended < answer.begun).sort((one, other) => one.begun - other.begun).at(-1);
+      return { answer, change };
+    }).filter(({ change }) => change !== undefined);
+    const isLater = ({ answer, change }) => [...it.calls, ...it.padding].some((call) => call.thread === answer.thread && isChange(call) && call.ended !== null && call.begun >= change.ended && call.ended < answer.begun);
+    const foreign = wrong.filter(({ answer, change }) => answer.thread !== change.thread).length;
+    return wrong.length >= Number(all) && foreign >= Number(some) && wrong.filter(isLater).length >= Number(since) && Number(some) <= Number(all) && Number(usual) <= 100;
+  }],
+  [/^(?:because|fact) during at least (\d+) of (\d+) checked wrong answers a call of another thread returned the same \(during sampled answers the opposite: (\d+) of 100\)$/, (it, [some, all, usual], { told }) => {
+    const wrong = told?.wrong ?? it.calls.filter((call) => call.ended !== null && !isChange(call));
+    const isMet = (answer) => [...it.calls, ...it.padding].some((call) => call.thread !== answer.thread && call.reply === answer.reply && inTime(call, answer.begun, answer.ended));
+    return wrong.length >= Number(all) && wrong.filter(isMet).length >= Number(some) && Number(some) <= Number(all) && Number(usual) <= 100;
+  }],
+  [/^(?:because|fact) (\d+) answers that began from moment (\d+) to (\d+) missed (\d+) keys; (\d+) of (\d+) checked ones began at most 50 moments from one that missed another key \(by chance: (\d+) of 100\)$/, (it, [answers, from, to, keys, some, all, usual], { told }) => {
+    const missed = (told?.wrong ?? it.calls.filter((call) => call.ended !== null && !isChange(call))).filter((call) => !needsKey(call));
+    const burst = missed.filter((call) => call.begun >= Number(from) && call.begun <= Number(to));
+    const near = missed.filter((call) => missed.some((one) => one.key !== call.key && Math.abs(one.begun - call.begun) <= 50));
+    return burst.length >= Number(answers) && new Set(burst.map(({ key }) => key)).size >= Number(keys) && near.length >= Number(some) && missed.length >= Number(all) && Number(some) <= Number(all) && Number(usual) <= 100;
+  }],
   [/^because they disagree as long as nothing changes the key$/, () => true],
   [/^because an order fits until one moment, and then all (\d+) keys are hit, and calls disagree while nothing changes the key$/, (it, [count]) => {
     const keys = keysOf(it);

@@ -2,6 +2,7 @@
 //! these facts.
 
 use crate::odd_facts::{Odd, find_odd, places_of_odd};
+use crate::patterns::{Patterns, patterns_of};
 use crate::tally::Tally;
 use std::alloc::{AllocError, Global};
 use tool_calls::{
@@ -17,6 +18,7 @@ pub struct Evidence {
     pub merged: Option<(u32, u32)>,
     pub odd: Option<Odd>,
     pub tally: Tally,
+    pub patterns: Patterns,
     pub split: Option<Split>,
     /// Two keys that undo each other's changes.
     pub bound: Option<Bound>,
@@ -234,11 +236,13 @@ pub fn evidence_of(
     keys: &[u32],
     refused: &[Refused],
     found: &Found,
+    neighbours: &Neighbours,
 ) -> Result<Evidence, AllocError> {
     Ok(Evidence {
         merged: merged_keys(alloc, runs, refused)?,
         odd: found.odd,
         tally: found.tally,
+        patterns: patterns_of(alloc, runs, &found.places, neighbours)?,
         split: found.split,
         bound: found.bound.pair(found.tally.keys),
         keys: u64::try_from(keys.len()).unwrap_or(u64::MAX),

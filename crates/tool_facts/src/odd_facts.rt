@@ -479,7 +479,7 @@ fn count_around(sound: &KeyCalls, calls: &[Made], call: Made, odd: &mut Odd, wro
 const MOST_COMPARED: usize = 200;
 
 /// Returns whether the key was present after the last call that had ended before a moment.
-fn is_left_present(calls: &[Made], opening: Presence, moment: u64) -> bool {
+pub(crate) fn is_left_present(calls: &[Made], opening: Presence, moment: u64) -> bool {
     let (mut left, mut latest) = (Some(opening), 0);
     for call in calls {
         if call.begun >= moment {

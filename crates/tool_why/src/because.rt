@@ -5,6 +5,8 @@ use crate::diagnosis::Diagnosis;
 use crate::further::{Further, Growth};
 use crate::likely_odd::is_outlasted_each;
 use crate::likely_races::is_rarely_together;
+use crate::patterns::Pattern;
+use crate::sentences::put_ran;
 use std::alloc::{AllocError, Global};
 use tool_calls::{Made, NEVER};
 use tool_facts::{Evidence, Odd, Tally};
@@ -88,23 +90,10 @@ fn put_because_of_missed(out: &mut String, odd: &Odd, cause: Cause) -> Result<()
     }
 }
 
-/// Writes during how many wrong answers a kind of call ran.
-fn put_during(out: &mut String, count: u64, odd: &Odd, what: &str) -> Result<(), AllocError> {
-    let wrong = odd.wrong;
-    writeln!(
-        out,
-        "{what} ran during {count} of the {wrong} wrong answers"
-    )
-}
-
 /// Writes during how many wrong answers another add or remove of the key, or a change of another key, ran.
 fn put_active(out: &mut String, odd: &Odd) -> Result<(), AllocError> {
-    put_during(
-        out,
-        odd.active,
-        odd,
-        "another add or remove of the key, or a change of another key,",
-    )
+    let what = "another add or remove of the key, or a change of another key,";
+    put_ran(out, odd, what, odd.active, odd.usually_active)
 }
 
 /// Writes the fact that supports the cause `RemoveGivesUp`.
@@ -145,8 +134,11 @@ fn put_because_of_odd(out: &mut String, odd: &Odd, cause: Cause) -> Result<(), A
             out,
             "a successful add of another key ran during {adding} of the {missed} wrong answers"
         ),
-        Cause::MovedKeys => put_during(out, odd.beside, odd, "a change of another key"),
-        Cause::HalfDone => put_during(out, odd.same, odd, "another add or remove of the key"),
+        Cause::MovedKeys => put_ran(out, odd, "a change of another key", odd.beside, odd.usual),
+        Cause::HalfDone => {
+            let what = "another add or remove of the key";
+            put_ran(out, odd, what, odd.same, odd.usually_same)
+        }
         Cause::AddGivesUp => put_active(out, odd),
         Cause::RemoveGivesUp => put_given_up(out, odd),
         Cause::EndsEarly => writeln!(
@@ -209,7 +201,7 @@ fn put_because_of_calls(out: &mut String, tally: &Tally, cause: Cause) -> Result
 
 /// Writes the fact that supports the cause `UnlinkLost`: other removes ran during the removes that `add` did not see.
 fn put_because_of_unlinks(out: &mut String, further: &Further) -> Result<(), AllocError> {
-    let (removes, beside) = (further.unseen, further.unseen_beside);
+    let (removes, beside) = (further.unseen.of, further.unseen.count);
     if removes == 1 && beside == 1 {
         return out.push_str(
             "a successful remove of another key ran during the remove that add did not see, and nearly all later adds failed, too\n",
@@ -227,7 +219,7 @@ fn put_because_of_few(
     tally: &Tally,
     further: &Further,
 ) -> Result<(), AllocError> {
-    let (both, restored, pairs) = (tally.both(), further.restored, further.pairs);
+    let (both, restored, pairs) = (tally.both(), further.few.restored, further.few.pairs);
     if both > 0 {
         write!(out, "{both} times two overlapping calls both returned true")?;
         out.push_str(if restored > 0 { ", " } else { "" })?;
@@ -426,7 +418,8 @@ fn put_because_of_gone(
     let (swapped, undone) = (tally.swapped, tally.undone);
     let (silent, gone) = (tally.silent, tally.gone());
     let (removed, together) = (tally.removed, tally.together);
-    let usually = tally.usually_together;
+    let (usually, usual) = (tally.usually_together, tally.usual);
+    let quiet = 100u64.saturating_sub(usual);
     match cause {
         Cause::ReplacedAtOnce | Cause::OldCopyAtOnce => writeln!(
             out,
@@ -438,7 +431,7 @@ fn put_because_of_gone(
         ),
         Cause::NoLock => writeln!(
             out,
-            "no change of another key ran during {alone} of the {timed} times that a key was lost or came back"
+            "no change of another key ran during {alone} of the {timed} times that a key was lost or came back (at other times: {quiet} of 100)"
         ),
         Cause::OldCopy => writeln!(
             out,
@@ -446,7 +439,7 @@ fn put_because_of_gone(
         ),
         Cause::OldLink => writeln!(
             out,
-            "keys are lost ({lost}) more than they come back ({back}), and {beside} of {timed} such contradictions overlap a change of another key"
+            "keys are lost ({lost}) more than they come back ({back}), and a change of another key ran during {beside} of {timed} such contradictions (at other times: {usual} of 100)"
         ),
         Cause::Unlinked if evidence.is_first_spared => writeln!(
             out,
@@ -502,7 +495,7 @@ fn put_because_of_outlasted(
     odd: &Odd,
     further: &Further,
 ) -> Result<(), AllocError> {
-    let (some, wrong, usual) = (further.outlasted, odd.wrong, further.usually_outlasted);
+    let (some, wrong, usual) = (further.outlasted.count, odd.wrong, further.outlasted.usual);
     writeln!(
         out,
         "another call began before and ended after {some} of the {wrong} wrong answers, but only {usual} of 100 other answers"
@@ -517,6 +510,9 @@ fn put_because(out: &mut String, diagnosis: &Diagnosis, cause: Cause) -> Result<
             out,
             "as calls of one key the calls of keys {one} and {two} have an order"
         );
+    }
+    if let Some(pattern) = Pattern::of(cause) {
+        return pattern.put(out, &evidence.patterns);
     }
     if let Some(odd) = &evidence.odd {
         if matches!(cause, Cause::UnlinkLost) {

@@ -135,6 +135,16 @@ pub enum Cause {
     Cancelled,
     /// An add that returns false has inserted its key.
     AddUndone,
+    /// Changes of keys in one bucket do not exclude each other.
+    Stripes,
+    /// A remove moves the next greater key, and `contains` misses this key meanwhile.
+    Successor,
+    /// Each thread reads a copy of its own, which changes by other threads reach late.
+    ThreadCopy,
+    /// A call returns the reply of a call of another thread, since they share memory.
+    Borrowed,
+    /// Many keys are in neither of two places while they move.
+    InTransit,
     /// A remove takes effect late or twice, and removes a key that was added meanwhile.
     RemovedLater,
 }

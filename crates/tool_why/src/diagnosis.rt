@@ -128,7 +128,7 @@ pub fn diagnose(alloc: Global, recorded: &Recorded) -> Result<Option<Diagnosis>,
     };
     let neighbours = Neighbours::of(alloc, &recorded.calls)?;
     let found = find_all(alloc, &runs, &refused, &neighbours)?;
-    let evidence = evidence_of(alloc, &runs, &keys, &refused, &found)?;
+    let evidence = evidence_of(alloc, &runs, &keys, &refused, &found, &neighbours)?;
     let further = further_of(alloc, &runs, &keys, first.moment, &found, &neighbours)?;
     let was = match recorded.leaves(first.key) {
         Some(left) => other(left),

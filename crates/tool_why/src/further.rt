@@ -6,31 +6,33 @@ use tool_calls::{
     Fullness, KeyCalls, Made, NEVER, Neighbours, Operation, Place, Runs, is_expected, other,
     stretches_of,
 };
-use tool_facts::{Found, Odd, is_answer};
+use tool_facts::{Found, Odd, Share, is_answer};
 
 /// Further facts about a refused recording.
-#[derive(Clone, Copy)]
+#[derive(Clone, Copy, Default)]
 pub struct Further {
-    /// The number of pairs of overlapping adds and removes of one key, if at least one of the two returned true. 0 if
-    /// there are more than `MOST_RARE` contradictions.
-    pub pairs: u64,
-    /// The number of losses and returns of keys if the undone change overlapped an add or remove of its key that
-    /// returned false and found the state before the change. 0 if there are more than `MOST_RARE` contradictions.
-    pub restored: u64,
-    /// If only `add` is wrong: the number of removes that its checked wrong answers did not see. Otherwise 0.
-    pub unseen: u64,
-    /// The part of `unseen` that overlaps a successful remove of another key.
-    pub unseen_beside: u64,
-    /// If only `add` is wrong, and each wrong answer is checked: the number of wrong answers that another call
-    /// outlasts. The other call begins earlier and ends later. Otherwise 0.
-    pub outlasted: u64,
-    /// The percentage of the other answers of `add` that another call outlasts. 100 if there are none.
-    pub usually_outlasted: u64,
+    pub few: Few,
+    /// If only `add` is wrong: the removes that its checked wrong answers did not see, and how many of these overlap a
+    /// successful remove of another key.
+    pub unseen: Share,
+    /// If only `add` is wrong, and each wrong answer is checked: how many wrong answers another call outlasts. The
+    /// other call begins earlier and ends later. Comparable are the other answers of `add`.
+    pub outlasted: Share,
     /// The two wrong replies of the only two contradictions, if they are of overlapping calls, of two threads and two
     /// keys, and each is the reply that was expected of the other.
     pub swap: Option<(Made, Made)>,
     /// The numbers of keys, if many keys are added during the recording.
     pub growth: Option<Growth>,
+}
+
+/// Facts about at most `MOST_RARE` contradictions. 0 if there are more.
+#[derive(Clone, Copy, Default)]
+pub struct Few {
+    /// The number of pairs of overlapping adds and removes of one key, if at least one of the two returned true.
+    pub pairs: u64,
+    /// The number of losses and returns of keys if the undone change overlapped an add or remove of its key that
+    /// returned false and found the state before the change.
+    pub restored: u64,
 }
 
 /// The numbers of keys of a recording that adds many keys.
@@ -106,25 +108,21 @@ fn is_restored(key: &KeyCalls, place: &Place) -> bool {
             .any(|call| is_refusal_during(*call, change))
 }
 
-/// Adds the facts about few contradictions.
-fn add_few(
-    further: &mut Further,
-    runs: &Runs<'_>,
-    keys: &[u32],
-    found: &Found,
-) -> Result<(), AllocError> {
+/// Returns the facts about few contradictions.
+fn few_of(runs: &Runs<'_>, keys: &[u32], found: &Found) -> Result<Few, AllocError> {
+    let mut few = Few::default();
     if found.places.len() > MOST_RARE {
-        return Ok(());
+        return Ok(few);
     }
     for key in keys {
-        further.pairs = further.pairs.saturating_add(pairs_in(runs.made_of(*key)));
+        few.pairs = few.pairs.saturating_add(pairs_in(runs.made_of(*key)));
     }
     for place in &found.places {
         let key = runs.calls_of(place.key)?;
         let is_restored = is_restored(&key, place);
-        further.restored = further.restored.saturating_add(u64::from(is_restored));
+        few.restored = few.restored.saturating_add(u64::from(is_restored));
     }
-    Ok(())
+    Ok(few)
 }
 
 /// Returns the remove that a wrong answer of `add` did not see. Returns `None` if two removes of the key overlap, since
@@ -135,29 +133,9 @@ fn unseen_by(key: &KeyCalls, answer: Made) -> Option<Made> {
     (remove.ended < answer.begun && is_last).then_some(remove)
 }
 
-/// Counts a remove that a wrong answer did not see, unless it is the remove that was counted last.
-fn count_unseen(
-    further: &mut Further,
-    last: Option<Made>,
-    remove: Option<Made>,
-    neighbours: &Neighbours,
-) {
-    let Some(remove) = remove.filter(|remove| last != Some(*remove)) else {
-        return;
-    };
-    let sought = Some(Operation::Remove);
-    let is_beside = neighbours.overlap(remove.key, remove.begun, remove.ended, sought);
-    further.unseen = further.unseen.saturating_add(1);
-    further.unseen_beside = further.unseen_beside.saturating_add(u64::from(is_beside));
-}
-
-/// Adds the removes that the wrong answers of `add` did not see.
-fn add_unseen(
-    further: &mut Further,
-    runs: &Runs<'_>,
-    found: &Found,
-    neighbours: &Neighbours,
-) -> Result<(), AllocError> {
+/// Returns the removes that the wrong answers of `add` did not see, each counted once if its answers follow one another.
+fn unseen_of(runs: &Runs<'_>, found: &Found, neighbours: &Neighbours) -> Result<Share, AllocError> {
+    let mut unseen = Share::default();
     let mut last: Option<Made> = None;
     let mut known: Option<KeyCalls> = None;
     for answer in found.places.iter().filter_map(|place| place.wrong) {
@@ -165,10 +143,13 @@ fn add_unseen(
             known = Some(runs.calls_of(answer.key)?);
         }
         let remove = known.as_ref().and_then(|key| unseen_by(key, answer));
-        count_unseen(further, last, remove, neighbours);
-        last = remove.or(last);
+        if let Some(remove) = remove.filter(|remove| last != Some(*remove)) {
+            let (key, sought) = (remove.key, Some(Operation::Remove));
+            unseen.add(neighbours.overlap(key, remove.begun, remove.ended, sought));
+            last = Some(remove);
+        }
     }
-    Ok(())
+    Ok(unseen)
 }
 
 /// Returns the call of a contradiction that was expected to return the opposite reply.
@@ -223,36 +204,30 @@ fn begins_of_wrong(alloc: Global, found: &Found) -> Result<Vec<u64>, AllocError>
     Ok(begins)
 }
 
-/// Adds how many wrong answers, and what percentage of the other answers, another call outlasts. `calls` must be
+/// Returns how many wrong answers, and what percentage of the other answers, another call outlasts. `calls` must be
 /// ordered by begin.
-fn add_outlasted(
-    further: &mut Further,
+fn outlasted_of(
     alloc: Global,
     calls: &[Made],
     found: &Found,
     odd: &Odd,
-) -> Result<(), AllocError> {
+) -> Result<Share, AllocError> {
     let begins = begins_of_wrong(alloc, found)?;
+    let (mut last, mut wrong, mut others) = (0u64, Share::default(), Share::default());
     if u64::try_from(begins.len()).unwrap_or(0) != odd.wrong {
-        return Ok(());
+        return Ok(wrong);
     }
-    let (mut last, mut wrong, mut others, mut all) = (0u64, 0u64, 0u64, 0u64);
     for call in calls {
         if is_answer(*call, odd.operation) {
-            let is_wrong = begins.binary_search(&call.begun).is_ok();
-            let is_outlasted = u64::from(last > call.ended);
-            if is_wrong {
-                wrong = wrong.saturating_add(is_outlasted);
-            } else {
-                others = others.saturating_add(is_outlasted);
-                all = all.saturating_add(1);
+            let is_outlasted = last > call.ended;
+            match begins.binary_search(&call.begun) {
+                Ok(_) => wrong.add(is_outlasted),
+                Err(_) => others.add(is_outlasted),
             }
         }
         last = last.max(call.ended);
     }
-    further.outlasted = wrong;
-    further.usually_outlasted = others.saturating_mul(100).checked_div(all).unwrap_or(100);
-    Ok(())
+    Ok(wrong.against(others))
 }
 
 /// Many keys are added only if the recording has at least this many keys.
@@ -306,27 +281,18 @@ pub(crate) fn further_of(
     found: &Found,
     neighbours: &Neighbours,
 ) -> Result<Further, AllocError> {
-    let mut further = Further {
-        pairs: 0,
-        restored: 0,
-        unseen: 0,
-        unseen_beside: 0,
-        outlasted: 0,
-        usually_outlasted: 100,
-        swap: None,
-        growth: None,
-    };
-    match found.odd {
-        Some(odd) if odd.operation == Operation::Add => {
-            add_unseen(&mut further, runs, found, neighbours)?;
-            add_outlasted(&mut further, alloc, &runs.recorded.calls, found, &odd)?;
-        }
-        Some(_) => {}
-        None => {
-            add_few(&mut further, runs, keys, found)?;
-            further.swap = swap_of(alloc, runs, found)?;
-            further.growth = growth_of(alloc, runs, keys, moment)?;
-        }
-    }
-    Ok(further)
+    Ok(match found.odd {
+        Some(odd) if odd.operation == Operation::Add => Further {
+            unseen: unseen_of(runs, found, neighbours)?,
+            outlasted: outlasted_of(alloc, &runs.recorded.calls, found, &odd)?,
+            ..Further::default()
+        },
+        Some(_) => Further::default(),
+        None => Further {
+            few: few_of(runs, keys, found)?,
+            swap: swap_of(alloc, runs, found)?,
+            growth: growth_of(alloc, runs, keys, moment)?,
+            ..Further::default()
+        },
+    })
 }

@@ -15,6 +15,7 @@ mod guilty;
 mod likely;
 mod likely_odd;
 mod likely_races;
+mod patterns;
 mod sentences;
 mod shares;
 mod showing;

@@ -7,6 +7,7 @@ use crate::likely_races::{
     FEW_KEYS, LEAST_BOTH, MANY_CALLS, cause_of_races, has_crossed_replies, has_other_replies,
     is_first_use, is_old_copy_at_once, is_with,
 };
+use crate::patterns::{Pattern, is_borrowed, is_in_bursts};
 use crate::shares::{ENOUGH, is_least, is_share, share_of_all};
 use tool_facts::{Evidence, Tally};
 
@@ -245,10 +246,10 @@ const LEAST_REFUSED: u64 = 8;
 /// before the change. At least 100 times as many pairs of calls on a key must overlap.
 fn is_rarely_inside(evidence: &Evidence, further: &Further) -> bool {
     let tally = &evidence.tally;
-    let inside = tally.both().saturating_add(further.restored);
+    let inside = tally.both().saturating_add(further.few.restored);
     tally.places >= 2
         && inside == tally.places
-        && further.pairs >= tally.places.saturating_mul(100)
+        && further.few.pairs >= tally.places.saturating_mul(100)
         && !is_first_use(evidence)
 }
 
@@ -318,7 +319,7 @@ pub(crate) fn likely(evidence: &Evidence, further: &Further) -> Option<Cause> {
         return Some(Cause::TwoKeys);
     }
     if let Some(odd) = &evidence.odd {
-        return cause_of_odd(odd, further, evidence.keys);
+        return cause_of_odd(odd, further, evidence);
     }
     if evidence.split.is_some_and(|split| split.is_long()) {
         return Some(if is_broken_for_good(evidence) {
@@ -328,6 +329,9 @@ pub(crate) fn likely(evidence: &Evidence, further: &Further) -> Option<Cause> {
         });
     }
     let tally = &evidence.tally;
+    if is_borrowed(&evidence.patterns) {
+        return Some(Cause::Borrowed);
+    }
     if is_rarely_inside(evidence, further) {
         return Some(Cause::Inside);
     }
@@ -345,11 +349,18 @@ pub(crate) fn likely(evidence: &Evidence, further: &Further) -> Option<Cause> {
         return Some(check_then_act(tally));
     }
     if is_missed_beside(tally) {
-        return Some(Cause::MovedKeys);
+        return Some(if is_in_bursts(&evidence.patterns) {
+            Cause::InTransit
+        } else {
+            Cause::MovedKeys
+        });
     }
     let refusals = cause_of_refusals(tally);
     if refusals.is_some() {
         return refusals;
+    }
+    if Pattern::Strides.is_clear(&evidence.patterns) {
+        return Some(Cause::Stripes);
     }
     if is_unlinked(evidence) {
         return Some(Cause::Unlinked);

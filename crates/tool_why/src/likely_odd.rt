@@ -2,9 +2,10 @@
 
 use crate::causes::Cause;
 use crate::further::Further;
+use crate::patterns::{Pattern, is_borrowed, is_in_bursts};
 use crate::shares::{ENOUGH, is_least, share_of_all};
 use tool_calls::Operation;
-use tool_facts::Odd;
+use tool_facts::{Evidence, Odd, Patterns};
 
 /// Returns `true` if the chance that all wrong answers overlapped changes of other keys by accident is less than one in
 /// four.
@@ -152,6 +153,28 @@ fn cause_of_finds(odd: &Odd) -> Option<Cause> {
     }
 }
 
+/// Returns the likely cause if only `contains` is wrong, and its wrong answers have a pattern that few causes leave.
+fn cause_of_pattern(odd: &Odd, patterns: &Patterns) -> Option<Cause> {
+    let is_both_ways = odd.missed > 0 && odd.found > 0;
+    let is_foreign = is_least(patterns.foreign.count, patterns.foreign.of, 95);
+    if is_both_ways && is_foreign && !is_own(odd) && Pattern::Foreign.is_clear(patterns) {
+        Some(Cause::ThreadCopy)
+    } else if is_both_ways && is_borrowed(patterns) {
+        Some(Cause::Borrowed)
+    } else if odd.found > 0 || odd.running == odd.missed || is_size(odd) {
+        None
+    } else if is_in_bursts(patterns) {
+        Some(Cause::InTransit)
+    } else if Pattern::Successors.is_clear(patterns)
+        && is_least(patterns.successors.count, patterns.successors.of, 80)
+        && !needs_no_overlap(odd)
+    {
+        Some(Cause::Successor)
+    } else {
+        None
+    }
+}
+
 /// Returns the likely cause if only `contains` is wrong.
 fn cause_of_contains(odd: &Odd) -> Option<Cause> {
     if is_own(odd) && odd.found > 0 && odd.running.saturating_mul(2) < odd.wrong {
@@ -198,8 +221,8 @@ fn is_for_good(odd: &Odd, further: &Further) -> bool {
     odd.is_exact
         && odd.then_wrong >= LEAST_WRONG
         && is_least(odd.then_wrong, next, 95)
-        && further.unseen > 0
-        && is_least(further.unseen_beside, further.unseen, 60)
+        && further.unseen.of > 0
+        && is_least(further.unseen.count, further.unseen.of, 60)
 }
 
 /// Returns whether many answers are wrong, and the next answers are right.
@@ -211,9 +234,9 @@ fn is_passing_often(odd: &Odd) -> bool {
 /// in a thousand.
 pub(crate) fn is_outlasted_each(odd: &Odd, further: &Further) -> bool {
     odd.wrong >= ENOUGH
-        && further.outlasted == odd.wrong
-        && further.usually_outlasted <= 25
-        && share_of_all(further.usually_outlasted, odd.wrong) < 1_000
+        && further.outlasted.count == odd.wrong
+        && further.outlasted.usual <= 25
+        && share_of_all(further.outlasted.usual, odd.wrong) < 1_000
 }
 
 /// Returns the likely cause if only `add` is wrong.
@@ -242,8 +265,9 @@ fn cause_of_add(odd: &Odd, further: &Further) -> Option<Cause> {
     }
 }
 
-/// Returns the likely cause if one operation alone is wrong. `keys` is the number of keys in the recording.
-pub(crate) fn cause_of_odd(odd: &Odd, further: &Further, keys: u64) -> Option<Cause> {
+/// Returns the likely cause if one operation alone is wrong.
+pub(crate) fn cause_of_odd(odd: &Odd, further: &Further, evidence: &Evidence) -> Option<Cause> {
+    let keys = evidence.keys;
     let is_often = odd.wrong >= odd.keys.saturating_mul(2);
     let is_some = !is_least(odd.keys, keys, 75) && odd.wrong >= keys.saturating_mul(5);
     match odd.operation {
@@ -251,6 +275,9 @@ pub(crate) fn cause_of_odd(odd: &Odd, further: &Further, keys: u64) -> Option<Ca
         _ if odd.never_finds && is_often => Some(Cause::OneKey),
         _ if is_some && odd.is_exact && odd.missed > 0 && odd.found > 0 => Some(Cause::SomeKeys),
         Operation::Remove => cause_of_remove(odd),
-        Operation::Contains => cause_of_contains(odd),
+        Operation::Contains => match cause_of_pattern(odd, &evidence.patterns) {
+            None => cause_of_contains(odd),
+            cause => cause,
+        },
     }
 }

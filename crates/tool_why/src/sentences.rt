@@ -2,6 +2,7 @@
 
 use crate::causes::Cause;
 use crate::diagnosis::Diagnosis;
+use crate::patterns::put_patterns;
 use lset_words::Presence;
 use std::alloc::AllocError;
 use tool_calls::{Made, NEVER, Operation, Place, Split, Symptom, other, state_word};
@@ -408,7 +409,7 @@ fn put_rate(out: &mut String, odd: &Odd, count: u64, usual: u64) -> Result<(), A
 }
 
 /// Writes during how many wrong answers calls of this kind ran, and how often they ran during other answers.
-fn put_ran(
+pub(crate) fn put_ran(
     out: &mut String,
     odd: &Odd,
     what: &str,
@@ -536,6 +537,12 @@ fn answers_cause_text(cause: Cause) -> &'static str {
             "the search walks while changes of other keys move its key or its way, and does not look again (a swap, a half moved bucket)",
         Cause::LateCopy =>
             "contains reads a copy that is updated after add and remove return (a cache, a replica)",
+        Cause::Successor =>
+            "contains walks while a remove moves its key (a tree: the next greater key takes the place of the removed one)",
+        Cause::ThreadCopy =>
+            "each thread reads a copy of its own, which changes by other threads reach late (a cache, a snapshot)",
+        Cause::InTransit =>
+            "keys are in neither of two places while many of them move (a resize, a flush, a copy to a new table)",
         Cause::OneKey => "a hash, a comparison, a filter or a limit treats a key unlike others",
         Cause::SomeKeys =>
             "contains treats some keys unlike others (a hash, a key that is cut short, a limit)",
@@ -609,7 +616,7 @@ pub(crate) fn cause_text(cause: Cause) -> &'static str {
         Cause::OldCopy | Cause::OldCopyAtOnce =>
             "an older copy is written over newer changes of other keys (copy on write, a whole table, a shared word)",
         Cause::SharedPlace =>
-            "two adds at the same time take the same place, and one overwrites the other (a free slot given out twice, a head stored over another)",
+            "two adds at the same time take the same place, and one overwrites the other (a free or removed slot taken twice, a head stored over another)",
         Cause::AddLost =>
             "two adds at the same time both write, and one is lost, yet returns true (a failed compare-and-swap that is not checked)",
         Cause::BehindUnlinked =>
@@ -622,6 +629,10 @@ pub(crate) fn cause_text(cause: Cause) -> &'static str {
             "some keys share a word or bucket, and a change of one writes back an older state of the other (load, then store)",
         Cause::OtherReply =>
             "a call returns the reply of another call (a combiner or batch that hands replies to the wrong callers)",
+        Cause::Borrowed =>
+            "a call returns the reply of a call of another thread (a field or buffer that threads share)",
+        Cause::Stripes =>
+            "two changes in one bucket do not exclude each other (a lock of another stripe than the bucket, a link without a check)",
         Cause::MixedCalls =>
             "calls are mixed up: a call gets the reply or the key of another call (a combiner, a batch, a shared record)",
         Cause::OtherCall =>
@@ -663,6 +674,7 @@ pub(crate) fn put_known(out: &mut String, diagnosis: &Diagnosis) -> Result<(), A
     } else if diagnosis.cause.is_none() && !is_told_beside(&diagnosis.evidence.tally) {
         put_apart(out, &diagnosis.evidence.tally)?;
     }
+    put_patterns(out, &diagnosis.evidence.patterns, diagnosis.cause)?;
     if diagnosis.evidence.is_part {
         let calls = diagnosis.evidence.calls;
         writeln!(out, "only the first {calls} calls were looked at")?;

@@ -355,17 +355,7 @@ impl Diagnosis {
         if place.wrong != clash.first {
             self.show_change(key, clash)?;
         }
-        if let Some(stretch) = clash.stretch {
-            self.add_if(stretch.read)?;
-            for call in key.after(stretch.begun.saturating_sub(1)) {
-                if call.begun > stretch.ended || self.shown.len() >= 5 {
-                    break;
-                }
-                if call.changes() {
-                    add(&mut self.shown, *call)?;
-                }
-            }
-        }
+        self.show_stretch(key, clash)?;
         if self.evidence.odd.is_some() {
             self.show_around(key, place.wrong)?;
         }
@@ -376,12 +366,25 @@ impl Diagnosis {
                 add(&mut self.shown, *call)?;
             }
         }
-        if let Some(call) = place.wrong.or(clash.second) {
+        if let Some(call) = place.wrong.or(clash.second).filter(|call| call.reads()) {
             let change = key.change_before(clash.was, call.ended);
-            if let Some(change) = change {
-                if change.overlaps(call.begun, call.ended) && call.reads() {
-                    self.add_if(Some(change))?;
-                }
+            self.add_if(change.filter(|change| change.overlaps(call.begun, call.ended)))?;
+        }
+        Ok(())
+    }
+
+    /// Adds the changes of a contradiction that lead to the state `was` together.
+    fn show_stretch(&mut self, key: &KeyCalls, clash: &Clash) -> Result<(), AllocError> {
+        let Some(stretch) = clash.stretch else {
+            return Ok(());
+        };
+        self.add_if(stretch.read)?;
+        for call in key.after(stretch.begun.saturating_sub(1)) {
+            if call.begun > stretch.ended || self.shown.len() >= 5 {
+                break;
+            }
+            if call.changes() {
+                add(&mut self.shown, *call)?;
             }
         }
         Ok(())
