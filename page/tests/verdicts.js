@@ -14,8 +14,8 @@ const met = new Set(); // the patterns that some sentence has matched
 const [verdictOnCalls, verdictOnLacking, verdictOn] = ["verdictOnCalls", "verdictOnLacking", "verdictOn"].map(inPage);
 const [OwnAnswer, exerciseOf, readReport, LACKING] = ["OwnAnswer", "exerciseOf", "readReport", "LACKING"].map(inPage);
 const LAST = Infinity;
-const LONG = ["inside", "growing", "unlinked"]; // kinds with long recordings
-const OF_FACTS = ["inside", "unlinked", "ownCopies", "transit", "successors", "borrowed", "stripes"]; // kinds of which only the facts are checked
+const LONG = ["inside", "growing", "unlinked", "outlasted", "ownCopies", "transit", "successors", "borrowed", "stripes"]; // kinds with long recordings
+const OF_FACTS = ["inside", "unlinked", "outlasted", "ownCopies", "transit", "successors", "borrowed", "stripes"]; // kinds of which only the facts are checked
 
 // ---- Random numbers, which are the same each time this script runs.
 
