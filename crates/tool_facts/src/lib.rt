@@ -3,7 +3,9 @@
 //! decides the verdict.
 #![tactic(auto)]
 
+mod causes;
 mod evidence;
+mod further;
 mod key_recordings;
 mod odd;
 mod odd_facts;
@@ -13,7 +15,9 @@ mod stream_calls;
 mod tally;
 mod verdicts;
 
+pub use causes::Cause;
 pub use evidence::{Evidence, Found, evidence_of, find_all};
+pub use further::{Few, Further, Growth, further_of, is_refusal_during};
 pub use key_recordings::recording_of_key;
 pub use odd::is_answer;
 pub use odd_facts::Odd;

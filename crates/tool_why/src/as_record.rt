@@ -1,10 +1,10 @@
 //! Writes a diagnosis as a record. Each line has a name and its values.
 
-use crate::because::because_text;
-use crate::diagnosis::{Diagnosis, Mark};
-use crate::sentences::{cause_text, put_first, put_headline, put_known};
+use crate::sentences::{put_first, put_headline, put_known};
 use std::alloc::{AllocError, Global};
 use tool_calls::{put_call, state_word};
+use tool_guess::{because_text, cause_text};
+use tool_picture::{Diagnosis, Mark};
 
 fn put_mark(out: &mut String, mark: Mark) -> Result<(), AllocError> {
     match mark {
@@ -62,7 +62,13 @@ pub fn diagnosis_record(alloc: Global, diagnosis: &Diagnosis) -> Result<String, 
     if let Some(cause) = diagnosis.cause {
         let text = cause_text(cause);
         writeln!(out, "likely {text}")?;
-        let because = because_text(alloc, diagnosis, cause)?;
+        let because = because_text(
+            alloc,
+            &diagnosis.evidence,
+            &diagnosis.further,
+            diagnosis.guilty,
+            cause,
+        )?;
         writeln!(out, "because {because}")?;
     }
     Ok(out)

@@ -1,15 +1,14 @@
 //! The message of a diagnosis: headline, picture, scope, duration, and a likely cause.
 
-use crate::bars::put_picture;
-use crate::because::because_text;
-use crate::counted::count_in;
-use crate::diagnosis::{Diagnosis, diagnose};
-use crate::sentences::{cause_text, put_first, put_headline, put_known};
+use crate::diagnosing::diagnose;
+use crate::sentences::{put_first, put_headline, put_known};
 use lset_judge::Count;
 use std::alloc::{AllocError, Global};
 use std::io::Read;
 use tool_calls::Recorded;
 use tool_facts::RunReader;
+use tool_guess::{because_text, cause_text};
+use tool_picture::{Diagnosis, count_in, put_picture};
 
 /// The maximum number of lines of the verdict and the explanation, without blank lines. The line that a test adds is
 /// not counted.
@@ -20,7 +19,13 @@ fn put_guess(alloc: Global, out: &mut String, diagnosis: &Diagnosis) -> Result<(
     if let Some(cause) = diagnosis.cause {
         let text = cause_text(cause);
         writeln!(out, "likely: {text}")?;
-        let because = because_text(alloc, diagnosis, cause)?;
+        let because = because_text(
+            alloc,
+            &diagnosis.evidence,
+            &diagnosis.further,
+            diagnosis.guilty,
+            cause,
+        )?;
         writeln!(out, "  because {because}")?;
     }
     Ok(())

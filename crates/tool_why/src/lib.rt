@@ -1,25 +1,13 @@
-//! Diagnosis of a recording that no order explains: a message with the facts of `tool_facts`, a picture, and a likely
-//! cause. The diagnosis does not decide the verdict. The cause, after `likely:`, is a guess.
+//! Diagnosis of a recording that no order explains: a message with the facts of `tool_facts`, the picture of
+//! `tool_picture`, and the likely cause of `tool_guess`. The diagnosis does not decide the verdict. The cause, after `likely:`, is a guess.
 #![tactic(auto)]
 
 mod as_record;
-mod bars;
-mod because;
-mod causes;
-mod choosing;
-mod counted;
-mod diagnosis;
+mod diagnosing;
 mod explaining;
-mod further;
-mod guilty;
-mod likely;
-mod likely_odd;
-mod likely_races;
-mod patterns;
 mod sentences;
-mod shares;
-mod showing;
 
 pub use as_record::diagnosis_record;
-pub use diagnosis::{Diagnosis, diagnose};
+pub use diagnosing::diagnose;
 pub use explaining::{Explained, diagnosis_text, explain};
+pub use tool_picture::Diagnosis;

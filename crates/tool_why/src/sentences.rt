@@ -1,12 +1,11 @@
-//! Writes the sentences of a diagnosis: the headline, the scope, the duration, and the likely cause.
+//! Writes the sentences of a diagnosis: the headline, the scope and the duration.
 
-use crate::causes::Cause;
-use crate::diagnosis::Diagnosis;
-use crate::patterns::put_patterns;
 use lset_words::Presence;
 use std::alloc::AllocError;
 use tool_calls::{Made, NEVER, Operation, Place, Split, Symptom, other, state_word};
 use tool_facts::{Odd, Tally};
+use tool_guess::{put_patterns, put_ran, put_rate};
+use tool_picture::Diagnosis;
 
 /// Writes a line such as `contains(3) returned true, expected false`.
 fn put_returned(out: &mut String, call: Made, expected: bool) -> Result<(), AllocError> {
@@ -389,41 +388,6 @@ fn put_around_one(out: &mut String, diagnosis: &Diagnosis, odd: &Odd) -> Result<
     Ok(())
 }
 
-/// Writes during what percentage of other answers the same calls ran. They ran during `count` wrong answers. Writes
-/// nothing if there are no other answers.
-fn put_rate(out: &mut String, odd: &Odd, count: u64, usual: u64) -> Result<(), AllocError> {
-    let share = count
-        .saturating_mul(100)
-        .checked_div(odd.wrong)
-        .unwrap_or(0);
-    if odd.wrong >= odd.of {
-        Ok(())
-    } else if share.max(usual).saturating_sub(share.min(usual)) <= 10 {
-        write!(
-            out,
-            ", about as often as during other answers ({usual} of 100)"
-        )
-    } else {
-        write!(out, " (during other answers: {usual} of 100)")
-    }
-}
-
-/// Writes during how many wrong answers calls of this kind ran, and how often they ran during other answers.
-pub(crate) fn put_ran(
-    out: &mut String,
-    odd: &Odd,
-    what: &str,
-    count: u64,
-    usual: u64,
-) -> Result<(), AllocError> {
-    let wrong = odd.wrong;
-    write!(
-        out,
-        "{what} ran during {count} of the {wrong} wrong answers"
-    )?;
-    put_rate(out, odd, count, usual)
-}
-
 /// Writes which changes ran during the wrong answers, and how often during other answers: the first kind of change that
 /// ran clearly more often than during other answers or, without such a kind, how often any or none ran.
 fn put_meanwhile(out: &mut String, odd: &Odd) -> Result<(), AllocError> {
@@ -507,153 +471,6 @@ pub(crate) fn put_first(out: &mut String, diagnosis: &Diagnosis) -> Result<(), A
         )
     } else {
         out.push_str("(the picture shows another contradiction that is easier to see)\n")
-    }
-}
-
-/// Returns the sentence for a likely cause of wrong answers.
-fn answers_cause_text(cause: Cause) -> &'static str {
-    match cause {
-        Cause::MarkNotRead =>
-            "contains does not look at what remove changes first (a mark, a flag)",
-        Cause::SeenEarly =>
-            "contains finds a key whose add is not finished (a node linked at one level only, a flag that it does not read)",
-        Cause::NotSeenYet =>
-            "contains does not look at what add changes first (it reads a cache, a counter, a second link)",
-        Cause::TakenLater =>
-            "remove returns before the key has left what contains reads (a removal that is queued, delayed or copied later)",
-        Cause::Shortcut =>
-            "contains has a shortcut that returns false too early (a size, a filter, a bucket, a remembered node)",
-        Cause::MovedOrShortcut =>
-            "contains walks while other keys' changes move its key, or has a shortcut that returns false too early (a size, a filter)",
-        Cause::HalfDone =>
-            "contains meets a half done add or remove of its key (a node linked too early, cut out or reused too early)",
-        Cause::MarkOrCopy =>
-            "contains finds a key just removed: it does not look at a mark, or reads a copy that is updated a little later",
-        Cause::SizeFirst =>
-            "contains looks at a size first that add updates late (it returns false if the size is 0)",
-        Cause::ThreadCache =>
-            "contains reads a cache of its thread, which changes by other threads do not update",
-        Cause::MovedKeys =>
-            "the search walks while changes of other keys move its key or its way, and does not look again (a swap, a half moved bucket)",
-        Cause::LateCopy =>
-            "contains reads a copy that is updated after add and remove return (a cache, a replica)",
-        Cause::Successor =>
-            "contains walks while a remove moves its key (a tree: the next greater key takes the place of the removed one)",
-        Cause::ThreadCopy =>
-            "each thread reads a copy of its own, which changes by other threads reach late (a cache, a snapshot)",
-        Cause::InTransit =>
-            "keys are in neither of two places while many of them move (a resize, a flush, a copy to a new table)",
-        Cause::OneKey => "a hash, a comparison, a filter or a limit treats a key unlike others",
-        Cause::SomeKeys =>
-            "contains treats some keys unlike others (a hash, a key that is cut short, a limit)",
-        Cause::AddSeesRemoved =>
-            "add takes a removed node that is still linked for a present one (a mark not checked, an unlink that was lost)",
-        Cause::UnlinkLost =>
-            "an unlink was lost, so a removed node stays linked, and add takes it for present (two removes side by side, without a lock)",
-        Cause::AddGivesUp =>
-            "add gives up and returns false (a failed exchange or lock that is not tried again)",
-        Cause::LastKey =>
-            "contains leaves out the last key (a loop or search with a bound that is too small)",
-        Cause::EndsEarly =>
-            "the search ends too early, also without a race (a freed slot, a filter bit that another key cleared, a bound)",
-        Cause::RemoveShortcut =>
-            "remove has a shortcut that returns false too early (a size that add updates late)",
-        _ => "remove gives up on a present key (a failed exchange, a walk that lost its way)",
-    }
-}
-
-/// Returns the sentence for a likely cause.
-pub(crate) fn cause_text(cause: Cause) -> &'static str {
-    match cause {
-        Cause::TwoKeys => "two keys are taken for one (a hash, a key cut short, a comparison)",
-        Cause::KeptTwice =>
-            "the key is in the set twice (two places, a count), and remove takes one of them",
-        Cause::Evicted => "a limit or an eviction drops keys when many are present",
-        Cause::Overflow =>
-            "a comparison overflows (a difference of keys in a signed number of 32 bits)",
-        Cause::Displaced =>
-            "an add of another key drops it (a table that grows, a limit, an eviction, a shared slot)",
-        Cause::Batch =>
-            "a remove of another key carries out earlier removes (a batch, a queue), also of keys that were added again",
-        Cause::OtherKey =>
-            "a remove takes another key than its own (an index found earlier, the next node)",
-        Cause::OneThread =>
-            "an error without a race (a probe that ends too early, a comparison, a limit)",
-        Cause::GivesUp =>
-            "add and remove give up and return false, and do not try again (a try-lock, a failed compare-and-swap, a timeout)",
-        Cause::GivesUpBeside =>
-            "add and remove give up and return false while another key changes (a try-lock or compare-and-swap on a shared word, not tried again)",
-        Cause::InsertedTwice =>
-            "two adds insert the same key twice (each looked before the other inserted), and a remove takes one of them",
-        Cause::TwoPlaces =>
-            "calls test the key in two ways that no longer agree (a slot and its node, a mark and a link, a count below 0)",
-        Cause::Reused =>
-            "a removed node is used again while another call still uses it (ABA), and the set stays broken",
-        Cause::Inside =>
-            "two calls of a key are, rarely, inside the lock at the same time (a missing fence, a lock released too early)",
-        Cause::Outgrown =>
-            "a table or array is copied to a larger one while calls still change the old one (growth)",
-        Cause::FirstUse =>
-            "two first calls each create the same thing (a bucket, a node, a table), and one is lost",
-        Cause::GoesOn =>
-            "a remove undoes an add that overlaps it (it unlinks or clears after its effect, or a helper repeats it)",
-        Cause::EarlierLook =>
-            "the reply does not come from the change itself (from an earlier look, from a size)",
-        Cause::MadeAgain =>
-            "a call is repeated after it took effect, and returns the reply of the second attempt",
-        Cause::CheckThenAct =>
-            "check, then act: two calls look before either changes the set (no lock, or one that lets both in)",
-        Cause::BothCheck =>
-            "check, then act, in add and in remove: two calls look before either changes the set (no lock, or one that lets both in)",
-        Cause::AddChecks =>
-            "add checks, then acts: two adds look before either inserts (a check before the lock, and none after it)",
-        Cause::RemoveChecks =>
-            "remove checks, then acts: two removes look before either takes the key out, and both report it",
-        Cause::CarriedOutTwice =>
-            "a change is carried out twice (by a helper, or repeated), and the second time undoes a later change",
-        Cause::NoLock =>
-            "calls of one key do not exclude each other (two locks, a lock that fails, a load and then a store)",
-        Cause::OldCopy | Cause::OldCopyAtOnce =>
-            "an older copy is written over newer changes of other keys (copy on write, a whole table, a shared word)",
-        Cause::SharedPlace =>
-            "two adds at the same time take the same place, and one overwrites the other (a free or removed slot taken twice, a head stored over another)",
-        Cause::AddLost =>
-            "two adds at the same time both write, and one is lost, yet returns true (a failed compare-and-swap that is not checked)",
-        Cause::BehindUnlinked =>
-            "a key is added behind a node that is being removed (no mark, or a mark that add does not check)",
-        Cause::OldCopyByAdd =>
-            "add, but not remove, writes back what it read before, over newer changes (no compare-and-swap, or a lock released too early)",
-        Cause::OldCopyByRemove =>
-            "remove, but not add, writes back what it read before, over newer changes (no compare-and-swap, or a lock released too early)",
-        Cause::SharedWord =>
-            "some keys share a word or bucket, and a change of one writes back an older state of the other (load, then store)",
-        Cause::OtherReply =>
-            "a call returns the reply of another call (a combiner or batch that hands replies to the wrong callers)",
-        Cause::Borrowed =>
-            "a call returns the reply of a call of another thread (a field or buffer that threads share)",
-        Cause::Stripes =>
-            "two changes in one bucket do not exclude each other (a lock of another stripe than the bucket, a link without a check)",
-        Cause::MixedCalls =>
-            "calls are mixed up: a call gets the reply or the key of another call (a combiner, a batch, a shared record)",
-        Cause::OtherCall =>
-            "a call is carried out with the key of another call (a combiner or a shared record that is read too late)",
-        Cause::EffectLate =>
-            "changes take effect only after their calls have returned (a queue, a worker, a late write)",
-        Cause::Cancelled =>
-            "an add and a remove of different keys cancel each other (an elimination slot that does not compare keys)",
-        Cause::AddUndone =>
-            "add returns false although it has inserted the key (a failed check without an undo, a second attempt)",
-        Cause::RemovedLater =>
-            "a remove deletes the key late or again, and takes out a newer add (a queue of deletions, a helper, an unlink)",
-        Cause::OldLink =>
-            "a link is written without a check after the walk (behind a node unlinked meanwhile, or over a link changed meanwhile)",
-        Cause::Unlinked =>
-            "a node is linked to a neighbour that is being removed (no marks, or marks that are not checked)",
-        Cause::WrittenBack =>
-            "an older state of a neighbour is written back (a node, a queue of writes, an unchecked mark)",
-        Cause::Replaced | Cause::ReplacedAtOnce =>
-            "a table, segment or copy is replaced while calls still change the old one (a resize, a compaction, a failover)",
-        _ => answers_cause_text(cause),
     }
 }
 

@@ -1,7 +1,5 @@
 //! Guesses the likely cause from the facts in the message. Makes no guess if the facts fit no cause.
 
-use crate::causes::Cause;
-use crate::further::Further;
 use crate::likely_odd::cause_of_odd;
 use crate::likely_races::{
     FEW_KEYS, LEAST_BOTH, MANY_CALLS, cause_of_races, has_crossed_replies, has_other_replies,
@@ -9,7 +7,7 @@ use crate::likely_races::{
 };
 use crate::patterns::{Pattern, is_borrowed, is_in_bursts};
 use crate::shares::{ENOUGH, is_least, is_share, share_of_all};
-use tool_facts::{Evidence, Tally};
+use tool_facts::{Cause, Evidence, Further, Tally};
 
 /// The minimum number of keys for the guess that several of many keys change at the same time. The judges in tests use
 /// fewer keys in their first runs, so bugs that need no more keys are found there.
@@ -311,7 +309,7 @@ fn is_inserted_twice(tally: &Tally) -> bool {
 }
 
 /// Returns the likely cause. Returns `None` if the facts fit no cause, or if the recording is too small.
-pub(crate) fn likely(evidence: &Evidence, further: &Further) -> Option<Cause> {
+pub fn likely_cause(evidence: &Evidence, further: &Further) -> Option<Cause> {
     if !is_enough(evidence) {
         return None;
     }

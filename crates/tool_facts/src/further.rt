@@ -1,12 +1,15 @@
 //! Further facts about a refused recording, which only some likely causes need.
 
+use crate::evidence::Found;
+use crate::odd::is_answer;
+use crate::odd_facts::Odd;
+use crate::patterns::Share;
 use lset_words::Presence;
 use std::alloc::{AllocError, Global};
 use tool_calls::{
     Fullness, KeyCalls, Made, NEVER, Neighbours, Operation, Place, Runs, is_expected, other,
     stretches_of,
 };
-use tool_facts::{Found, Odd, Share, is_answer};
 
 /// Further facts about a refused recording.
 #[derive(Clone, Copy, Default)]
@@ -38,17 +41,18 @@ pub struct Few {
 /// The numbers of keys of a recording that adds many keys.
 #[derive(Clone, Copy)]
 pub struct Growth {
+    /// The first moment such that some key's calls have no order.
+    pub moment: u64,
     /// The number of opening keys.
     pub from: u64,
     /// The number of keys that are known to be present after all calls.
     pub to: u64,
-    /// The number of keys with a call before, and a call after, the first moment such that some key's calls have no
-    /// order.
+    /// The number of keys with a call before `moment` and a call after it.
     pub active: u64,
 }
 
 /// The maximum number of contradictions for the guess that a lock rarely fails.
-pub(crate) const MOST_RARE: usize = 7;
+const MOST_RARE: usize = 7;
 
 /// The maximum number of earlier calls on a key that are checked for an overlap.
 const MOST_EARLIER: usize = 64;
@@ -84,7 +88,7 @@ fn pairs_in(calls: &[Made]) -> u64 {
 
 /// Returns whether a call is an add or remove that returned false, overlaps a change, and found the state before the
 /// change.
-pub(crate) fn is_refusal_during(call: Made, change: Made) -> bool {
+pub fn is_refusal_during(call: Made, change: Made) -> bool {
     let is_refusal = call.reads() && call.operation != Operation::Contains;
     let is_met = call.begun < change.ended && change.begun < call.ended;
     is_refusal && is_met && call.needs() == change.makes().map(other)
@@ -267,13 +271,18 @@ fn growth_of(
     let full = Fullness::of(alloc, runs)?;
     let (from, to) = (full.before(0), full.before(NEVER));
     let is_large = to >= LEAST_PRESENT && to >= from.saturating_mul(4);
-    let growth = Growth { from, to, active };
+    let growth = Growth {
+        moment,
+        from,
+        to,
+        active,
+    };
     Ok((is_large && active >= LEAST_ACTIVE).then_some(growth))
 }
 
 /// Returns the further facts about a refused recording. `keys` are all keys of the recording. `moment` is the first
 /// moment such that some key's calls up to it have no order. Allocates.
-pub(crate) fn further_of(
+pub fn further_of(
     alloc: Global,
     runs: &Runs<'_>,
     keys: &[u32],

@@ -97,7 +97,7 @@ fn backs_in(
 /// Returns a contradiction by counting for the key that is refused first. Searches the calls up to the first moment
 /// such that the key's calls are not linearizable, but at most about the last `MOST_COUNTED` calls. Returns `None` if
 /// no contradiction is found. Allocates.
-pub(crate) fn count_in(
+pub fn count_in(
     alloc: Global,
     recorded: &Recorded,
     diagnosis: &Diagnosis,

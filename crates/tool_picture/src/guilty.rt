@@ -1,9 +1,8 @@
 //! Finds the call in a picture that is probably guilty, if the likely cause names a kind of call.
 
-use crate::causes::Cause;
 use crate::diagnosis::{Diagnosis, Mark};
-use crate::further::is_refusal_during;
 use tool_calls::{Made, Operation, Place};
+use tool_facts::{Cause, is_refusal_during};
 
 /// A change of another key that overlaps a wrong answer and ends more than this many moments later can have begun and
 /// ended for other reasons.
@@ -61,7 +60,7 @@ impl Sought {
 
 impl Diagnosis {
     /// Returns whether a call is the one that is probably guilty.
-    pub(crate) fn is_guilty(&self, call: Made) -> bool {
+    pub fn is_guilty(&self, call: Made) -> bool {
         self.guilty == Some(call)
     }
 
@@ -78,7 +77,7 @@ impl Diagnosis {
     }
 
     /// Returns whether the picture shows an add or remove that overlaps the contradicting call.
-    pub(crate) fn draws_writer(&self) -> bool {
+    pub fn draws_writer(&self) -> bool {
         let Some(second) = self.second else {
             return false;
         };

@@ -1,8 +1,7 @@
 //! The likely cause if several operations are wrong while calls overlap.
 
-use crate::causes::Cause;
 use crate::shares::{ENOUGH, is_least, is_share, share_of_all};
-use tool_facts::{Evidence, Tally};
+use tool_facts::{Cause, Evidence, Tally};
 
 /// Returns `true` if all contradictions are among the first calls on their keys.
 pub(crate) fn is_first_use(evidence: &Evidence) -> bool {

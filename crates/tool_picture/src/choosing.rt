@@ -1,13 +1,12 @@
 //! Chooses the contradiction that a diagnosis shows.
 
-use crate::causes::Cause;
 use lset_words::Presence;
 use std::alloc::{AllocError, Global};
 use tool_calls::{
     Clash, Made, Neighbours, Operation, Place, Refused, Runs, Split, Symptom, place_of,
     stretches_of,
 };
-use tool_facts::{Found, Odd, is_answer, verdict_clash};
+use tool_facts::{Cause, Found, Odd, is_answer, verdict_clash};
 
 /// The contradiction that the verdict names is preferred to a shorter one if it lasts at most this many moments.
 const SHORT: u64 = 300;

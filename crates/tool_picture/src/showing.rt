@@ -1,6 +1,5 @@
 //! Fills the picture of a diagnosis with calls and their marks.
 
-use crate::causes::Cause;
 use crate::choosing::{Named, OTHER_KEY, symptom_of};
 use crate::diagnosis::{Diagnosis, Mark, Shown};
 use std::alloc::{AllocError, Global};
@@ -8,7 +7,7 @@ use tool_calls::{
     Clash, KeyCalls, Made, NEVER, Neighbours, Operation, Place, Runs, Symptom, is_expected, other,
     stretches_of,
 };
-use tool_facts::{Found, Odd, is_answer};
+use tool_facts::{Cause, Found, Odd, is_answer};
 
 /// Returns the contradiction between a wrong answer and a later call: the answer leaves the key in a state that the
 /// later call does not need, and no call can have changed the state in between. `key` must not contain other answers of
@@ -178,13 +177,13 @@ fn recorded_call(calls: &[Made], call: Made) -> Made {
 
 impl Diagnosis {
     /// Returns whether the headline and the picture show a contradiction that the verdict does not name.
-    pub(crate) fn is_example(&self) -> bool {
+    pub fn is_example(&self) -> bool {
         !self.is_first && !self.shown.is_empty()
     }
 
     /// Replaces the calls in the picture by the recorded calls. A call that is pending in the picture can have ended in
     /// the recording.
-    pub(crate) fn complete(&mut self, calls: &[Made]) {
+    pub fn complete(&mut self, calls: &[Made]) {
         for one in &mut self.shown {
             one.call = recorded_call(calls, one.call);
         }

@@ -1,15 +1,12 @@
 //! Writes the fact that supports a likely cause. In the message it follows the word `because`.
 
-use crate::causes::Cause;
-use crate::diagnosis::Diagnosis;
-use crate::further::{Further, Growth};
 use crate::likely_odd::is_outlasted_each;
 use crate::likely_races::is_rarely_together;
 use crate::patterns::Pattern;
-use crate::sentences::put_ran;
+use crate::rates::put_ran;
 use std::alloc::{AllocError, Global};
 use tool_calls::{Made, NEVER};
-use tool_facts::{Evidence, Odd, Tally};
+use tool_facts::{Cause, Evidence, Further, Growth, Odd, Tally};
 
 /// Writes the fact that supports `cause`, if `contains` finds absent keys, or both finds absent keys and misses present
 /// keys.
@@ -239,12 +236,12 @@ fn put_because_of_few(
 /// Writes the fact that supports the cause `Outgrown`: many keys are added, and few keys are hit.
 fn put_because_of_growth(
     out: &mut String,
-    diagnosis: &Diagnosis,
+    evidence: &Evidence,
     growth: Growth,
 ) -> Result<(), AllocError> {
-    let (keys, all) = (diagnosis.evidence.tally.keys, diagnosis.evidence.keys);
-    let (from, to, active) = (growth.from, growth.to, growth.active);
-    let moment = diagnosis.first_moment;
+    let (keys, all) = (evidence.tally.keys, evidence.keys);
+    let (from, to) = (growth.from, growth.to);
+    let (active, moment) = (growth.active, growth.moment);
     writeln!(
         out,
         "many keys are added ({from} present at first, {to} at the end), {active} were in use at moment {moment}, and only {keys} of {all} keys are hit"
@@ -457,16 +454,19 @@ fn put_because_of_gone(
     }
 }
 
-/// Returns the fact that supports the likely cause, with the change in the picture that is probably guilty. Allocates.
-pub(crate) fn because_text(
+/// Returns the fact that supports the likely cause, followed by the call that is probably guilty, if there is one.
+/// Allocates.
+pub fn because_text(
     alloc: Global,
-    diagnosis: &Diagnosis,
+    evidence: &Evidence,
+    further: &Further,
+    guilty: Option<Made>,
     cause: Cause,
 ) -> Result<String, AllocError> {
     let mut fact = String::new(alloc);
-    put_because(&mut fact, diagnosis, cause)?;
+    put_because(&mut fact, evidence, further, cause)?;
     let mut out = String::from_str(alloc, fact.as_str().trim_end())?;
-    if let Some(call) = diagnosis.guilty {
+    if let Some(call) = guilty {
         let (word, key, thread) = (call.operation.word(), call.key, call.thread);
         let begun = call.begun;
         write!(out, "; here {word} {key} of thread {thread}, {begun} to ")?;
@@ -503,8 +503,12 @@ fn put_because_of_outlasted(
 }
 
 /// Writes the fact that supports the likely cause.
-fn put_because(out: &mut String, diagnosis: &Diagnosis, cause: Cause) -> Result<(), AllocError> {
-    let evidence = &diagnosis.evidence;
+fn put_because(
+    out: &mut String,
+    evidence: &Evidence,
+    further: &Further,
+    cause: Cause,
+) -> Result<(), AllocError> {
     if let Some((one, two)) = evidence.merged {
         return writeln!(
             out,
@@ -516,14 +520,14 @@ fn put_because(out: &mut String, diagnosis: &Diagnosis, cause: Cause) -> Result<
     }
     if let Some(odd) = &evidence.odd {
         if matches!(cause, Cause::UnlinkLost) {
-            return put_because_of_unlinks(out, &diagnosis.further);
+            return put_because_of_unlinks(out, further);
         }
-        if matches!(cause, Cause::AddGivesUp) && is_outlasted_each(odd, &diagnosis.further) {
-            return put_because_of_outlasted(out, odd, &diagnosis.further);
+        if matches!(cause, Cause::AddGivesUp) && is_outlasted_each(odd, further) {
+            return put_because_of_outlasted(out, odd, further);
         }
         return put_because_of_odd(out, odd, cause);
     }
-    if let (Cause::OtherReply, Some((one, two))) = (cause, diagnosis.further.swap) {
+    if let (Cause::OtherReply, Some((one, two))) = (cause, further.swap) {
         return put_because_of_swap(out, one, two);
     }
     match cause {
@@ -558,9 +562,9 @@ fn put_because(out: &mut String, diagnosis: &Diagnosis, cause: Cause) -> Result<
         | Cause::RemovedLater
         | Cause::MovedKeys => { put_because_of_mixed(out, &evidence.tally, cause) }
         Cause::SharedWord => put_because_of_pairs(out, evidence),
-        Cause::Inside => put_because_of_few(out, &evidence.tally, &diagnosis.further),
-        Cause::Outgrown => match diagnosis.further.growth {
-            Some(growth) => put_because_of_growth(out, diagnosis, growth),
+        Cause::Inside => put_because_of_few(out, &evidence.tally, further),
+        Cause::Outgrown => match further.growth {
+            Some(growth) => put_because_of_growth(out, evidence, growth),
             None => Ok(()),
         },
         Cause::GivesUp | Cause::GivesUpBeside | Cause::AddGivesUp | Cause::RemoveGivesUp => {

@@ -179,7 +179,7 @@ fn count_gaps(bars: &[Bar], own: usize) -> usize {
 }
 
 /// Draws the calls of a diagnosis in at most `most` lines. Allocates.
-pub(crate) fn put_picture(
+pub fn put_picture(
     alloc: Global,
     out: &mut String,
     diagnosis: &Diagnosis,

@@ -1,9 +1,8 @@
 //! The patterns among contradictions that a diagnosis states if they are clearly more frequent than by chance.
 
-use crate::causes::Cause;
 use crate::shares::{is_least, share_of_all};
 use std::alloc::AllocError;
-use tool_facts::{Patterns, Share};
+use tool_facts::{Cause, Patterns, Share};
 
 /// A pattern among contradictions.
 #[derive(Clone, Copy, PartialEq, Eq)]
@@ -113,7 +112,7 @@ pub(crate) fn is_in_bursts(patterns: &Patterns) -> bool {
 }
 
 /// Writes the patterns that are clearly more frequent than by chance, except for the one that supports `cause`.
-pub(crate) fn put_patterns(
+pub fn put_patterns(
     out: &mut String,
     patterns: &Patterns,
     cause: Option<Cause>,

@@ -1,11 +1,9 @@
 //! The likely cause if one operation alone is wrong.
 
-use crate::causes::Cause;
-use crate::further::Further;
 use crate::patterns::{Pattern, is_borrowed, is_in_bursts};
 use crate::shares::{ENOUGH, is_least, share_of_all};
 use tool_calls::Operation;
-use tool_facts::{Evidence, Odd, Patterns};
+use tool_facts::{Cause, Evidence, Further, Odd, Patterns};
 
 /// Returns `true` if the chance that all wrong answers overlapped changes of other keys by accident is less than one in
 /// four.

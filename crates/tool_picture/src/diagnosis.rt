@@ -1,14 +1,11 @@
 //! The diagnosis of a recording, and the calls of its picture.
 
-use crate::causes::Cause;
 use crate::choosing::{named_by_verdict, place_shown};
-use crate::further::{Further, further_of};
-use crate::likely::likely;
 use crate::showing::with_one_answer;
 use lset_words::Presence;
 use std::alloc::{AllocError, Global};
-use tool_calls::{Made, Neighbours, Place, Recorded, Refused, Runs, Symptom, first_of, other};
-use tool_facts::{Evidence, Found, evidence_of, find_all};
+use tool_calls::{Made, Neighbours, Place, Refused, Runs, Symptom};
+use tool_facts::{Cause, Evidence, Found, Further};
 
 /// The note beside a call in a picture.
 #[derive(Clone, Copy)]
@@ -79,7 +76,7 @@ const MOST_LISTED: usize = 6;
 
 /// Returns all contradictions ordered by time, if there are few and no operation alone is wrong. Otherwise returns
 /// none.
-fn few_of(alloc: Global, found: &Found) -> Result<Vec<Place>, AllocError> {
+pub fn few_of(alloc: Global, found: &Found) -> Result<Vec<Place>, AllocError> {
     let mut few = Vec::new(alloc);
     if found.odd.is_none() && found.places.len() <= MOST_LISTED {
         few.extend_from_slice(&found.places)?;
@@ -88,13 +85,15 @@ fn few_of(alloc: Global, found: &Found) -> Result<Vec<Place>, AllocError> {
     Ok(few)
 }
 
-/// Creates a diagnosis without a picture.
-fn begin(
+/// Creates a diagnosis without a picture. `first` is the key that is refused first. `was` is the key's state before the
+/// contradiction.
+pub fn undrawn(
     alloc: Global,
     first: Refused,
     was: Presence,
     evidence: Evidence,
     further: Further,
+    cause: Option<Cause>,
 ) -> Diagnosis {
     Diagnosis {
         symptom: Symptom::Unclear,
@@ -109,7 +108,7 @@ fn begin(
         later: None,
         evidence,
         further,
-        cause: likely(&evidence, &further),
+        cause,
         guilty: None,
         first_key: first.key,
         first_moment: first.moment,
@@ -118,38 +117,29 @@ fn begin(
     }
 }
 
-/// Diagnoses a recording. Returns `None` if some order explains the recording. Allocates.
-pub fn diagnose(alloc: Global, recorded: &Recorded) -> Result<Option<Diagnosis>, AllocError> {
-    let runs = Runs::of(alloc, recorded)?;
-    let keys = runs.keys()?;
-    let refused = runs.refused(&keys)?;
-    let Some(first) = first_of(&refused) else {
-        return Ok(None);
-    };
-    let neighbours = Neighbours::of(alloc, &recorded.calls)?;
-    let found = find_all(alloc, &runs, &refused, &neighbours)?;
-    let evidence = evidence_of(alloc, &runs, &keys, &refused, &found, &neighbours)?;
-    let further = further_of(alloc, &runs, &keys, first.moment, &found, &neighbours)?;
-    let was = match recorded.leaves(first.key) {
-        Some(left) => other(left),
-        None => recorded.opens(first.key),
-    };
-    let mut diagnosis = begin(alloc, first, was, evidence, further);
-    diagnosis.few = few_of(alloc, &found)?;
-    let named = named_by_verdict(alloc, &runs, &found, first)?;
-    let Some(place) = place_shown(&found, &named, diagnosis.cause, &neighbours) else {
-        diagnosis.show_wrong(alloc, &runs, &found, &named, &neighbours)?;
-        return Ok(Some(diagnosis));
-    };
-    let key = runs.calls_of(place.key)?;
-    let key = match (found.odd, place.wrong) {
-        (Some(odd), Some(wrong)) => with_one_answer(alloc, key, odd, wrong)?,
-        _ => key,
-    };
-    diagnosis.is_first = named.is(&place);
-    if named.has_calls_of(&place) {
-        diagnosis.show_named(&named)?;
+impl Diagnosis {
+    /// Draws the picture: chooses a contradiction, and adds its calls and marks. Allocates.
+    pub fn draw(
+        &mut self,
+        alloc: Global,
+        runs: &Runs<'_>,
+        found: &Found,
+        first: Refused,
+        neighbours: &Neighbours,
+    ) -> Result<(), AllocError> {
+        let named = named_by_verdict(alloc, runs, found, first)?;
+        let Some(place) = place_shown(found, &named, self.cause, neighbours) else {
+            return self.show_wrong(alloc, runs, found, &named, neighbours);
+        };
+        let key = runs.calls_of(place.key)?;
+        let key = match (found.odd, place.wrong) {
+            (Some(odd), Some(wrong)) => with_one_answer(alloc, key, odd, wrong)?,
+            _ => key,
+        };
+        self.is_first = named.is(&place);
+        if named.has_calls_of(&place) {
+            self.show_named(&named)?;
+        }
+        self.show(alloc, &key, place, neighbours)
     }
-    diagnosis.show(alloc, &key, place, &neighbours)?;
-    Ok(Some(diagnosis))
 }

@@ -1,0 +1,18 @@
+//! Guesses the likely cause of a refusal from the facts of `tool_facts`, and writes the cause and the fact that
+//! supports it. Makes no guess if the facts fit no cause.
+#![tactic(auto)]
+
+mod because;
+mod cause_texts;
+mod likely;
+mod likely_odd;
+mod likely_races;
+mod patterns;
+mod rates;
+mod shares;
+
+pub use because::because_text;
+pub use cause_texts::cause_text;
+pub use likely::likely_cause;
+pub use patterns::put_patterns;
+pub use rates::{put_ran, put_rate};
