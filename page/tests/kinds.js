@@ -312,7 +312,7 @@ module.exports = ({ draw, pick, replyOf, keysAfter, paddingAfter }) => {
     function borrowed() { // a call returns the reply that was stored last, perhaps by another thread
       let last = null;
       const isAll = draw(2) === 0;
-      return madeBy([1, 2, 5, 6], 60, ({ call, set }) => {
+      return madeBy([1, 2, 5, 6], isAll ? 20 : 60, ({ call, set }) => {
         last = set.take(call);
         return [last, () => { if (isAll || call.operation === "contains") call.reply = last; }];
       }, 3, 2, ["add", "remove", "contains"]);

@@ -241,22 +241,25 @@ const LEAST_REFUSED: u64 = 8;
 
 /// Returns whether each of a few contradictions is of two calls on a key that overlapped as if each ran alone: two
 /// calls of the same operation both returned true, or a change was undone that overlapped a call that found the state
-/// before the change. At least 100 times as many pairs of calls on a key must overlap.
+/// before the change. At least 100 times as many pairs of calls on a key must overlap. Not all contradictions can be
+/// pairs of adds: a check in `add` explains these.
 fn is_rarely_inside(evidence: &Evidence, further: &Further) -> bool {
     let tally = &evidence.tally;
     let inside = tally.both().saturating_add(further.few.restored);
     tally.places >= 2
         && inside == tally.places
+        && tally.both_adds < tally.places
         && further.few.pairs >= tally.places.saturating_mul(100)
         && !is_first_use(evidence)
 }
 
-/// Returns whether few of many added keys are hit, and most contradictions are losses or returns of keys, or pairs of
-/// calls that both returned true.
+/// Returns whether few of many added keys are hit, and most of at least three contradictions are losses or returns of
+/// keys, or pairs of calls that both returned true.
 fn is_outgrown(evidence: &Evidence, further: &Further) -> bool {
     let tally = &evidence.tally;
     let plain = tally.gone().saturating_add(tally.both());
     further.growth.is_some()
+        && tally.places >= 3
         && tally.gone() > 0
         && is_least(plain, tally.places, 60)
         && tally.keys.saturating_mul(5) <= evidence.keys

@@ -226,7 +226,7 @@ fn cause_of_gone(evidence: &Evidence) -> Option<Cause> {
     if is_carried_out_twice(tally) {
         return Some(Cause::CarriedOutTwice);
     }
-    if !is_share(tally.beside, tally.timed(), 75) {
+    if !is_share(tally.beside, tally.timed(), 90) {
         let is_own = is_least(tally.own, tally.made, 60);
         return if evidence.keys > 1 && is_own && is_beside_by_chance(tally) {
             Some(Cause::NoLock)
