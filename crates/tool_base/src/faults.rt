@@ -5,7 +5,8 @@ use crate::trouble::{Trouble, ValueName};
 use lset_text::cut;
 use std::alloc::{AllocError, Global};
 
-/// The output of the command `faults`: every error message of the program, and a sentence about each cause.
+/// The output of the command `faults`: every error message of the program, and a sentence about each cause. The heading
+/// ends at the first empty line.
 pub const FAULTS: &str = "\
 Error messages of listset. 'listset faults Idle' explains the cause Idle alone. 'listset explain FILE' explains the first error of a
 file. docs/TEXTS.md has examples.
@@ -195,27 +196,12 @@ fn name_in(word: &[u8]) -> &[u8] {
     }
 }
 
-/// Returns `FAULTS` without its heading: all sections with their titles and entries.
-fn parts() -> &'static [u8] {
-    let mut rest = FAULTS.as_bytes();
-    for _ in 0..FAULTS.len() {
-        match cut(rest, b'\n') {
-            Some(([], after)) => return after,
-            Some((_, after)) => rest = after,
-            None => return rest,
-        }
-    }
-    rest
-}
-
 /// Reads the argument of `faults`: the name of a cause, message or section (ignoring case), or a whole error line.
 /// Returns `ValueName::Cause` if no section title and no entry of `FAULTS` starts with that name.
 pub fn read_fault_name(word: &[u8]) -> Result<FaultName, ValueName> {
     let word = name_in(word);
-    let mut rest = parts();
-    for _ in 0..FAULTS.len() {
-        let (line, after) = cut(rest, b'\n').ok_or(ValueName::Cause)?;
-        rest = after;
+    for line in FAULTS.lines().skip_while(|line| !line.is_empty()) {
+        let line = line.as_bytes();
         if FaultLine::of(line) == FaultLine::More {
             continue;
         }
@@ -245,12 +231,8 @@ fn put_line(out: &mut Vec<u8>, title: &[u8], line: &[u8]) -> Result<(), AllocErr
 /// only the entries with this name are appended, below the section's title.
 fn put_named(out: &mut Vec<u8>, name: &[u8]) -> Result<(), AllocError> {
     let (mut title, mut is_whole, mut is_told) = (b"".as_slice(), false, false);
-    let mut rest = parts();
-    for _ in 0..FAULTS.len() {
-        let Some((line, after)) = cut(rest, b'\n') else {
-            break;
-        };
-        rest = after;
+    for line in FAULTS.lines().skip_while(|line| !line.is_empty()) {
+        let line = line.as_bytes();
         match FaultLine::of(line) {
             FaultLine::Title => {
                 title = line;
