@@ -1,26 +1,14 @@
 -- Lemmas about the events of a schedule as one list, for the loop that executes them.
-use Rattle.std.proofs.Common.{rules}
 use Rattle.std.proofs.lemmas.Grind.{common_steps}
 use Rattle.std.proofs.Common.{◌≡◌, ℕ, zero, suc, drop, arith, ◌-◌, ◌+◌, ◌<◌, ◌≤◌, List, [], ◌∷◌, ◌++◌, replicate, length, get_or}
-use Rattle.std.proofs.Common.{refl, sym, ap, ◌∙◌, add-one, length-append, length-drop, drop-cons}
-use Rattle.std.specs.List.{sum_by}
-use Rattle.std.proofs.lemmas.List.Sums.{sum_by-cons}
-use Rattle.std.proofs.lemmas.List.{length-replicate, length-map}
+use Rattle.std.proofs.Common.{sym, ap, ◌∙◌, add-one, length-drop, drop-cons}
+use Rattle.std.proofs.lemmas.List.{length-map}
 use Rattle.lset_schedule.specs.declared.value.Line.{Line}
 use Rattle.lset_schedule.specs.declared.value.Line.TheVariants as line
-use Rattle.lset_schedule.specs.Plan.{event_count}
 use Rattle.lset_words.specs.declared.Call.TheVariants as call
 use Rattle.lset_replay.specs.declared.events.LineEvent.{LineEvent}
 use Rattle.lset_replay.specs.Events.{events_of_line, events_from, only_events, event_in}
 use Rattle.lset_replay.specs.Follows.{ComesNext}
-
-length_of_line : (n : ℕ) (l : Line) → length (events_of_line n l) ≡ event_count l
-length_of_line n (line.Begin t call) = refl
-length_of_line n (line.Go t steps) = length-replicate steps _
-
-pub length_of_events : (n : ℕ) (ls : List Line) → length (events_from n ls) ≡ sum_by event_count ls
-length_of_events n [] = refl
-length_of_events n (l ∷ ls) = search (rules, length-append, length_of_line, sum_by-cons, length_of_events (n + 1) ls)
 
 pub as_many : (es : List LineEvent) → length (only_events es) ≡ length es
 as_many es = length-map es event_in
