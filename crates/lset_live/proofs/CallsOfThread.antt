@@ -4,6 +4,7 @@ use Rattle.std.proofs.Common.{◌≡◌, ◌≢◌, ⊎_elim, ℕ, zero, suc, �
 use Rattle.std.proofs.Common.{Option, Some, None, refl, sym, ap, ◌∙◌, arith, append-nil, if◌then◌else◌}
 use Rattle.std.specs.Prelude.{filter, ◌&&◌, is_none}
 use Rattle.std.proofs.lemmas.List.{map-append}
+use Rattle.std.proofs.lemmas.List.Elements.{filter-append}
 use Rattle.lset_words.proofs.Numbers.{same_or_not, equal_test, unequal_test, same_number}
 use Rattle.lset_words.specs.declared.Reply.{Reply}
 use Rattle.lset_words.specs.declared.history.CallRecord.{CallRecord}
@@ -29,15 +30,6 @@ open_records u (Some o) = record { thread = u; call = o.call; begun = o.begun; e
 -- Returns the completed calls and the pending call of thread u as the call records of a history.
 abbrev pub thread_records : ℕ → List OwnCall → Option PendingCall → List CallRecord
 thread_records u done under_way = map (ended_record u) done ++ open_records u under_way
-
-filter-append : (p : CallRecord → Bool) (xs ys : List CallRecord) → filter p (xs ++ ys) ≡ filter p xs ++ filter p ys
-filter-append p [] ys = refl
-filter-append p (x ∷ xs) ys = by_test (p x) (filter-append p xs ys)
-  where
-    by_test : (b : Bool) → filter p (xs ++ ys) ≡ filter p xs ++ filter p ys →
-        cond b (x ∷ filter p (xs ++ ys)) (filter p (xs ++ ys)) ≡ cond b (x ∷ filter p xs) (filter p xs) ++ filter p ys
-    by_test true ih = ap (λ l. x ∷ l) ih
-    by_test false ih = ih
 
 module _ (m : ℕ) (ch : Option Change) (a : Option Reply) where
   abbrev on : ℕ → TracedCall → TracedCall

@@ -27,12 +27,12 @@ use Rattle.atomic_table.specs.Table.{Final, Seen}
 use Rattle.lset_rule.proofs.OneMoreEvent.{end_laws}
 use Rattle.lset_rule.proofs.Counts.{has_all, closes}
 use Rattle.lset_words.specs.Records.{Keeps}
-use Rattle.lset_live.specs.Dated.{record_of}
+use Rattle.lset_rule.specs.Dated.{record_of}
 use Rattle.lset_live.specs.Explained.{IsOneLegalOrder, IsOneOrderInTime}
 use Rattle.lset_live.specs.Closes.{LastWords, HasKeys, HasLaws, IsLast}
-use Rattle.lset_live.proofs.DatedRecords.{in_named, said_by}
+use Rattle.lset_live.proofs.DatedRecords.{said_by}
 use Rattle.lset_live.proofs.OrderKeepsRecord.{calls_by_is}
-use Rattle.lset_live.proofs.PastCalls.{none_in}
+use Rattle.lset_rule.proofs.RecordsOfRuns.{none_in}
 use Rattle.lset_live.proofs.SeenExplained.{own, order, explains, turns, kept}
 
 -- The nodes that can be reached from the head, and the keys of these nodes, do not depend on how many slots (nodes for
@@ -90,7 +90,7 @@ module _ (T : Table) (law : Lawful T) (v : View) (st : Stands T v) (idle : v.und
         threads = All-from_recursion (λ (a : Answered). a.thread < k.threads) (map (answered H) P) (of_threads P known);
         no_other = λ u low out. calls_by_is k.quota (opening_set k) H P ex.linearizes (turns T law v st idle linear) u
             (calls_of u v.past) (own T law v st idle u (has_all T v st full u low))
-            ∙ ap (map (said_by u)) (none_in u v.past (λ n. out (inl (in_named u v.past n))));
+            ∙ ap (map (said_by u)) (none_in u v.past (λ n. out (inl n)));
         leaves = one_content (view (sizes k) (end_of T k v.seen).words (used_in (end_of T k v.seen)))
             (set_left (opening_set k) (map (answered H) P)).keys keys
             ex.content (same_content (sizes k) (end_of T k v.seen).words (λ t. 0) (used_in (end_of T k v.seen)) keys now);

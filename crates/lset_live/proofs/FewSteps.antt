@@ -26,8 +26,7 @@ use Rattle.lset_rule.specs.Seats.{TableSeat}
 use Rattle.lset_rule.specs.Pasts.{calls_of, root}
 use Rattle.lset_rule.specs.Runs.{Here, done_at, done_next, ending, own, pending_of, under_after, under_at}
 use Rattle.lset_rule.proofs.OneMoreEvent.{Tied, tied, under_step}
-use Rattle.lset_live.specs.Dated.{record_of}
-use Rattle.lset_live.proofs.DatedRecords.{root_is}
+use Rattle.lset_rule.specs.Dated.{record_of}
 use Rattle.lset_live.proofs.SeenExplained.{seat_at}
 use Rattle.lset_live.specs.Explained.{HasMadeAtMost}
 use Rattle.lset_live.specs.Seats.{SeatValue, SetValue}
@@ -121,7 +120,7 @@ module _ (T : Table) (law : Lawful T) (reads : BoundedReads T) (key : Key) (v : 
   pub within : steps_since (event_at w.seen) (thread_of (record_of v.past)) (length w.seen) ≤ most_reads (sizes v.shape)
   within = subst (λ k. steps_since (event_at w.seen) (thread_of (record_of v.past)) (length w.seen) ≤ most_reads (sizes k))
       m.same.1 (subst (λ u. steps_since (event_at w.seen) u (length w.seen) ≤ most_reads (sizes w.shape))
-      (sym (root_is v.past ∙ rooted)) within_shape)
+      (sym rooted) within_shape)
 
 pub few_steps : (T : Table) → Lawful T → BoundedReads T → (key : Key) (s : TableSeat) (r : Reply) (s' : TableSeat)
     → Makes T (Contains key) s.me.0 r s'.me.0 → (set : SetValue) (old : SeatValue) → seat_at s ≡ old → old.set ≡ set

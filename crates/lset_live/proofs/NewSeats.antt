@@ -7,7 +7,7 @@ use Rattle.atomic_table.specs.declared.shared.Seat.{Seat}
 use Rattle.atomic_table.specs.Seated.{TableId}
 use Rattle.lset_rule.specs.declared.view.View.{View}
 use Rattle.lset_rule.proofs.RuleAtOpening.{IsNew}
-use Rattle.lset_live.specs.Dated.{record_of}
+use Rattle.lset_rule.specs.Dated.{record_of}
 use Rattle.lset_live.specs.Seats.{SeatValue, SetValue, IsOpened, new_seat}
 use Rattle.lset_words.specs.Words.{Opening}
 

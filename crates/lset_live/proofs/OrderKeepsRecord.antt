@@ -6,7 +6,7 @@ use Rattle.std.proofs.Common.{append-nil, append_assoc}
 use Rattle.std.specs.Prelude.{filter, Contains, AllPairs, IsSomeAnd}
 use Rattle.std.specs.List.{AllByRecursion}
 use Rattle.std.proofs.lemmas.List.Elements.{recursion_from_All, All-contains_itself}
-use Rattle.std.proofs.lemmas.List.{get_or_default}
+use Rattle.std.proofs.lemmas.List.{get_or_default, map-append}
 use Rattle.std.proofs.lemmas.Bool.{cases_order}
 use Rattle.lset_words.proofs.Numbers.{same_or_not, below_or_not, equal_test, unequal_test, same_number}
 use Rattle.lset_words.proofs.IncreasingLists.{IncreasesFrom, same_increasing, contains-cons, contains-head, contains-tail, contains-nil}
@@ -20,14 +20,13 @@ use Rattle.lset_history.proofs.Lists.{Pairs, all_filter, all_left, all_both, all
 use Rattle.lset_rule.specs.declared.view.OwnCall.{OwnCall}
 use Rattle.lset_rule.specs.declared.view.Past.{Past, Fresh, Called', Gathered'}
 use Rattle.lset_rule.specs.Pasts.{root, InOrder, Apart, IsIn, calls_of}
-use Rattle.lset_rule.proofs.RecordsOfRuns.{HasGathered}
+use Rattle.lset_rule.proofs.RecordsOfRuns.{HasGathered, root_in, none_in}
 use Rattle.lset_words.specs.Records.{Follows, Keeps, KeepsItems, calls_by}
-use Rattle.lset_live.specs.Dated.{call_of, record_of}
-use Rattle.lset_live.proofs.DatedRecords.{said_by, root_is, has_gathered, has_own}
+use Rattle.lset_rule.specs.Dated.{call_of, record_of}
+use Rattle.lset_live.proofs.DatedRecords.{said_by, has_own}
 use Rattle.lset_live.proofs.CallsOfThread.{of_thread, ended_record}
 use Rattle.lset_rule.proofs.RecordsOfRuns as dated
-use Rattle.lset_live.proofs.PastCalls.{EndsBefore, gathered_before, gathered_in, gathered_other, none_in, own_is, own_last}
-use Rattle.lset_live.proofs.PastCalls.{root_in}
+use Rattle.lset_live.proofs.PastCalls.{EndsBefore, gathered_before, gathered_in, gathered_other, own_is, own_last}
 
 pairs_rec : {X : Type 0} (R : X → X → Type 0) (xs : List X) → AllPairs R xs → Pairs R xs
 pairs_rec R [] a = tt
@@ -377,10 +376,6 @@ pairs_after : (R : Placed → Placed → Type 0) (X : List Placed) (p : Placed) 
 pairs_after R [] p Y a = a.0
 pairs_after R (x ∷ X) p Y a = pairs_after R X p Y a.1
 
-map-append : {X Y : Type 0} (f : X → Y) (xs ys : List X) → map f (xs ++ ys) ≡ map f xs ++ map f ys
-map-append f [] ys = refl
-map-append f (x ∷ xs) ys = ap (λ l. f x ∷ l) (map-append f xs ys)
-
 abbrev pub EndedBefore : ℕ → CallRecord → Type 0
 EndedBefore n x = IsSomeAnd x.ended (λ (e : ℕ × Reply). e.0 < n)
 
@@ -418,13 +413,12 @@ module _ (q : ℕ) (s : SetState) (H : List CallRecord) (P : List Placed) (L : L
       after = map (answered H) st.after;
       is = ap (map (answered H)) st.is
           ∙ (map-append (answered H) st.before (st.here ∷ st.after)
-          ∙ ((λ i. map (answered H) st.before ++ (st.there ∙ ap said st.call) i ∷ map (answered H) st.after)
-          ∙ ap (λ t. map (answered H) st.before ++ said_by t c ∷ map (answered H) st.after) (sym (root_is r))));
+          ∙ (λ i. map (answered H) st.before ++ (st.there ∙ ap said st.call) i ∷ map (answered H) st.after));
       own = has_own (map (answered H) st.before) r (calls_by_map H (root r) st.before
           ∙ (map_answered H (filter (of_placed H (root r)) st.before) st.early
           ∙ (ap (map said) st.earlier ∙ map_said (root r) (dated.own_calls r))));
       gathered_before = λ v n. calls_by_map H v st.after
-          ∙ ap (map (answered H)) (filter_none (of_placed H v) st.after (none v (late v (has_gathered v r n))));
+          ∙ ap (map (answered H)) (filter_none (of_placed H v) st.after (none v (late v n)));
     }
 
 ended_records : (n v : ℕ) (ds : List OwnCall) → AllByRecursion (EndsBefore n) ds →

@@ -1,19 +1,15 @@
 -- Lemmas about the threads that made the calls in the record of a seat (per-thread handle) and in the records merged
 -- into it.
-use Rattle.std.proofs.Common.{◌≡◌, ◌≢◌, inl, inr, ⊎_elim, ℕ, ◌<◌, ◌==◌, Bool, true, false, cond, List, [], ◌∷◌, ◌++◌}
+use Rattle.std.proofs.Common.{◌≡◌, ◌≢◌, inl, inr, ⊎_elim, ℕ, ◌<◌, ◌==◌, Bool, true, false, cond, [], ◌∷◌, ◌++◌}
 use Rattle.std.proofs.Common.{refl, sym, ap, ◌∙◌, subst, append-nil}
 use Rattle.std.specs.List.{AllByRecursion}
 use Rattle.lset_words.proofs.Numbers.{equal_test, unequal_test}
+use Rattle.lset_history.proofs.Lists.{all-append}
 use Rattle.lset_rule.specs.declared.view.OwnCall.{OwnCall}
 use Rattle.lset_rule.specs.declared.view.Past.{Past, Fresh, Called', Gathered'}
 use Rattle.lset_rule.specs.Pasts.{root, GatheredBefore, Before, Apart, IsIn, calls_of}
-use Rattle.lset_rule.proofs.RecordsOfRuns.{HasGathered}
+use Rattle.lset_rule.proofs.RecordsOfRuns.{HasGathered, root_in, none_in}
 use Rattle.lset_rule.proofs.RecordsOfRuns as dated
-
-pub root_in : (r : Past) → IsIn (root r) r
-root_in (Fresh t) = refl
-root_in (Called' p r c) = root_in r
-root_in (Gathered' p r q g) = inl (root_in r)
 
 pub gathered_in : (u : ℕ) (r : Past) → HasGathered u r → IsIn u r
 gathered_in u (Fresh t) h = absurd h
@@ -29,11 +25,6 @@ gathered_other u (Gathered' p r q g) a h =
 pub own_last : (u : ℕ) (r : Past) (c : OwnCall) → u ≢ root r → calls_of u r ++ cond (u == root r) (c ∷ []) [] ≡ calls_of u r
 own_last u r c ne = ap (λ b. calls_of u r ++ cond b (c ∷ []) []) (unequal_test u (root r) ne) ∙ append-nil (calls_of u r)
 
-pub none_in : (u : ℕ) (r : Past) → ¬ (IsIn u r) → calls_of u r ≡ []
-none_in u (Fresh t) n = refl
-none_in u (Called' p r c) n = own_last u r c (λ e. n (subst (λ z. IsIn z r) (sym e) (root_in r))) ∙ none_in u r n
-none_in u (Gathered' p r q g) n = λ i. none_in u r (λ x. n (inl x)) i ++ none_in u g (λ x. n (inr x)) i
-
 pub own_is : (r : Past) → Apart r → calls_of (root r) r ≡ dated.own_calls r
 own_is (Fresh t) a = refl
 own_is (Called' p r c) a = ap (λ b. calls_of (root r) r ++ cond b (c ∷ []) []) (equal_test (root r) (root r) refl)
@@ -43,11 +34,6 @@ own_is (Gathered' p r q g) a = ap (λ l. calls_of (root r) r ++ l) (none_in (roo
 
 abbrev pub EndsBefore : ℕ → OwnCall → Type 0
 EndsBefore n d = d.ended < n
-
-all-append : (Q : OwnCall → Type 0) (xs ys : List OwnCall) → AllByRecursion Q xs → AllByRecursion Q ys →
-    AllByRecursion Q (xs ++ ys)
-all-append Q [] ys a b = b
-all-append Q (x ∷ xs) ys a b = (a.0, all-append Q xs ys a.1 b)
 
 before_all : (n v : ℕ) (g : Past) → Before n g → AllByRecursion (EndsBefore n) (calls_of v g)
 before_all n v (Fresh t) b = tt

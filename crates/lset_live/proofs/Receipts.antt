@@ -19,9 +19,9 @@ use Rattle.lset_words.specs.SequentialSet.{SetState, opening_set}
 use Rattle.lset_words.specs.Words.{Opening}
 use Rattle.lset_steps.specs.declared.Event.{Event}
 use Rattle.lset_steps.specs.declared.Event.TheVariants.{Begin, Go}
-use Rattle.lset_steps.specs.Steps.{Table, state_at, event_at, entry_of}
+use Rattle.lset_steps.specs.Steps.{Table, state_at, event_at, entry_of, log_of}
 use Rattle.lset_steps.proofs.MoreEvents.{state_agree}
-use Rattle.lset_rule.specs.Runs.{StartsWith, log_by, history_of}
+use Rattle.lset_rule.specs.Runs.{StartsWith, history_of}
 use Rattle.lset_rule.proofs.OneMoreEvent.{event_of_first}
 use Rattle.lset_live.specs.Explained.{IsAnswered, StandsBefore}
 
@@ -68,7 +68,7 @@ calls_agree f g zero h = refl
 calls_agree f g (suc k) h = ap (λ e. calls_after (suc k) e (calls_at g k)) (h k (omega arith))
     ∙ ap (calls_after (suc k) (f k)) (calls_agree f g k (λ j l. h j (omega arith)))
 
-log_of_first : (T : Table) (k : Opening) (es rest : List Event) (j : ℕ) → j < length es → log_by T k (es ++ rest) j ≡ log_by T k es j
+log_of_first : (T : Table) (k : Opening) (es rest : List Event) (j : ℕ) → j < length es → log_of T k (event_at (es ++ rest)) j ≡ log_of T k (event_at es) j
 log_of_first T k es rest j l =
     ap (λ s. entry_of T s (event_at (es ++ rest) j))
     (state_agree T k (event_at es) (event_at (es ++ rest)) j (λ a b. event_of_first es rest a (omega arith)))
@@ -79,9 +79,9 @@ pub ended_stays : (T : Table) (k : Opening) (log es : List Event) → StartsWith
 ended_stays T k log es (rest, is) n y d ended at =
     let long = length-append es rest in
     subst (λ (l : List Event). get_elem? (history_of T k l) n ≡ some y) (sym is)
-    (stays_to (log_by T k (es ++ rest)) (length es) (length (es ++ rest)) n y d ended (omega arith)
+    (stays_to (log_of T k (event_at (es ++ rest))) (length es) (length (es ++ rest)) n y d ended (omega arith)
     (ap (λ (l : List TracedCall). get_elem? (map record_of l) n)
-    (calls_agree (log_by T k es) (log_by T k (es ++ rest)) (length es) (log_of_first T k es rest)) ∙ at))
+    (calls_agree (log_of T k (event_at es)) (log_of T k (event_at (es ++ rest))) (length es) (log_of_first T k es rest)) ∙ at))
 
 -- ---- Lemmas about two calls in a history, where the first ended before the second started
 numbered : (H : List CallRecord) (n : ℕ) (y : CallRecord) → get_elem? H n ≡ some y → (call_numbered H n ≡ y) × (n < length H)

@@ -15,7 +15,7 @@ use Rattle.lset_words.specs.SequentialSet.{opening_set}
 use Rattle.lset_lists.specs.Headline.{ExplainsRun, RunsAreLinearizable}
 use Rattle.lset_steps.specs.declared.Event.{Event}
 use Rattle.lset_steps.specs.declared.Event.TheVariants.{Begin, Go}
-use Rattle.lset_steps.specs.Steps.{Table, State, Enabled, state_at, event_at, local_of, entry_of}
+use Rattle.lset_steps.specs.Steps.{Table, State, Enabled, state_at, event_at, local_of, log_of, entry_of}
 use Rattle.lset_steps.specs.Laws.{Lawful}
 use Rattle.lset_rule.specs.declared.view.OwnCall.{OwnCall}
 use Rattle.lset_rule.specs.declared.view.PendingCall.{PendingCall}
@@ -23,16 +23,15 @@ use Rattle.lset_rule.specs.declared.view.SpareThread.{SpareThread}
 use Rattle.lset_rule.specs.declared.view.Past.{Past}
 use Rattle.lset_rule.specs.declared.view.View.{View}
 use Rattle.lset_rule.specs.Pasts.{calls_of, root}
-use Rattle.lset_rule.specs.Runs.{Here, log_by, at_end, IsRunOf, history_of}
+use Rattle.lset_rule.specs.Runs.{Here, at_end, IsRunOf, history_of}
 use Rattle.lset_rule.specs.Views.{Stands, AreIdle, HasAside, HasThread}
 use Rattle.lset_rule.specs.Calls.{Makes}
 use Rattle.lset_rule.specs.Seats.{IsSeat, TableSeat}
 use Rattle.lset_rule.proofs.OneMoreEvent.{Tied, tied}
 use Rattle.lset_words.specs.Records.{Keeps, thread_of}
-use Rattle.lset_live.specs.Dated.{record_of}
+use Rattle.lset_rule.specs.Dated.{record_of}
 use Rattle.lset_live.specs.Explained.{HasAnswered, IsAnswered, SeenIsLinearizable}
 use Rattle.lset_live.specs.Seats.{SeatValue, SetValue}
-use Rattle.lset_live.proofs.DatedRecords.{root_is}
 use Rattle.lset_live.proofs.CallsOfThread.{of_thread, ended_record, thread_records, MayBegin, thread_calls}
 use Rattle.lset_live.proofs.OrderKeepsRecord.{keeps}
 use Rattle.lset_words.specs.Words.{Opening}
@@ -45,7 +44,7 @@ may_begin T s (Go t) u o ti en = tt
 
 calls_of_thread : (T : Table) (law : Lawful T) (k : Opening) (es : List Event) → IsRunOf T k es → (u : ℕ) → u < k.threads
     → of_thread u (history_of T k es) ≡ thread_records u (at_end T k es u).done (at_end T k es u).under
-calls_of_thread T law k es r u low = thread_calls (log_by T k es) u (length es)
+calls_of_thread T law k es r u low = thread_calls (log_of T k (event_at es)) u (length es)
     (λ j l. may_begin T (state_at T k (event_at es) j) (event_at es j) u _
     (tied T law k (event_at es) (length es) r u j low (omega arith)) (r.enabled j l)) (length es) (omega arith)
 
@@ -139,7 +138,7 @@ module _ (T : Table) (law : Lawful T) (c : Call) (v : View) (r : Reply) (w : Vie
       (ended_record w.thread made) calls_now
 
   pub made_answered : IsAnswered T w.shape (thread_of (record_of v.past)) c r v.seen w.seen
-  made_answered = subst (λ t. IsAnswered T w.shape t c r v.seen w.seen) (sym (root_is v.past ∙ rooted)) record {
+  made_answered = subst (λ t. IsAnswered T w.shape t c r v.seen w.seen) (sym rooted) record {
     others = m.before.0;
     since = m.between;
     is = m.seen ∙ (ap (λ l. l ++ Go v.thread ∷ []) (append_assoc m.log (Begin v.thread c ∷ []) m.between)

@@ -1,6 +1,5 @@
 pub mod Explained
 pub mod Seats
 pub mod Closes
-pub mod Dated
 pub mod Codes
 pub mod Typed

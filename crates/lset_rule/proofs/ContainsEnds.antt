@@ -16,7 +16,7 @@ use Rattle.lset_steps.specs.Laws.{Lawful}
 use Rattle.lset_steps.specs.Promises.{IsContains}
 use Rattle.lset_rule.specs.declared.view.PendingCall.{PendingCall}
 use Rattle.lset_rule.specs.declared.view.View.{View}
-use Rattle.lset_rule.specs.Runs.{Here, under_after, pending_of, end_of, log_by}
+use Rattle.lset_rule.specs.Runs.{Here, under_after, pending_of, end_of}
 use Rattle.lset_rule.proofs.CallKnows.{Comes, is_mid, mid_open}
 use Rattle.lset_rule.specs.Calls.{Goes, steps_of}
 use Rattle.lset_rule.proofs.OneMoreEvent.{Tied}
@@ -59,7 +59,7 @@ not_yet m law ends key v w f sp come none =
     let few = (ends w.shape (length w.seen) (length w.seen) w.thread (event_at w.seen) at.0.run (omega arith) at.0.thread
     at.0.open_call (subst (λ (c : Call). IsContains c) (sym tied.1) tt)).few in
     let is : mid.0.steps ≡ steps_since (event_at w.seen) w.thread (length w.seen) =
-    counted_is (last_at (log_by m w.shape w.seen) w.thread (length w.seen)) _
+    counted_is (last_at (log_of m w.shape (event_at w.seen)) w.thread (length w.seen)) _
     (ap (λ (x : Here). x.under) mid.1.own ∙ mid.0.under) ∙ counted m w.shape (event_at w.seen) w.thread (length w.seen) in
     let low : mid.0.steps < most_reads (sizes w.shape) = subst (λ z. z < most_reads (sizes w.shape)) (sym is) few in
     subst (λ (s : _). steps_of w.under < most_reads (sizes s)) mid.0.same.1

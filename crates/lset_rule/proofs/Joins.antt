@@ -1,7 +1,7 @@
 -- Proof: splitting and joining seats, and issuing and using receipts, preserve the invariant of the shared words and
 -- all seats. A seat is a per-thread handle: one thread calls the set through it. A receipt contains the events that a
 -- seat has seen, and is used by another seat.
-use Rattle.std.proofs.Common.{◌≡◌, ◌≢◌, ◌⊎◌, inl, inr, ⊎_elim, ℕ, ◌+◌, ◌<◌, ◌≤◌, ◌==◌, Bool, true, false, cond, List}
+use Rattle.std.proofs.Common.{◌≡◌, ◌≢◌, ◌⊎◌, inl, inr, ⊎_elim, ℕ, ◌+◌, ◌≤◌, ◌==◌, Bool, true, false, cond, List}
 use Rattle.std.proofs.Common.{[], ◌∷◌, ◌++◌, length, set, nat_le, Option, None, refl, sym, ap, ◌∙◌, subst, arith, rules, tests}
 use Rattle.std.proofs.Common.{append-nil, eq-eqb, ne_eqb}
 use mathlib.Core.Option.{some, none}
@@ -21,15 +21,19 @@ use Rattle.lset_steps.specs.Steps.{Table}
 use Rattle.lset_rule.specs.Pasts.{gathered, calls_of}
 use Rattle.lset_steps.specs.Worlds.{thread_of}
 use Rattle.lset_rule.specs.Runs.{Here, here, at_end, IsRunOf, StartsWith}
-use Rattle.lset_rule.specs.Rule.{Holds, MatchesLog, StandsIn, IsQuiet, left_view, right_view, longer, aside, joined, nobody, learned}
+use Rattle.lset_rule.specs.Rule.{Holds, MatchesLog, StandsIn, IsQuiet, left_view, right_view, longer, joined, nobody, learned}
 use Rattle.lset_rule.specs.Rule.{without_thread, informed}
 use Rattle.lset_rule.specs.Views.{Stands, HasThread, HasAside, AreIdle, InTime}
-use Rattle.lset_rule.proofs.RecordsOfRuns.{still_quiet, before_more, none_of_another, asides_stay}
+use Rattle.lset_rule.proofs.RecordsOfRuns.{still_quiet, before_more, none_in, asides_stay}
 use Rattle.lset_rule.proofs.OneMoreEvent.{run_of_first}
 use Rattle.lset_rule.proofs.ViewsFit.{Fits, St, each_set, each_more, each_fits, fits, spent_fits, holding}
 use Rattle.lset_rule.proofs.ViewsFit.{is_in, set_there, stands_else, stands_still, stands_more, stands_last}
 use Rattle.lset_rule.proofs.MovesKeepRule.{M}
 use Rattle.lset_words.specs.Words.{Opening}
+
+-- Returns the thread that a seat with view w (its knowledge of the run) calls as, as a spare thread of another seat.
+abbrev aside : View → SpareThread
+aside w = record { thread = w.thread; local = w.local }
 
 quiet_less : (v w : View) → ((t : ℕ) → HasThread w t → HasThread v t) → (es : List Event) → IsQuiet v es → IsQuiet w es
 quiet_less v w less [] q = tt
@@ -262,11 +266,11 @@ module _ (m : Table) where
         (λ x. inr (end_has v.others (aside w ∷ w.others) t (inr x))) h
 
     v_calls : (t : ℕ) → HasThread v t → calls_of t G ≡ calls_of t v.past
-    v_calls t h = ap (λ l. calls_of t v.past ++ l) (none_of_another t w.past (λ x. not_both t h (g.stands.named t x)))
+    v_calls t h = ap (λ l. calls_of t v.past ++ l) (none_in t w.past (λ x. not_both t h (g.stands.named t x)))
         ∙ append-nil (calls_of t v.past)
 
     w_calls : (t : ℕ) → HasThread w t → calls_of t G ≡ calls_of t w.past
-    w_calls t h = ap (λ l. l ++ calls_of t w.past) (none_of_another t v.past (λ x. not_both t (f.stands.named t x) h))
+    w_calls t h = ap (λ l. l ++ calls_of t w.past) (none_in t v.past (λ x. not_both t (f.stands.named t x) h))
 
     joined_stands : Stands m J
     joined_stands = record {

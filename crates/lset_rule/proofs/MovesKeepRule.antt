@@ -14,13 +14,13 @@ use Rattle.lset_steps.specs.declared.Event.TheVariants.{Begin, Go}
 use Rattle.lset_rule.specs.declared.view.PendingCall.{PendingCall}
 use Rattle.lset_rule.specs.declared.view.Past.{Past}
 use Rattle.lset_rule.specs.declared.view.View.{View}
-use Rattle.lset_steps.specs.Steps.{Table, State, Enabled, event_at, after, local_of, seen_by, seen_next, left_by}
+use Rattle.lset_steps.specs.Steps.{Table, State, Enabled, event_at, after, local_of, log_of, seen_by, seen_next, left_by}
 use Rattle.lset_steps.specs.Laws.{Lawful, StateLaws, UnderWay, word_named}
 use Rattle.lset_steps.proofs.WorldRuns.{named_in}
 use Rattle.lset_words.specs.Words.{word_count, target, tail_word, Opening, sizes}
 use Rattle.lset_rule.specs.Pasts.{root, calls_of, Before, InOrder, Apart, IsIn}
 use Rattle.lset_steps.specs.Worlds.{thread_of, WorldState, IsRun}
-use Rattle.lset_rule.specs.Runs.{Here, here, under_after, log_by, end_of, at_end, IsRunOf}
+use Rattle.lset_rule.specs.Runs.{Here, here, under_after, end_of, at_end, IsRunOf}
 use Rattle.lset_rule.proofs.OneMoreEvent.{left, found, gone, begins, left_is, found_is, Tied, end_more, is_run_more, end_other, end_begin}
 use Rattle.lset_rule.proofs.OneMoreEvent.{end_go, end_laws, end_tied, in_locals}
 use Rattle.lset_rule.specs.Rule.{Holds, MatchesLog}
@@ -90,7 +90,7 @@ module _ (m : Table) where
 
     begun_so_far : BegunBy v.under (length h.log)
     begun_so_far = subst (λ o. BegunBy o (length h.log)) (ap (λ (x : Here). x.under) stood)
-        (begun_by (log_by m v.shape h.log) v.thread (length h.log))
+        (begun_by (log_of m v.shape (event_at h.log)) v.thread (length h.log))
 
     pub all_ended : (n : ℕ) → length h.log < n → Before n v.past
     all_ended n lt =

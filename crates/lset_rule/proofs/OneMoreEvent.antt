@@ -25,7 +25,7 @@ use Rattle.lset_steps.proofs.MoreEvents.{state_agree, run_more}
 use Rattle.lset_steps.proofs.RunAccount as account
 use Rattle.lset_rule.specs.declared.view.OwnCall.{OwnCall}
 use Rattle.lset_rule.specs.declared.view.PendingCall.{PendingCall}
-use Rattle.lset_rule.specs.Runs.{Here, here, under_after, ending, done_next, pending_of, under_at, done_at, here_at, log_by}
+use Rattle.lset_rule.specs.Runs.{Here, here, under_after, ending, done_next, pending_of, under_at, done_at, here_at}
 use Rattle.lset_rule.specs.Runs.{end_of, at_end, IsRunOf}
 use Rattle.lset_words.specs.Words.{Opening, sizes}
 
@@ -198,8 +198,8 @@ module _ (T : Table) (k : Opening) (es : List Event) (e : Event) where
   here_before t =
       let l : local_of (state_at T k more (length es)) t ≡ local_of (end_of T k es) t =
       ap (λ s. local_of s t) (states_before (length es) (omega arith)) in
-      let u = ap pending_of (last_agree (log_by T k es) (log_of T k more) t (length es) logs_before) in
-      let d = done_agree (log_by T k es) (log_of T k more) t (length es) logs_before in
+      let u = ap pending_of (last_agree (log_of T k (event_at es)) (log_of T k more) t (length es) logs_before) in
+      let d = done_agree (log_of T k (event_at es)) (log_of T k more) t (length es) logs_before in
       λ i. here (l i) (u i) (d i)
 
   here_more : (t : ℕ) → at_end T k (es ++ e ∷ []) t ≡ here_at T k more t (suc (length es))

@@ -1,6 +1,6 @@
 -- Proofs that compare two lists: the calls of a thread in the record of a seat (per-thread handle), and the calls that
 -- the thread has made in the run.
-use Rattle.std.proofs.Common.{◌≡◌, ◌≢◌, ◌⊎◌, inl, inr, ℕ, zero, suc, ◌<◌, ◌≤◌, Bool, true, false, if◌then◌else◌, cond, List, [], ◌∷◌}
+use Rattle.std.proofs.Common.{◌≡◌, ◌≢◌, inl, inr, ℕ, zero, suc, ◌<◌, ◌≤◌, Bool, true, false, if◌then◌else◌, cond, List, [], ◌∷◌}
 use Rattle.std.proofs.Common.{◌++◌, Option, Some, None, refl, sym, ap, ◌∙◌, subst, arith, eq-eqb, ne_eqb, append-nil, append_assoc}
 use Rattle.lset_words.specs.declared.Reply.{Reply}
 use Rattle.lset_words.specs.Log.{Log, Entry, LastCall, maker, last_after, last_at, begun_at}
@@ -14,6 +14,8 @@ use Rattle.lset_rule.specs.declared.view.SpareThread.{SpareThread}
 use Rattle.lset_rule.specs.declared.view.Past.{Past, Fresh, Called', Gathered'}
 use Rattle.lset_rule.specs.declared.view.View.{View}
 use Rattle.lset_steps.specs.Steps.{Table}
+use Rattle.lset_words.specs.Records.{NamesGathered}
+use Rattle.lset_rule.specs.Dated.{record_of}
 use Rattle.lset_rule.specs.Pasts.{root, calls_of, Before, GatheredBefore, InOrder, Apart, IsIn}
 use Rattle.lset_steps.specs.Worlds.{thread_of}
 use Rattle.lset_rule.specs.Runs.{Here, here, at_end, own, under_after, under_at, ending, StartsWith}
@@ -94,22 +96,20 @@ own_calls (Gathered' p r q g) = own_calls r
 
 -- Holds if a record of thread u was merged into this record of calls.
 abbrev pub HasGathered : ℕ → Past → Type 0
-HasGathered u (Fresh t) = ⊥
-HasGathered u (Called' p r c) = HasGathered u r
-HasGathered u (Gathered' p r q g) = HasGathered u r ⊎ IsIn u g
+HasGathered u r = NamesGathered u (record_of r)
 
-root_in : (r : Past) → IsIn (root r) r
+pub root_in : (r : Past) → IsIn (root r) r
 root_in (Fresh t) = refl
 root_in (Called' p r c) = root_in r
 root_in (Gathered' p r q g) = inl (root_in r)
 
-pub none_of_another : (u : ℕ) (r : Past) → ¬ (IsIn u r) → calls_of u r ≡ []
-none_of_another u (Fresh t) out = refl
-none_of_another u (Called' p r c) out =
+pub none_in : (u : ℕ) (r : Past) → ¬ (IsIn u r) → calls_of u r ≡ []
+none_in u (Fresh t) out = refl
+none_in u (Called' p r c) out =
     ap (λ b. calls_of u r ++ cond b (c ∷ []) []) (ne_eqb u (root r) (λ e. out (subst (λ z. IsIn z r) (sym e) (root_in r))))
-    ∙ (append-nil (calls_of u r) ∙ none_of_another u r out)
-none_of_another u (Gathered' p r q g) out = λ i. none_of_another u r (λ h. out (inl h)) i
-    ++ none_of_another u g (λ h. out (inr h)) i
+    ∙ (append-nil (calls_of u r) ∙ none_in u r out)
+none_in u (Gathered' p r q g) out = λ i. none_in u r (λ h. out (inl h)) i
+    ++ none_in u g (λ h. out (inr h)) i
 
 pub after_calls : (t : ℕ) (r : Past) (a : Option Reply) (u : Option PendingCall) (n : ℕ) → root r ≡ t → calls_of t r
     ++ ending a u n ≡ calls_of t (record_after r a u n)

@@ -1,3 +1,4 @@
+pub mod Dated
 pub mod Pasts
 pub mod Runs
 pub mod Views

@@ -1,9 +1,11 @@
 -- The record of a seat (per-thread handle): its completed calls, and the records of the seats that were merged into it,
 -- oldest first.
-use Rattle.std.specs.Prelude.{◌≡◌, ℕ, ◌⊎◌, ◌<◌, ◌==◌, List, [], ◌∷◌, ◌++◌, cond}
+use Rattle.std.specs.Prelude.{ℕ, ◌<◌, ◌==◌, List, [], ◌∷◌, ◌++◌, cond}
 use denote.Bor.{Bor}
 use Rattle.lset_rule.specs.declared.view.OwnCall.{OwnCall}
 use Rattle.lset_rule.specs.declared.view.Past.{Past, Fresh, Called', Gathered'}
+use Rattle.lset_words.specs.Records.{thread_of, Names}
+use Rattle.lset_rule.specs.Dated.{record_of}
 
 abbrev nowhere : Bor (Unit {0})
 nowhere = record { now = tt; ref_ptr = (0, 0) }
@@ -18,9 +20,7 @@ gathered r g = Gathered' nowhere r nowhere g
 
 -- Returns the thread that a record of calls belongs to.
 abbrev pub root : Past → ℕ
-root (Fresh t) = t
-root (Called' p r c) = root r
-root (Gathered' p r q g) = root r
+root r = thread_of (record_of r)
 
 -- Returns the calls of thread u in a record and in the records that were merged into it, in their order.
 abbrev pub calls_of : ℕ → Past → List OwnCall
@@ -50,9 +50,7 @@ InOrder (Gathered' p r q g) = InOrder r × InOrder g
 
 -- Holds if the record belongs to thread u, or a record of thread u was merged into it.
 abbrev pub IsIn : ℕ → Past → Type 0
-IsIn u (Fresh t) = u ≡ t
-IsIn u (Called' p r c) = IsIn u r
-IsIn u (Gathered' p r q g) = IsIn u r ⊎ IsIn u g
+IsIn u r = Names u (record_of r)
 
 -- Holds if a record of calls and all records that were merged into it belong to different threads.
 abbrev pub Apart : Past → Type 0

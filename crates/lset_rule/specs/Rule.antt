@@ -4,6 +4,7 @@
 -- a seat has seen, and is used by another seat. The definitions after `Holds` are the views after actions that are not
 -- events: opening a set, splitting and joining seats, and issuing and using receipts.
 use Rattle.std.specs.Prelude.{◌≡◌, ℕ, zero, suc, ◌+◌, ◌-◌, ◌<◌, ◌≤◌, true, false, List, [], ◌∷◌, ◌++◌, length, None, cond, nat_le}
+use Rattle.std.specs.List.{AllByRecursion}
 use mathlib.Core.Option.{some}
 use lib.ListN.{get_elem?}
 use Rattle.atomic_table.specs.Table as table
@@ -21,8 +22,7 @@ use Rattle.lset_words.specs.Words.{Opening}
 
 -- Holds if no thread of the seat with view v (its knowledge of the run) executed any of the events.
 abbrev pub IsQuiet : View → List Event → Type 0
-IsQuiet v [] = Unit {0}
-IsQuiet v (e ∷ es) = ¬ (HasThread v (thread_of e)) × IsQuiet v es
+IsQuiet v es = AllByRecursion (λ e. ¬ (HasThread v (thread_of e))) es
 
 -- Holds if v, the view of seat j (its knowledge of the run), matches the events of all threads. The view has seen a
 -- prefix of these events, and only threads of other seats executed the later events. Seat j shares no thread with
@@ -103,29 +103,6 @@ right_view v = head_aside v v.others
 abbrev pub longer : List Event → List Event → List Event
 longer xs ys = cond (nat_le (length xs) (length ys)) ys xs
 
-abbrev pub aside : View → SpareThread
-aside w = record { thread = w.thread; local = w.local }
-
--- Returns the view of a seat (its knowledge of the run) after another seat has joined it. The seat gets the threads and
--- the record of the other seat. It has then seen the longer of the two lists of events, and keeps both lists until its
--- next load. The view of the other seat is spent.
-abbrev pub joined : View → View → View
-joined v w = record v {
-  others = v.others ++ aside w ∷ w.others;
-  past = gathered v.past w.past;
-  seen = longer v.seen w.seen;
-  ours = v.seen;
-  theirs = w.seen;
-}
-
-abbrev pub nobody : View
-nobody = record (opener (record { threads = 0; quota = 0; keys = [] })) { spent = true }
-
--- Returns the view of a new receipt (its knowledge of the run). It has no threads, and has seen the same events as the
--- seat that issued the receipt. The view of the seat does not change.
-abbrev pub without_thread : View → View
-without_thread v = record v { spent = true }
-
 -- Returns the view of a seat (its knowledge of the run) after the seat uses a receipt. The seat has then seen the
 -- longer of the two lists of events (its own and the receipt's), and keeps both lists until its next load. The receipt
 -- is spent.
@@ -135,6 +112,23 @@ informed v w = record v {
   ours = v.seen;
   theirs = w.seen;
 }
+
+-- Returns the view of a seat (its knowledge of the run) after another seat has joined it. The seat gets the threads and
+-- the record of the other seat, and learns of the other seat's events, as if they came with a receipt. The view of the
+-- other seat is spent.
+abbrev pub joined : View → View → View
+joined v w = record (informed v w) {
+  others = v.others ++ record { thread = w.thread; local = w.local } ∷ w.others;
+  past = gathered v.past w.past;
+}
+
+abbrev pub nobody : View
+nobody = record (opener (record { threads = 0; quota = 0; keys = [] })) { spent = true }
+
+-- Returns the view of a new receipt (its knowledge of the run). It has no threads, and has seen the same events as the
+-- seat that issued the receipt. The view of the seat does not change.
+abbrev pub without_thread : View → View
+without_thread v = record v { spent = true }
 
 -- Describes the effect of the first load after a seat joins another seat or uses a receipt. The load shows that both
 -- lists kept by the seat are prefixes of the events that it has seen. The seat then drops both lists.

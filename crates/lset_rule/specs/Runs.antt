@@ -63,11 +63,8 @@ done_at log t (suc k) = done_next (suc k) (log k) t (under_at log t k) (done_at 
 abbrev pub here_at : Table → Opening → (ℕ → Event) → ℕ → ℕ → Here
 here_at T op es t k = here (local_of (state_at T op es k) t) (under_at (log_of T op es) t k) (done_at (log_of T op es) t k)
 
--- `log_by` computes the log of a run from its opening and its list of events. `end_of` returns the last state of the
--- run, and `at_end` the last state of a thread. `IsRunOf` states that each event was enabled when it occurred.
-abbrev pub log_by : Table → Opening → List Event → Log
-log_by T k es = log_of T k (event_at es)
-
+-- `end_of` returns the last state of the run of a list of events, and `at_end` the last state of a thread. `IsRunOf`
+-- states that each event was enabled when it occurred.
 abbrev pub end_of : Table → Opening → List Event → State
 end_of T k es = state_at T k (event_at es) (length es)
 
@@ -79,4 +76,4 @@ IsRunOf T k es = Run T k (event_at es) (length es)
 
 -- Returns the history of the run of these events: all calls with their starts, ends and replies.
 abbrev pub history_of : Table → Opening → List Event → List CallRecord
-history_of T k es = history_at (log_by T k es) (length es)
+history_of T k es = history_at (log_of T k (event_at es)) (length es)
