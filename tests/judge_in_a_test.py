@@ -31,7 +31,14 @@ NO_JUDGES = {
     "refusal that passes": ("#!/bin/sh\necho not linearizable\n", NO_VERDICT % "not linearizable"),
     "ok that is killed": ("#!/bin/sh\necho ok 9 calls; echo 3 of them overlap\nkill -9 $$\n", NO_VERDICT % "ok 9 calls"),
 }
-JUDGES_NOT_IN_PATH = [None, "/no/such/listset.js"]
+PATHS_WITHOUT_JUDGE = {
+    "": "no judge was found: listset cannot be run. Copy the file judge/listset.js",
+    "own/listset.js": "the variable LISTSET is own/listset.js, but no file is at %s/own/listset.js: set LISTSET to the full path of listset.js",
+    str(FORMS / "listset.js"): f"no judge was found: LISTSET is {FORMS / 'listset.js'}, which needs Node 18 or newer, but no node is in PATH",
+}
+OLD_NODE = """#!/bin/sh
+case $1 in -v | --version) echo v12.22.12 ;; *) echo "SyntaxError: Unexpected token '?'" >&2; exit 1 ;; esac
+"""
 
 
 # ---- Builds the sets of each language once for all tests, and returns the command that judges one of them
@@ -41,7 +48,7 @@ def built_rust(folder):
     build = ["test", "--no-run", "--offline", "--locked", "--target-dir", folder, "--manifest-path", FORMS / "rust/Cargo.toml"]
     well(*QUICK_CARGO, *build, cwd=folder)
     (tests,) = (it for it in (folder / "debug/deps").glob("sets-*") if not it.suffix)
-    return [tests, "set", "--exact", "--nocapture"]
+    return [tests, "set", "--exact", "--nocapture", "--ignored"]
 
 
 WARN = ["-Wall", "-Wextra", "-Wshadow", "-Wconversion", "-Werror"]
@@ -203,15 +210,19 @@ STOPS = {
 }  # fmt: skip
 
 
+PENDING = r"([0-9]+): ([a-z]+) (\w+), begun at moment ([0-9]+)"
+
+
 @each(LANGUAGES)
 @pytest.mark.parametrize("of", STOPS)
 def test_calls_before_a_crash_or_a_hang_are_judged(form, program, of):
     how, due = STOPS[of]
     kind, said = form.told(program, of, f"threads=4 calls=1000 keys=4 {how}")
-    found = re.search(rf"^{due}.*\npending: (no call|(call .* - -)(?:, and ([0-9]+) more calls)?)\nbefore that: some order explains the calls\n", said, re.M)
+    found = re.search(rf"^{due}.*\npending:( no call|(?:\n  thread .*)+)\nbefore that: some order explains the calls\n", said, re.M)
     assert kind == "cut short" and found, said
     recorded = form.recorded(said)
-    assert recorded.endswith("\ncut\n") and recorded.count(" - -\n") == bool(found[2]) + int(found[3] or 0)
+    pending = re.findall("^call ([0-9]+ [a-z]+ [0-9]+ [0-9]+) - -$", recorded, re.M)
+    assert recorded.endswith("\ncut\n") and re.findall(f"\n  thread {PENDING}", found[1]) == [tuple(it.split()) for it in pending]
     assert recorded.count("\n") > 20_000 or of != "crashes late"
 
 
@@ -253,6 +264,43 @@ def test_a_correct_set_that_throws_repeatedly_is_not_refused(form, program):
     for how in ("pauses=0", "pauses=20"):
         _, said = form.told(program, "throws", f"threads=4 calls=1000 keys=4 own_process=0 {how}", TESTS=str(tests))
         assert said.count("verdict: cut short\n") == said.count("\nbefore that: some order explains the calls\n") == tests, said
+
+
+@each(LANGUAGES)
+def test_keys_of_a_run_are_the_keys_that_the_set_got(form, program):
+    """Tests the preset with multiples of 64: the recording and the message have the keys 0, 64 .. 448."""
+    how = f"threads=4 calls=1000 seed=3 seconds=3 runs=1 record={form.room / 'kept'}"
+    said = form.told(program, "hangs", how)[1]
+    pending = re.findall(f"\n  thread {PENDING}", said)
+    assert len(pending) in range(1, 5) and {int(key) % 64 for _, _, key, _ in pending} == {0}, said
+    assert {int(it) % 64 for it in re.findall("^call [0-9]+ [a-z]+ ([0-9]+)", form.recorded(said), re.M)} == {0}
+    assert form.told(program, "right", how)[0] == "ok"
+    keys = re.findall("^(?:call [0-9]+ [a-z]+|key) ([0-9]+)", (form.room / "kept" / "seed-3.calls").read_text(), re.M)
+    assert {int(it) for it in keys} == set(range(0, 512, 64))
+
+
+@each(LANGUAGES)
+def test_a_call_that_hangs_is_named_with_its_set(form, program):
+    said = form.told(program, "hangs", "threads=4 seed=5 seconds=3 runs=1")[1]
+    assert re.search(r"\npending:(?:\n  thread [0-3]: [a-z]+ [0-9]+, in set 1 of the run, begun at moment [0-9]+)+\nbefore that: ", said), said
+
+
+@pytest.mark.needs("g++")
+def test_many_pending_calls_are_counted(room, once, program):
+    form = Form("C++", room, once(built_cpp))
+    kind, said = form.told(program, "hangs", "threads=40 calls=200 keys=4 seconds=3 runs=1")
+    pending, more = re.findall(f"\n  thread {PENDING}", said), re.search("\n  and ([0-9]+) more\nbefore that: ", said)
+    assert kind == "cut short" and len(pending) == 16 and more and form.recorded(said).count(" - -\n") == 16 + int(more[1]), said
+
+
+PLACES = {"Python": r"\(.*/sets\.py:[0-9]+, in fails\)", "Java": r"\(at Sets.*\(Sets\.java:[0-9]+\)\)", "Go": r"\(.*/sets_test\.go:[0-9]+, in .*\.stop\)", "Rust": "tests/sets.rs:[0-9]+"}
+
+
+@each(PLACES)
+def test_an_exception_has_its_place(form, program):
+    for how in ("", "own_process=0"):
+        said = form.told(program, "throws", f"threads=4 calls=1000 keys=4 {how}")[1]
+        assert re.search(PLACES[form.language] if form.language == "Rust" else f"^a call of the set failed: .*no memory {PLACES[form.language]}$", said, re.M), said
 
 
 @each(LANGUAGES)
@@ -330,7 +378,7 @@ case $1 in judge) ;; *) exec '%program' "$@" ;; esac
 def test_a_refusal_names_the_presets_that_passed_before(form, program):
     script = REFUSES_THIRD.replace("%program", str(program)).replace("%room", str(form.room)).replace("%refuses", str(refusing(form)))
     kind, said = form.told(form.script("third", script), "right", "threads=4 calls=250 runs=3", LISTSET_RECORD=str(form.room / "kept"))
-    assert kind == "refused" and "\nseed 3 (multiples of 64), 4 threads; passed before: few keys, fresh sets; key 1 of the recording is 64; recorded in " in said, said
+    assert kind == "refused" and "\nseed 3 (multiples of 64), 4 threads; passed before: few keys, fresh sets; recorded in " in said, said
 
 
 @each(LANGUAGES)
@@ -361,9 +409,17 @@ def test_the_verdict_names_its_judge_and_counts_the_calls_that_overlap(form, pro
 
 @each(LANGUAGES)
 def test_a_judge_that_is_not_in_path_is_named(form):
-    for judge in JUDGES_NOT_IN_PATH:
+    for judge, due in PATHS_WITHOUT_JUDGE.items():
         kind, said = form.told(judge, "right", FEW, PATH=str(form.room / "empty"))
-        assert kind == "none" and NO_JUDGE.format(judge or "listset") in said
+        assert kind == "none" and due.replace("%s", str(form.room)) in said, said
+
+
+@each(LANGUAGES)
+def test_a_node_that_is_too_old_is_named(form):
+    (form.room / "old").mkdir()
+    form.script("old/node", OLD_NODE)
+    kind, said = form.told(FORMS / "listset.js", "right", FEW, PATH=f"{form.room / 'old'}:{os.environ['PATH']}")
+    assert kind == "none" and f"node is v12.22.12, but {FORMS / 'listset.js'} needs Node 18 or newer" in said and "SyntaxError" not in said, said
 
 
 @each(LANGUAGES)
@@ -422,6 +478,8 @@ def test_an_error_without_a_verdict_is_one_sentence(form, program):
     for how, due in NO_RUNS.items():
         kind, said = form.told(program, "right", f"calls=99 runs=1 {how}")
         assert kind == "none" and due in said, said
+    kind, said = form.told(program, "right", FEW, LISTSET_RECORD="/dev/null/x")
+    assert kind == "none" and "the variable LISTSET_RECORD is /dev/null/x, but no file can be written there: set it to another folder" in said, said
     kind, said = form.told(program, "not made", FEW)
     assert kind == "none" and re.search("the set could not be created: (?:.*\n){0,2}.*no room", said), said
     for name, text in (("LISTSET_SECONDS", "soon"), ("LISTSET_SECONDS", "0"), ("LISTSET_SEED", "4294967296")):
@@ -439,7 +497,7 @@ def test_all_languages_have_the_messages_of_one_file():
 @pytest.mark.needs("cargo", "rustc")
 def test_a_lock_held_by_another_test_does_not_stop_a_test(room, once, program):
     tests, *_ = once(built_rust)
-    assert "ok: " in well(tests, "another_test_holds_a_lock", "--exact", "--nocapture", env={**os.environ, "LISTSET": program, "TMPDIR": str(room)})
+    assert "ok: " in well(tests, "another_test_holds_a_lock", "--exact", "--nocapture", "--ignored", env={**os.environ, "LISTSET": program, "TMPDIR": str(room)})
 
 
 @pytest.mark.needs("clang++")
@@ -470,7 +528,9 @@ def test_a_tracer_sees_the_set(room, program):
 def test_a_python_set_that_returns_nothing_is_an_error(room, once, program):
     form = Form("Python", room, once(built_python))
     assert "every add returned None, but must return True or False" in form.told(program, "answers none", FEW)[1]
-    assert "the set could not be created: 'object' object has no attribute" in form.told(program, "object", FEW)[1]
+    assert "the set has no add" in form.told(program, "object", FEW)[1]
+    assert "the set has no contains and no __contains__" in form.told(program, "no contains", FEW)[1]
+    assert "record is 5, but must be the path of a folder" in form.told(program, "record 5", FEW)[1]
 
 
 @pytest.mark.needs("javac", "java")

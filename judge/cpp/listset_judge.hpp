@@ -52,15 +52,20 @@
 #include <sys/syscall.h>
 #endif
 
+// Parts of GoogleTest, which a test includes before or after this file, or not at all.
+namespace testing {
+class Message;
+class TestPartResult;
+namespace internal {
+class AssertHelper;
+}
+}  // namespace testing
+
 namespace listset {
-// (The inner namespace has a name that depends on these macros, because two files of one program can define them
+// (The inner namespace has a name that depends on this macro, because two files of one program can define it
 // differently.)
-#if defined LISTSET_H && defined GTEST_SKIP
-inline namespace judged_by_library_in_gtest {
-#elif defined LISTSET_H
+#ifdef LISTSET_H
 inline namespace judged_by_library {
-#elif defined GTEST_SKIP
-inline namespace judged_by_program_in_gtest {
 #else
 inline namespace judged_by_program {
 #endif
@@ -164,18 +169,26 @@ constexpr const char *ENDED_SO = "the set ended its process with status %s";
 constexpr const char *THREW = "a call of the set failed: %s";
 constexpr const char *NOT_MADE = "the set could not be created: %s";
 constexpr const char *NO_OPENING = "contains of an opening key had no known outcome in %s calls";
-constexpr const char *UNDER_WAY = "%s\npending: %s\nbefore that: %s";
+constexpr const char *UNDER_WAY = "%s\npending:%s\nbefore that: %s";
 constexpr const char *EXPLAINED = "some order explains the calls";
 constexpr const char *PASSED_BEFORE = "; passed before: %s";
+constexpr const char *PENDING_CALL = "\n  thread %s: %s %s%s, begun at moment %s";
+constexpr const char *IS_KEY = " (key %s of the recording)";
 constexpr const char *KEY_IS = "; key %s of the recording is %s";
 constexpr const char *IN_SET = ", in set %s of the run";
+constexpr const char *MADE_HARDER = "; with changed sizes, because few calls overlapped";
 constexpr const char *NO_FOLDER = "no file can be written in %s: set record to another folder";
+constexpr const char *NO_RECORD = "the variable LISTSET_RECORD is %s, but no file can be written there: set it to another folder";
+constexpr const char *NO_TEMPORARY = "no file can be written in %s: set the variable LISTSET_RECORD to another folder";
 constexpr const char *NO_MEMORY = "there is not enough memory for the calls of a run";
 constexpr const char *NO_PROCESS = "no process could be started for a run: %s";
 constexpr const char *NO_JUDGE = "no judge was found: %s cannot be run. Copy the file judge/listset.js of this judge's repository, and set LISTSET to its path (Node 18 runs it); or put the program listset in PATH. LISTSET=skip skips this test";
+constexpr const char *NO_SCRIPT = "the variable LISTSET is %s, but no file is at %s: set LISTSET to the full path of listset.js";
+constexpr const char *NO_NODE = "no judge was found: LISTSET is %s, which needs Node 18 or newer, but no node is in PATH";
+constexpr const char *OLD_NODE = "node is %s, but %s needs Node 18 or newer";
 constexpr const char *IS_FOLDER = "%s is a folder: set LISTSET to the program in it";
 constexpr const char *NO_VERDICT = "%s printed no verdict, but: %s. Use a newer listset";
-constexpr const char *AND_MORE = "%s, and %s more calls";
+constexpr const char *AND_MORE = "\n  and %s more";
 constexpr const char *ALONE = ", the calls that show it in %s";
 constexpr const char *SKIPPED = "skipped: LISTSET is skip";
 constexpr const char *NOT_IN_CI = "LISTSET is skip, but the variable CI is set: in CI no test is skipped";
@@ -341,27 +354,30 @@ struct area {
     bool interrupts_longer() const { return is_busy || of.meets_once; }
 };
 
-inline std::string line_of(const slot &it, unsigned end) {
-    static const char *const words[] = {" add ", " remove ", " contains "};
-    std::string text = "call " + std::to_string(it.thread) + words[int(it.call)] + std::to_string(it.key) + " " + std::to_string(it.begin) + " ";
+constexpr const char *WORDS[] = {"add", "remove", "contains"};
+
+// Returns the line of a call whose key has this number in the recording.
+inline std::string line_of(const slot &it, unsigned key, unsigned end) {
+    std::string text = "call " + std::to_string(it.thread) + " " + WORDS[int(it.call)] + " " + std::to_string(key) + " " + std::to_string(it.begin) + " ";
     const bool is_open = end == 0 || it.answer == reply::unknown;
     return text + (is_open ? "- -\n" : std::to_string(end) + (it.answer == reply::yes ? " true\n" : " false\n"));
 }
 
-// Returns the lines of the calls that have not been saved, ordered by start, and the lines of the pending calls. Threads can
+// Returns the lines of the calls that have not been saved, ordered by start, and the pending calls. Threads can
 // begin and end calls meanwhile: a call that begins after the start of this function is left out, and a call that ends after
 // the start of this function is pending.
-inline std::pair<std::string, std::string> lines_of(const area &from) {
+inline std::pair<std::string, std::vector<const slot *>> lines_of(const area &from) {
     const unsigned now = from.tickets, since = from.saves[from.save].moment;
     std::map<unsigned, std::pair<const slot *, unsigned>> found;
     for (size_t i = 0; i < from.count(); i++) {
         const unsigned end = from.slots[i].end, begin = from.slots[i].begin;  // (a pending call's slot can have the end of an earlier call)
         if (begin > since && begin <= now) found[begin] = {&from.slots[i], end > now || end < begin ? 0 : end};
     }
-    std::string lines, under_way;
+    std::string lines;
+    std::vector<const slot *> under_way;
     for (const auto &[begin, it] : found) {
-        lines += line_of(*it.first, it.second);
-        if (it.second == 0) under_way += line_of(*it.first, 0);
+        lines += line_of(*it.first, it.first->key * from.of.times, it.second);
+        if (it.second == 0) under_way.push_back(it.first);
     }
     return {lines, under_way};
 }
@@ -527,7 +543,7 @@ template <class Make, class K> struct maker {
         for (unsigned key = 0; key < run.of.keys; key++, run.tickets++) {
             reply found = reply::unknown;
             for (unsigned asked = 0; found == reply::unknown && asked < MOST_ASKED; asked++) found = contains(*set, keys[key]);
-            if (found == reply::yes) lines += word + std::to_string(round / run.parts * run.of.keys + key) + "\n";
+            if (found == reply::yes) lines += word + std::to_string((round / run.parts * run.of.keys + key) * run.of.times) + "\n";
             if (found == reply::unknown) run.is_end_known = false;
         }
         return lines;
@@ -701,15 +717,29 @@ inline std::string quoted(const std::string &word) {
 // Returns whether a command exists. Without this check, the shell would print its own message.
 inline bool is_command(const std::string &name) { return !std::system(("command -v " + quoted(name) + " >/dev/null 2>&1").c_str()); }
 
+inline void check_script(const std::string &name) {
+    if (!std::filesystem::exists(name)) throw no_verdict(say(NO_SCRIPT, name, std::filesystem::absolute(name).string()));
+    if (!is_command("node")) throw no_verdict(say(NO_NODE, name));
+}
+
+// Throws if node is too old.
+inline void check_node(const std::string &name) {
+    const answer node = ran("node --version 2>/dev/null");
+    unsigned major;
+    if (sscanf(node.said.c_str(), "v%u", &major) == 1 && major < 18) throw no_verdict(say(OLD_NODE, node.said, name));
+}
+
 inline judge_found find_judge() {
     const char *named = std::getenv("LISTSET");
     const std::string name = named && *named ? named : "listset";
     const bool is_script = std::filesystem::path(name).extension() == ".js";
     if (std::filesystem::is_directory(name)) throw no_verdict(say(IS_FOLDER, name));
-    if (!is_command(is_script ? "node" : name)) throw no_verdict(say(NO_JUDGE, name));
+    if (is_script) check_script(name);
+    else if (!is_command(name)) throw no_verdict(say(NO_JUDGE, name));
     const std::string command = (is_script ? "node " : "") + quoted(name);
-    const answer version = ran(command + " --version --long");  // (stderr is not captured: ./listset first builds the judge and prints its progress there)
+    const answer version = ran(command + " --version --long" + (is_script ? " 2>/dev/null" : ""));  // (a program's stderr is not captured: ./listset first builds the judge and prints its progress there)
     if (version.status == 127) throw no_verdict(say(NO_JUDGE, name));
+    if (is_script && version.status != 0) check_node(name);
     return {name, proof_in(version.said), [command](const std::string &file) {
                 const std::string asked = command + " judge " + quoted(file);
                 const answer given = ran(asked + " 2>/dev/null");
@@ -755,7 +785,7 @@ struct recording {
         const std::string name = "seed-" + std::to_string(seed), others = std::to_string(getpid()) + "-" + std::to_string(++files);
         std::filesystem::create_directories(folder, none);
         path = folder + (is_kept ? "/" + name : "/listset-" + name + "-" + others) + ".calls";
-        if (!std::ofstream(path)) throw no_verdict(say(NO_FOLDER, folder));
+        if (!std::ofstream(path)) throw no_verdict(say(is_kept ? NO_FOLDER : named && *named ? NO_RECORD : NO_TEMPORARY, folder));
     }
     recording(const recording &) = delete;
     ~recording() {
@@ -763,15 +793,13 @@ struct recording {
     }
 };
 
-// Ends the recording of a run that was cut short. Returns the first pending call, and the number of further pending calls.
-inline std::string cut(const area &run, const std::string &path, const std::string &trouble) {
+// Ends the recording of a run that was cut short. Returns the pending calls.
+inline std::vector<const slot *> cut(const area &run, const std::string &path, const std::string &trouble) {
     if (run.tickets == 0) throw no_verdict(say(NOT_MADE, trouble));
     const auto [lines, under_way] = lines_of(run);
     std::filesystem::resize_file(path, run.saves[run.save].length);
     std::ofstream(path, std::ios::app) << lines << "cut\n";
-    const auto count = std::count(under_way.begin(), under_way.end(), '\n');
-    const std::string first = under_way.substr(0, under_way.find('\n'));
-    return count > 1 ? say(AND_MORE, first, count - 1) : count == 1 ? first : "no call";
+    return under_way;
 }
 
 struct outcome {
@@ -848,10 +876,28 @@ template <class Make, class Key> struct tester {
     // Describes the key that has this number in the recording and, if the run has several sets, the key's set. Returns an
     // empty text if the number itself is the key, and the run has a single set.
     static std::string key_line(const std::string &number, const shape &it, const std::vector<K> &keys) {
-        if (number.empty()) return "";
-        const unsigned long at = std::stoul(number);
-        const std::string name = shown(keys[at % it.keys]), set = it.sets > 1 ? say(IN_SET, at / it.keys + 1) : "";
-        return name == number && set.empty() ? "" : say(KEY_IS, number, name) + set;
+        if (number.empty() || (it.sets == 1 && std::is_same_v<Key, listset::judging::number>)) return "";
+        const unsigned long at = std::stoul(number) / it.times;
+        return say(KEY_IS, number, shown(keys[at % it.keys])) + (it.sets > 1 ? say(IN_SET, at / it.keys + 1) : "");
+    }
+
+    // Returns a line for each pending call, at most MOST_SHOWN.
+    static std::string pending(const std::vector<const slot *> &under_way, const shape &it, const std::vector<K> &keys) {
+        constexpr size_t MOST_SHOWN = 16;
+        std::string lines;
+        for (const slot *one : under_way) {
+            const std::string name = shown(keys[one->key % it.keys]), number = std::to_string(one->key * it.times), set = it.sets > 1 ? say(IN_SET, one->key / it.keys + 1) : "";
+            lines += say(PENDING_CALL, one->thread, WORDS[int(one->call)], name, (name == number ? "" : say(IS_KEY, number)) + set, one->begin.load());
+            if (one == under_way[std::min(under_way.size(), MOST_SHOWN) - 1]) break;
+        }
+        if (under_way.size() > MOST_SHOWN) lines += say(AND_MORE, under_way.size() - MOST_SHOWN);
+        return lines.empty() ? " no call" : lines;
+    }
+
+    // Returns the part of the message that says whether the run has other sizes than its preset.
+    std::string made_harder(uint64_t seed, const shape &it) const {
+        const shape first = shape_of(seed);
+        return it.threads == first.threads && it.calls == first.calls && it.keys == first.keys ? "" : MADE_HARDER;
     }
 
     outcome judged_run(uint64_t seed, const shape &it) const {
@@ -861,7 +907,7 @@ template <class Make, class Key> struct tester {
         std::string trouble = how.own_process && is_alone() ? made_in_child(*by_maker, *run) : made_here(by_maker, run);
         if (run->at == UNMADE) throw no_verdict(run->why);
         if (run->at == FAILED) trouble = run->why;
-        const std::string under_way = trouble.empty() ? "" : cut(*run, text.path, trouble);
+        const std::string under_way = trouble.empty() ? "" : pending(cut(*run, text.path, trouble), it, by_maker->keys);
         const auto [refused, overlapped] = judged(by, text.path);
         outcome found{seed, uint64_t(it.threads) * it.sets * it.calls, overlapped};
         if (trouble.empty() && refused.empty()) return found;
@@ -869,7 +915,7 @@ template <class Make, class Key> struct tester {
         const std::string number = key_in(refused), name = key_line(number, it, by_maker->keys);
         found.said = trouble.empty() ? refused : say(UNDER_WAY, trouble, under_way, refused.empty() ? EXPLAINED : refused);
         found.file = text.path;
-        found.text = say(FAILED_RUN, found.said, seed, it.name, it.threads, passed_before(seed) + name, text.path, alone(text.path, number), by.name + ", " + by.proof);
+        found.text = say(FAILED_RUN, found.said, seed, it.name, it.threads, made_harder(seed, it) + passed_before(seed) + name, text.path, alone(text.path, number), by.name + ", " + by.proof);
         return found;
     }
 
@@ -915,16 +961,24 @@ template <class Make, class Key> struct tester {
     }
 };
 
-// Returns the verdict if LISTSET is `skip`. Skips the test if GoogleTest is included before this file.
-inline verdict skipped() {
+// The type T, which the compiler looks at only when it knows the set S: GoogleTest can be included after this file.
+template <class S, class T> struct later {
+    using type = T;
+};
+
+template <class T, class = void> constexpr bool can_skip = false;
+template <class T> constexpr bool can_skip<T, std::void_t<decltype(T::kSkip)>> = true;
+
+// Returns the verdict if LISTSET is `skip`. Skips the test if GoogleTest is included.
+template <class S> verdict skipped() {
+    using result = typename later<S, testing::TestPartResult>::type;
+    using helper = typename later<S, testing::internal::AssertHelper>::type;
+    using message = typename later<S, testing::Message>::type;
     if (const char *ci = std::getenv("CI"); ci && *ci) throw no_verdict(NOT_IN_CI);
     verdict none;
     none.is_skipped = true, none.text = SKIPPED;
-#ifdef GTEST_SKIP
-    [] { GTEST_SKIP() << SKIPPED; }();
-#else
-    fprintf(stderr, "listset: %s\n", SKIPPED);
-#endif
+    if constexpr (can_skip<result>) helper(result::kSkip, __FILE__, __LINE__, "") = message() << SKIPPED;  // (as GTEST_SKIP does)
+    else fprintf(stderr, "listset: %s\n", SKIPPED);
     return none;
 }
 
@@ -934,7 +988,7 @@ inline verdict skipped() {
 /// must return a different key for each number.
 template <class S, class Make = judging::made<S>, class Key = judging::number> verdict judge(const options &how = {}, Make make = {}, Key key = {}) {
     judging::check(how);
-    if (const char *named = std::getenv("LISTSET"); named && named == std::string("skip")) return judging::skipped();
+    if (const char *named = std::getenv("LISTSET"); named && named == std::string("skip")) return judging::skipped<S>();
     const options settled = judging::by_environment(how);
     return judging::tester<Make, Key>{settled, judging::find_judge(), make, key}.all();
 }

@@ -164,6 +164,15 @@ func (o Options) shapeOf(seed int64) shape {
 	return s
 }
 
+// madeHarder returns the part of the message that says whether a run has other sizes than its preset.
+func (o Options) madeHarder(seed int64, s size) string {
+	first := o.shapeOf(seed)
+	if s.threads == first.threads && s.calls == first.calls && s.keys == first.keys {
+		return ""
+	}
+	return sayMadeHarder
+}
+
 // harder returns the sizes of a run with more overlapping calls: more goroutines (possibly more than processors), fewer keys
 // and twice as many calls in total, unless the options set these numbers. The goroutines wait for each other only at the
 // beginning, because on a busy machine a waiting goroutine is not interrupted during a call.
@@ -272,7 +281,7 @@ func CheckKeys[K comparable, S SetOf[K]](t Test, newSet func() S, key func(uint3
 
 // Judge judges the sets that newSet creates, in this process.
 func Judge[S Set](newSet func() S, options Options) (Verdict, error) {
-	return judged(options, func(int) (source, error) { return numbers(newSet), nil }, "")
+	return judged(options, func(int) (source, error) { return numbers(newSet), nil }, "", nil)
 }
 
 func check(t Test, of func(keys int) (source, error), options []Options) {
@@ -285,7 +294,8 @@ func check(t Test, of func(keys int) (source, error), options []Options) {
 	if options[0].InProcess {
 		name = ""
 	}
-	verdict, err := judged(options[0], of, name)
+	limited, _ := t.(interface{ Deadline() (time.Time, bool) })
+	verdict, err := judged(options[0], of, name, limited)
 	if len(options) > 2 {
 		err = fmt.Errorf("Check takes one Options, and was given %d", len(options)-1)
 	}
@@ -363,9 +373,25 @@ type tester struct {
 	by      *judgeFound
 }
 
+// endsBefore shortens a test so that it ends before go test stops it: a minute earlier, or after three quarters of the
+// time that is left.
+func (o Options) endsBefore(limited interface{ Deadline() (time.Time, bool) }) Options {
+	if limited == nil {
+		return o
+	}
+	if end, isLimited := limited.Deadline(); isLimited {
+		left := int(time.Until(end).Seconds())
+		if usable := most(1, most(left-60, left*3/4)); usable < o.Within {
+			fmt.Fprintf(os.Stderr, "listset: makes runs for %d s, not for %d s, because go test stops in %d s: use go test -timeout 0\n", usable, o.Within, left)
+			o.Within = usable
+		}
+	}
+	return o
+}
+
 // judged judges one run after another, in a child process for the Check with this name, or in this process if the name
-// is empty.
-func judged(options Options, of func(keys int) (source, error), name string) (verdict Verdict, err error) {
+// is empty. The runs end before the deadline of limited, which can be nil.
+func judged(options Options, of func(keys int) (source, error), name string, limited interface{ Deadline() (time.Time, bool) }) (verdict Verdict, err error) {
 	if err = options.check(); err != nil {
 		return verdict, err
 	}
@@ -377,6 +403,7 @@ func judged(options Options, of func(keys int) (source, error), name string) (ve
 	if options, err = options.byEnvironment(); err != nil {
 		return verdict, err
 	}
+	options = options.endsBefore(limited)
 	its, err := of(options.most(func(s size) int { return s.keys }))
 	if err != nil {
 		return verdict, err
@@ -452,7 +479,10 @@ func (t *tester) judgedRun(seed int64, s shape) (int, error) {
 		return 0, err
 	}
 	defer r.close()
-	r.passed = t.options.passedBefore(seed)
+	r.notes = t.options.madeHarder(seed, s.size) + t.options.passedBefore(seed)
+	if t.area.source.isOwn {
+		s.times = 1
+	}
 	trouble, err := t.area.made(seed, s.size, r.file.Name(), t.caller)
 	if err != nil {
 		return 0, err

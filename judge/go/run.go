@@ -93,10 +93,10 @@ func (a *area) lay(memory []byte) {
 
 func (a *area) saved() saved { return a.saves[atomic.LoadUint32(&a.save)] }
 
-// lines returns the lines of the calls that have not been saved, ordered by start, and the lines of the pending calls.
+// lines returns the lines of the calls that have not been saved, ordered by start, and the pending calls in this order.
 // Goroutines can begin and end calls meanwhile: a call that begins after the start of lines is left out, and a call that
 // ends after the start of lines is pending.
-func (a *area) lines() (lines, underWay string) {
+func (a *area) lines() (lines string, underWay []slot) {
 	now, since, of, begins := atomic.LoadUint32(&a.tickets), a.saved().moment, map[uint32]string{}, []uint32{}
 	for i := range a.slots[:a.threads*a.rows()] {
 		s := &a.slots[i]
@@ -105,9 +105,9 @@ func (a *area) lines() (lines, underWay string) {
 			end = 0
 		}
 		if begin > since && begin <= now {
-			of[begin], begins = s.line(end), append(begins, begin)
+			of[begin], begins = s.line(end, uint32(a.times)), append(begins, begin)
 			if end == 0 {
-				underWay += s.line(0)
+				underWay = append(underWay, slot{begin: begin, thread: s.thread, call: s.call, key: s.key})
 			}
 		}
 	}
@@ -116,15 +116,18 @@ func (a *area) lines() (lines, underWay string) {
 	for _, begin := range begins {
 		text.WriteString(of[begin])
 	}
+	sort.Slice(underWay, func(i, j int) bool { return underWay[i].begin < underWay[j].begin })
 	return text.String(), underWay
 }
 
-func (s *slot) line(end uint32) string {
-	words := []string{"add", "remove", "contains"}
+var words = []string{"add", "remove", "contains"}
+
+// line returns the line of a call in the recording, where the key is its number times this number.
+func (s *slot) line(end, times uint32) string {
 	if end == 0 || s.reply == unknown {
-		return fmt.Sprintf("call %d %s %d %d - -\n", s.thread, words[s.call], s.key, s.begin)
+		return fmt.Sprintf("call %d %s %d %d - -\n", s.thread, words[s.call], s.key*times, s.begin)
 	}
-	return fmt.Sprintf("call %d %s %d %d %d %t\n", s.thread, words[s.call], s.key, s.begin, end, s.reply == yes)
+	return fmt.Sprintf("call %d %s %d %d %d %t\n", s.thread, words[s.call], s.key*times, s.begin, end, s.reply == yes)
 }
 
 // ---- for the process that watches a run
@@ -192,8 +195,25 @@ func (a *area) made(seed int64, s size, file string, by caller) (trouble string,
 // fail recovers from a panic and stores its text. Only the first text is kept.
 func (a *area) fail(as uint32, words string) {
 	if why := recover(); why != nil && atomic.CompareAndSwapUint32(&a.isStopping, 0, 1) {
-		a.why.set(fmt.Sprintf(words, why))
+		a.why.set(fmt.Sprintf(words, fmt.Sprint(why)+place()))
 		atomic.StoreUint32(&a.at, as)
+	}
+}
+
+// place returns where the panic occurred: the innermost call that is neither in Go's runtime nor in this package.
+func place() string {
+	_, own, _, _ := runtime.Caller(0)
+	folder := own[:strings.LastIndex(own, "/")+1]
+	callers := make([]uintptr, 100)
+	for frames := runtime.CallersFrames(callers[:runtime.Callers(2, callers)]); ; {
+		frame, isMore := frames.Next()
+		isOwn := strings.HasPrefix(frame.File, folder) && !strings.HasSuffix(frame.File, "_test.go")
+		if frame.Function != "" && !strings.HasPrefix(frame.Function, "runtime.") && !isOwn {
+			return fmt.Sprintf(" (%s:%d, in %s)", frame.File, frame.Line, frame.Function)
+		}
+		if !isMore {
+			return ""
+		}
 	}
 }
 
@@ -342,7 +362,7 @@ func (a *area) linesOfKeys(word string, set Set, round int) (lines string, areKn
 			found = reply(set, 2, a.number(key))
 		}
 		if found == yes {
-			lines += fmt.Sprintf("%s %d\n", word, round/a.parts()*a.keys+key)
+			lines += fmt.Sprintf("%s %d\n", word, (round/a.parts()*a.keys+key)*a.times)
 		}
 		areKnown = areKnown && found != unknown
 		atomic.AddUint32(&a.tickets, 1)

@@ -16,26 +16,27 @@ import (
 type recording struct {
 	seed   int64
 	name   string
-	passed string // the part of the message that names the presets of the earlier runs
+	notes  string // the parts of the message that say whether the run has other sizes than its preset, and which presets passed before
 	file   *os.File
 	isKept bool
 }
 
 func newRecording(seed int64, name, record string) (*recording, error) {
-	r, folder, err := &recording{seed: seed, name: name, isKept: record != ""}, record, error(nil)
+	r, folder, fault, err := &recording{seed: seed, name: name, isKept: record != ""}, record, sayNoFolder, error(nil)
 	if r.isKept {
 		if err = os.MkdirAll(folder, 0o777); err == nil {
 			r.file, err = os.Create(filepath.Join(folder, fmt.Sprintf("seed-%d.calls", seed)))
 		}
 	} else {
+		fault = sayNoRecord
 		if folder = os.Getenv("LISTSET_RECORD"); folder == "" {
-			folder = os.TempDir()
+			folder, fault = os.TempDir(), sayNoTemporary
 		}
 		os.MkdirAll(folder, 0o777)
 		r.file, err = os.CreateTemp(folder, fmt.Sprintf("listset-seed-%d-*.calls", seed))
 	}
 	if err != nil {
-		return nil, fmt.Errorf(sayNoFolder, folder)
+		return nil, fmt.Errorf(fault, folder)
 	}
 	return r, nil
 }
@@ -43,7 +44,7 @@ func newRecording(seed int64, name, record string) (*recording, error) {
 // judged returns the number of calls that overlapped a call that changed the same key, or the error of the run. If the
 // run was cut short, trouble is the reason.
 func (r *recording) judged(by *judgeFound, a *area, trouble string) (int, error) {
-	underWay, lines := "", ""
+	underWay, lines := []slot(nil), ""
 	if trouble != "" {
 		lines, underWay = a.lines()
 		length := a.saved().length
@@ -60,14 +61,14 @@ func (r *recording) judged(by *judgeFound, a *area, trouble string) (int, error)
 		said = sayExplained
 	}
 	if trouble != "" {
-		said = fmt.Sprintf(sayUnderWay, trouble, firstOf(underWay), said)
+		said = fmt.Sprintf(sayUnderWay, trouble, pending(a, underWay), said)
 	}
 	named, small := "", ""
 	if key != nil {
 		number, _ := strconv.Atoi(key[1])
 		named, small = keyLine(a, number), r.alone(by, key[1])
 	}
-	text := fmt.Sprintf(sayFailedRun, said, r.seed, r.name, a.threads, r.passed+named, r.file.Name(), small, by)
+	text := fmt.Sprintf(sayFailedRun, said, r.seed, r.name, a.threads, r.notes+named, r.file.Name(), small, by)
 	failed := Failed{r.seed, r.name, said, r.file.Name(), by.String(), text}
 	if trouble == "" {
 		return 0, &NotLinearizable{failed}
@@ -78,29 +79,46 @@ func (r *recording) judged(by *judgeFound, a *area, trouble string) (int, error)
 // ofKey matches the key in the judge's output.
 var ofKey = regexp.MustCompile(`of key (\d+) `)
 
-// firstOf returns the first line of lines, and how many more lines there are.
-func firstOf(lines string) string {
-	all := strings.Split(strings.TrimSpace(lines), "\n")
-	if all[0] == "" {
-		return "no call"
+// mostShown is the maximum number of pending calls in the message.
+const mostShown = 16
+
+// pending returns a line for each pending call, at most mostShown.
+func pending(a *area, calls []slot) (lines string) {
+	for i, s := range calls {
+		if i == mostShown {
+			return lines + fmt.Sprintf(sayAndMore, len(calls)-i)
+		}
+		name, of, number := a.nameOf(int(s.key)), a.inSet(int(s.key)), strconv.Itoa(int(s.key)*a.times)
+		if name != number {
+			of = fmt.Sprintf(sayIsKey, number) + of
+		}
+		lines += fmt.Sprintf(sayPendingCall, s.thread, words[s.call], name, of, s.begin)
 	}
-	if len(all) > 1 {
-		return fmt.Sprintf(sayAndMore, all[0], len(all)-1)
+	if lines == "" {
+		return " no call"
 	}
-	return all[0]
+	return lines
+}
+
+// nameOf returns the key that the set gets for a number of a run.
+func (a *area) nameOf(number int) string { return a.source.shown(a.number(number % a.keys)) }
+
+// inSet returns the part of the message that names the set of a key if the run has several sets.
+func (a *area) inSet(number int) string {
+	if a.sets == 1 {
+		return ""
+	}
+	return fmt.Sprintf(sayInSet, number/a.keys+1)
 }
 
 // keyLine describes the key that has this number in the recording and, if the run has several sets, the key's set. It
 // returns an empty string if the number itself is the key and the run has a single set.
 func keyLine(a *area, number int) string {
-	set, shown := "", a.source.shown(a.number(number%a.keys))
-	if a.sets > 1 {
-		set = fmt.Sprintf(sayInSet, number/a.keys+1)
-	}
-	if shown == strconv.Itoa(number) && set == "" {
+	if a.sets == 1 && !a.source.isOwn {
 		return ""
 	}
-	return fmt.Sprintf(sayKeyIs, number, shown) + set
+	key := number / a.times
+	return fmt.Sprintf(sayKeyIs, number, a.nameOf(key)) + a.inSet(key)
 }
 
 // alone writes calls on one key that no order explains to a small file beside the recording. It returns the part of the
@@ -149,18 +167,42 @@ func findJudge() (*judgeFound, error) {
 	if found, err := os.Stat(name); err == nil && found.IsDir() {
 		return nil, fmt.Errorf(sayIsFolder, name)
 	}
-	command := []string{name}
-	if strings.HasSuffix(name, ".js") {
-		command = []string{"node", name}
+	command, shown, fault := []string{name}, io.Writer(os.Stderr), sayNoJudge // (the stderr of a program is shown: ./listset first builds the judge and prints its progress there)
+	isScript := strings.HasSuffix(name, ".js")
+	if isScript {
+		command, shown, fault = []string{"node", name}, io.Discard, sayNoNode
+		if path, err := filepath.Abs(name); err == nil && !isFile(path) {
+			return nil, fmt.Errorf(sayNoScript, name, path)
+		}
 	}
-	status, version := ran(append(command, "--version", "--long"), os.Stderr) // (stderr is not captured: ./listset first builds the judge and prints its progress there)
+	status, version := ran(append(command, "--version", "--long"), shown)
 	if status == 127 {
-		return nil, fmt.Errorf(sayNoJudge, name)
+		return nil, fmt.Errorf(fault, name)
+	}
+	if isScript && status != 0 {
+		if err := checkNode(name); err != nil {
+			return nil, err
+		}
 	}
 	ask := func(recording *os.File) (int, string) {
 		return ran(append(command, "judge", recording.Name()), io.Discard)
 	}
 	return &judgeFound{name, proofIn(version), ask, command}, nil
+}
+
+func isFile(path string) bool {
+	_, err := os.Stat(path)
+	return err == nil
+}
+
+// checkNode returns an error if node is too old.
+func checkNode(name string) error {
+	_, version := ran([]string{"node", "--version"}, io.Discard)
+	major := 0
+	if _, err := fmt.Sscanf(version, "v%d.", &major); err == nil && major < 18 {
+		return fmt.Errorf(sayOldNode, version, name)
+	}
+	return nil
 }
 
 // proofIn returns the judge's line that states whether the judge is proved.

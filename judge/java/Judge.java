@@ -56,6 +56,7 @@ import java.util.stream.Stream;
  */
 public final class Judge {
     private static final String[] WORDS = {"add", "remove", "contains"};
+    private static final int MOST_SHOWN = 16; // the maximum number of pending calls in a message
     private static final long SECOND = 1_000_000_000L; // nanoseconds
 
     /**
@@ -65,6 +66,9 @@ public final class Judge {
      */
     private record Shape(String name, int threads, int sets, int calls, int keys, int times, boolean meetsOnce) {
         Shape(String name, int threads, int sets, int calls, int keys, int times) { this(name, threads, sets, calls, keys, times, false); }
+
+        /** Returns these sizes with the keys 0, 1, 2 .. */
+        Shape withNumbers() { return new Shape(name, threads, sets, calls, keys, 1, meetsOnce); }
 
         long allCalls() { return (long) threads * sets * calls; }
 
@@ -94,16 +98,24 @@ public final class Judge {
     private static final String THREW = "a call of the set failed: %s";
     private static final String NOT_MADE = "the set could not be created: %s";
     private static final String NO_OPENING = "contains of an opening key had no known outcome in %s calls";
-    private static final String UNDER_WAY = "%s\npending: %s\nbefore that: %s";
+    private static final String UNDER_WAY = "%s\npending:%s\nbefore that: %s";
     private static final String EXPLAINED = "some order explains the calls";
     private static final String PASSED_BEFORE = "; passed before: %s";
+    private static final String PENDING_CALL = "\n  thread %s: %s %s%s, begun at moment %s";
+    private static final String IS_KEY = " (key %s of the recording)";
     private static final String KEY_IS = "; key %s of the recording is %s";
     private static final String IN_SET = ", in set %s of the run";
+    private static final String MADE_HARDER = "; with changed sizes, because few calls overlapped";
     private static final String NO_FOLDER = "no file can be written in %s: set record to another folder";
+    private static final String NO_RECORD = "the variable LISTSET_RECORD is %s, but no file can be written there: set it to another folder";
+    private static final String NO_TEMPORARY = "no file can be written in %s: set the variable LISTSET_RECORD to another folder";
     private static final String NO_JUDGE = "no judge was found: %s cannot be run. Copy the file judge/listset.js of this judge's repository, and set LISTSET to its path (Node 18 runs it); or put the program listset in PATH. LISTSET=skip skips this test";
+    private static final String NO_SCRIPT = "the variable LISTSET is %s, but no file is at %s: set LISTSET to the full path of listset.js";
+    private static final String NO_NODE = "no judge was found: LISTSET is %s, which needs Node 18 or newer, but no node is in PATH";
+    private static final String OLD_NODE = "node is %s, but %s needs Node 18 or newer";
     private static final String IS_FOLDER = "%s is a folder: set LISTSET to the program in it";
     private static final String NO_VERDICT = "%s printed no verdict, but: %s. Use a newer listset";
-    private static final String AND_MORE = "%s, and %s more calls";
+    private static final String AND_MORE = "\n  and %s more";
     private static final String ALONE = ", the calls that show it in %s";
     private static final String SKIPPED = "skipped: LISTSET is skip";
     private static final String NOT_IN_CI = "LISTSET is skip, but the variable CI is set: in CI no test is skipped";
@@ -403,10 +415,11 @@ public final class Judge {
         }
 
         /** Performs a run and judges it. Returns the number of calls that overlapped a call that changed the same key. */
-        private long judged(long seed, Shape shape) throws IOException {
+        private long judged(long seed, Shape given) throws IOException {
+            Shape shape = calls.keys == null ? given : given.withNumbers();
             try (Recording recording = new Recording(seed, how.record)) {
                 Path file = recording.file;
-                String trouble = caller.made(seed, shape, file), pending = trouble == null ? "" : caller.area.cut();
+                String trouble = caller.made(seed, shape, file), pending = trouble == null ? "" : shown(caller.area.cut(), shape);
                 Judgement judged = program.judged(file);
                 if (trouble == null && judged.refused == null) return judged.overlapped;
                 recording.isKept = true;
@@ -414,9 +427,15 @@ public final class Judge {
                 String said = trouble == null ? refused : UNDER_WAY.formatted(trouble, pending, refused);
                 Matcher found = OF_KEY.matcher(refused);
                 String key = found.find() ? found.group(1) : null, named = key == null ? "" : keyLine(Integer.parseInt(key), shape);
-                String text = FAILED_RUN.formatted(said, seed, shape.name, shape.threads, passedBefore(seed) + named, file, key == null ? "" : alone(file, key), program);
+                String text = FAILED_RUN.formatted(said, seed, shape.name, shape.threads, madeHarder(seed, shape) + passedBefore(seed) + named, file, key == null ? "" : alone(file, key), program);
                 throw trouble == null ? new NotLinearizable(seed, said, file, text) : new CutShort(seed, said, file, text);
             }
+        }
+
+        /** Returns the part of the message that says whether a run has other sizes than its preset. */
+        private String madeHarder(long seed, Shape it) {
+            Shape first = how.shapeOf(seed);
+            return it.threads == first.threads && it.calls == first.calls && it.keys == first.keys ? "" : MADE_HARDER;
         }
 
         /** Returns the part of the message that names the presets of the earlier runs, which all passed. */
@@ -444,9 +463,25 @@ public final class Judge {
          * an empty text if the number itself is the key, and the run has a single set.
          */
         private String keyLine(int number, Shape shape) {
-            String key = String.valueOf(calls.key(number % shape.keys, shape.times));
-            String ofSet = shape.sets > 1 ? IN_SET.formatted(number / shape.keys + 1) : "";
-            return key.equals("" + number) && ofSet.isEmpty() ? "" : KEY_IS.formatted(number, key) + ofSet;
+            if (shape.sets == 1 && calls.keys == null) return "";
+            int key = number / shape.times;
+            return KEY_IS.formatted(number, nameOf(key, shape)) + inSet(key, shape);
+        }
+
+        private String nameOf(int key, Shape shape) { return String.valueOf(calls.key(key % shape.keys, shape.times)); }
+
+        private static String inSet(int key, Shape shape) { return shape.sets > 1 ? IN_SET.formatted(key / shape.keys + 1) : ""; }
+
+        /** Returns a line for each pending call, at most MOST_SHOWN. */
+        private String shown(List<Row> pending, Shape shape) {
+            StringBuilder lines = new StringBuilder();
+            for (Row it : pending.subList(0, Math.min(pending.size(), MOST_SHOWN))) {
+                String number = "" + it.key * shape.times, name = nameOf(it.key, shape);
+                String note = (name.equals(number) ? "" : IS_KEY.formatted(number)) + inSet(it.key, shape);
+                lines.append(PENDING_CALL.formatted(it.thread, WORDS[it.call], name, note, it.begin));
+            }
+            if (pending.size() > MOST_SHOWN) lines.append(AND_MORE.formatted(pending.size() - MOST_SHOWN));
+            return pending.isEmpty() ? " no call" : lines.toString();
         }
     }
 
@@ -487,7 +522,7 @@ public final class Judge {
         // had begun by then. SAVE: the index of the valid record. SHAPE: the six numbers of a Shape. WHY and FILE:
         // texts.
         private static final int TICKETS = 0, THERE = 4, DONE = 8, BEGUN = 12, AT = 16, STOPPING = 20, IS_HERE = 24, IS_BUSY = 28, SEED = 32, SAVE = 40,
-            SAVES = 48, SAVED = 16, MOMENT = 8, SHAPE = SAVES + 2 * SAVED, WHY = SHAPE + 24, FILE = WHY + 4 + 240, SLOTS = FILE + 4 + 1024;
+            SAVES = 48, SAVED = 16, MOMENT = 8, SHAPE = SAVES + 2 * SAVED, WHY = SHAPE + 24, FILE = WHY + 4 + 1000, SLOTS = FILE + 4 + 1024;
         private static final int BEGIN = 0, END = 4, CALL = 8, KEY = 12, REPLY = 16, THREAD = 20, SLOT = 24; // offsets in a call; the calls of one thread are adjacent in the memory
         private static final int GOING = 1, OVER = 2, FAILED = 3, UNMADE = 4; // the values of AT
         private static final int SIZE = SLOTS + PART * SLOT;
@@ -528,19 +563,17 @@ public final class Judge {
             return new String(bytes, StandardCharsets.UTF_8);
         }
 
-        /** Returns the lines of the calls that have not been saved. */
-        private String lines() { return rows().stream().map(Row::line).collect(Collectors.joining()); }
+        /** Returns the lines of calls. */
+        private String lines(List<Row> rows) {
+            int times = shape().times;
+            return rows.stream().map(it -> it.line(times)).collect(Collectors.joining());
+        }
 
-        /**
-         * Ends the recording of a run that was cut short by adding the calls in memory. Returns the first pending call,
-         * and the number of further pending calls.
-         */
-        String cut() throws IOException {
+        /** Ends the recording of a run that was cut short by adding the calls in memory. Returns the pending calls. */
+        List<Row> cut() throws IOException {
             List<Row> rows = rows();
-            write(rows.stream().map(Row::line).collect(Collectors.joining()) + "cut\n");
-            List<Row> pending = rows.stream().filter(it -> it.end == 0).collect(Collectors.toList());
-            String first = pending.isEmpty() ? "no call" : pending.get(0).line().strip();
-            return pending.size() > 1 ? AND_MORE.formatted(first, pending.size() - 1) : first;
+            write(lines(rows) + "cut\n");
+            return rows.stream().filter(it -> it.end == 0).collect(Collectors.toList());
         }
 
         private int saved() { return SAVES + get(SAVE) * SAVED; }
@@ -630,9 +663,16 @@ public final class Judge {
             } catch (Throwable why) {
                 if (area.next(Area.STOPPING) > 1) return;
                 why.printStackTrace(); // (before AT is set, because the parent JVM then ends this JVM)
-                area.putText(Area.WHY, Area.FILE - Area.WHY, (as == Area.UNMADE ? NOT_MADE : THREW).formatted(why));
+                area.putText(Area.WHY, Area.FILE - Area.WHY, (as == Area.UNMADE ? NOT_MADE : THREW).formatted(why + place(why)));
                 area.set(Area.AT, as);
             }
+        }
+
+        /** Returns where an error was thrown: the innermost method that is neither in this class nor in the JDK. */
+        private static String place(Throwable why) {
+            String own = Judge.class.getName();
+            return Stream.of(why.getStackTrace()).filter(it -> !it.getClassName().equals(own) && !it.getClassName().startsWith(own + "$"))
+                .filter(it -> it.getModuleName() == null || !it.getModuleName().startsWith("java.")).findFirst().map(it -> " (at " + it + ")").orElse("");
         }
 
         /**
@@ -678,7 +718,7 @@ public final class Judge {
                 if (!waits(LONGEST, () -> area.get(Area.DONE) == (round + 1) * of.threads)) return;
                 if ((round + 1) % of.parts() == 0) left.add(linesOfKeys("key ", round));
                 if (area.get(Area.STOPPING) > 0) return; // (the run was cut short)
-                area.save(area.lines());
+                area.save(area.lines(area.rows()));
             }
             area.write(left.contains(null) ? "cut\n" : String.join("", left) + "end\n"); // (lines not marked as saved: the run can still be cut short)
         }
@@ -699,7 +739,7 @@ public final class Judge {
                 int number = round / of.parts() * of.keys + key;
                 int reply = Calls.UNKNOWN;
                 for (int asked = 0; reply == Calls.UNKNOWN && asked < MOST_ASKED; asked++) reply = calls.reply(set.get(), 2, calls.key(key, of.times));
-                if (reply == Calls.YES) lines.append(word).append(number).append('\n');
+                if (reply == Calls.YES) lines.append(word).append(number * of.times).append('\n');
                 if (reply == Calls.UNKNOWN) return null;
             }
             return lines.toString();
@@ -881,9 +921,9 @@ public final class Judge {
     // ---- judging a run
 
     private record Row(int thread, int call, int key, int begin, int end, int reply) {
-        String line() {
+        String line(int times) {
             String ended = end > 0 && reply != Calls.UNKNOWN ? end + " " + (reply == Calls.YES) : "- -";
-            return "call " + thread + " " + WORDS[call] + " " + key + " " + begin + " " + ended + "\n";
+            return "call " + thread + " " + WORDS[call] + " " + key * times + " " + begin + " " + ended + "\n";
         }
     }
 
@@ -895,13 +935,14 @@ public final class Judge {
         Recording(long seed, String record) {
             isKept = record != null;
             String named = System.getenv("LISTSET_RECORD");
-            Path folder = Path.of(isKept ? record : named != null && !named.isEmpty() ? named : System.getProperty("java.io.tmpdir"));
+            boolean isNamed = named != null && !named.isEmpty();
+            Path folder = Path.of(isKept ? record : isNamed ? named : System.getProperty("java.io.tmpdir"));
             try {
                 Files.createDirectories(folder);
                 file = isKept ? folder.resolve("seed-" + seed + ".calls") : Files.createTempFile(folder, "listset-seed-" + seed + "-", ".calls");
                 if (isKept) Files.writeString(file, "");
             } catch (IOException none) {
-                throw new NoVerdict(NO_FOLDER.formatted(folder));
+                throw new NoVerdict((isKept ? NO_FOLDER : isNamed ? NO_RECORD : NO_TEMPORARY).formatted(folder));
             }
         }
 
@@ -935,23 +976,35 @@ public final class Judge {
 
         static Program found() {
             String named = System.getenv("LISTSET"), name = named == null || named.isEmpty() ? "listset" : named;
-            Program asked = new Program(name, name.endsWith(".js") ? List.of("node", name) : List.of(name), "");
-            String version = asked.answer("--version", "--long").said;
+            boolean isScript = name.endsWith(".js");
+            Path path = Path.of(name).toAbsolutePath();
+            if (isScript && !Files.exists(path)) throw new NoVerdict(NO_SCRIPT.formatted(name, path));
+            Program asked = new Program(name, isScript ? List.of("node", name) : List.of(name), "");
+            Answer answer = asked.answer("--version", "--long");
+            if (isScript && answer.status != 0) checkNode(name);
+            String version = answer.said;
             return new Program(name, asked.command, version.lines().filter(it -> it.startsWith("proof ")).findFirst().orElse("proof unknown"));
+        }
+
+        /** Throws if node is too old. */
+        private static void checkNode(String name) {
+            String node = new Program(name, List.of("node"), "").answer("-v").said;
+            Matcher major = Pattern.compile("v([0-9]{1,9})").matcher(node);
+            if (major.lookingAt() && Integer.parseInt(major.group(1)) < 18) throw new NoVerdict(OLD_NODE.formatted(node, name));
         }
 
         private Answer answer(String... words) {
             List<String> all = new ArrayList<>(command);
             all.addAll(List.of(words));
             ProcessBuilder made = new ProcessBuilder(all);
-            if (words[0].equals("--version")) made.redirectError(ProcessBuilder.Redirect.INHERIT); // (stderr is not captured: ./listset first builds the judge and prints its progress there)
+            if (words[0].equals("--version") && command.size() == 1) made.redirectError(ProcessBuilder.Redirect.INHERIT); // (the stderr of a program is not captured: ./listset first builds the judge and prints its progress there)
             try {
                 Process process = made.start();
                 process.getOutputStream().close();
                 String said = new String(process.getInputStream().readAllBytes()), errors = new String(process.getErrorStream().readAllBytes());
                 return new Answer((said.isEmpty() ? errors : said).strip(), process.waitFor());
             } catch (IOException none) {
-                throw new NoVerdict((new File(name).isDirectory() ? IS_FOLDER : NO_JUDGE).formatted(name));
+                throw new NoVerdict((new File(name).isDirectory() ? IS_FOLDER : command.size() > 1 ? NO_NODE : NO_JUDGE).formatted(name));
             } catch (InterruptedException why) {
                 throw new NoVerdict("the test was interrupted: ", why);
             }

@@ -32,13 +32,17 @@ import sys
 import tempfile
 import threading
 import time
+import traceback
 import unittest
 import warnings
 from typing import Any, Callable
 
 __all__ = ["CutShort", "Failed", "NoVerdict", "NotLinearizable", "TooFew", "Verdict", "judge"]
 
+__tracebackhide__ = True  # (pytest then shows only the line of the test)
+
 GOING, ENDED, UNMADE = range(3)
+MOST_SHOWN = 16  # the maximum number of pending calls in a message
 # The maximum number of calls of `contains` for one opening or final key. The call is repeated while its outcome is
 # unknown.
 MOST_ASKED = 100
@@ -87,16 +91,24 @@ ENDED_SO = "the set ended its process with status %s"
 THREW = "a call of the set failed: %s"
 NOT_MADE = "the set could not be created: %s"
 NO_OPENING = "contains of an opening key had no known outcome in %s calls"
-UNDER_WAY = "%s\npending: %s\nbefore that: %s"
+UNDER_WAY = "%s\npending:%s\nbefore that: %s"
 EXPLAINED = "some order explains the calls"
 PASSED_BEFORE = "; passed before: %s"
+PENDING_CALL = "\n  thread %s: %s %s%s, begun at moment %s"
+IS_KEY = " (key %s of the recording)"
 KEY_IS = "; key %s of the recording is %s"
 IN_SET = ", in set %s of the run"
+MADE_HARDER = "; with changed sizes, because few calls overlapped"
 NO_FOLDER = "no file can be written in %s: set record to another folder"
+NO_RECORD = "the variable LISTSET_RECORD is %s, but no file can be written there: set it to another folder"
+NO_TEMPORARY = "no file can be written in %s: set the variable LISTSET_RECORD to another folder"
 NO_JUDGE = "no judge was found: %s cannot be run. Copy the file judge/listset.js of this judge's repository, and set LISTSET to its path (Node 18 runs it); or put the program listset in PATH. LISTSET=skip skips this test"
+NO_SCRIPT = "the variable LISTSET is %s, but no file is at %s: set LISTSET to the full path of listset.js"
+NO_NODE = "no judge was found: LISTSET is %s, which needs Node 18 or newer, but no node is in PATH"
+OLD_NODE = "node is %s, but %s needs Node 18 or newer"
 IS_FOLDER = "%s is a folder: set LISTSET to the program in it"
 NO_VERDICT = "%s printed no verdict, but: %s. Use a newer listset"
-AND_MORE = "%s, and %s more calls"
+AND_MORE = "\n  and %s more"
 ALONE = ", the calls that show it in %s"
 SKIPPED = "skipped: LISTSET is skip"
 NOT_IN_CI = "LISTSET is skip, but the variable CI is set: in CI no test is skipped"
@@ -161,6 +173,8 @@ class Options(collections.namedtuple("Options", "threads calls keys key pauses r
         for (name, least, most), it in zip(RANGES, given):
             if not (isinstance(it, int) and least <= it <= most):
                 raise NoVerdict(RANGE % (name, it, least, most))
+        if not isinstance(self.record, (str, os.PathLike, type(None))):
+            raise NoVerdict(f"record is {self.record!r}, but must be the path of a folder")
 
     def by_environment(self) -> Options:
         """Applies the environment variables. LISTSET_SECONDS repeats runs for this many seconds, with seeds counting up
@@ -244,7 +258,6 @@ def judge(make: Callable[[], Any], *, threads: int | None = None, calls: int | N
 
     If a call returns None, its outcome is unknown, for example after a timeout.
     """
-    __tracebackhide__ = True  # (pytest then shows only the line of the test)
     how = Options(threads, calls, keys, key, pauses, runs, seed, seconds, within, at_least, (adds, removes, finds), own_process, opens_with_keys, record)
     how.check()
     if os.environ.get("LISTSET") == "skip":
@@ -275,7 +288,6 @@ class Tester:
         """Performs the requested runs, each up to three times, and then more runs as long as few calls have overlapped.
         Raises the error of a failed run.
         """
-        __tracebackhide__ = True  # (pytest then shows only the line of the test)
         began, how = time.monotonic(), self.how
         for seed in range(how.seed, how.seed + how.runs):
             if seed > how.seed and time.monotonic() > began + how.within:
@@ -293,11 +305,10 @@ class Tester:
 
     def judged_run(self, seed: int, shape: Shape) -> bool:
         """Performs a run and judges it. Returns whether few of its calls overlapped. Raises if the run failed."""
-        __tracebackhide__ = True
         self.how.check_keys(shape)
         file, is_kept = recording_of(seed, self.how.record), self.how.record is not None
         try:
-            trouble, under_way = Run(self.make, self.how, shape, seed, file).ended()
+            trouble, pending = Run(self.make, self.how, shape, seed, file).ended()
             overlapped, refused = self.by.judged(file)
             is_kept = bool(is_kept or trouble or refused)
         finally:
@@ -306,9 +317,9 @@ class Tester:
         calls = shape.threads * shape.sets * shape.calls
         self.calls, self.overlapped = self.calls + calls, self.overlapped + overlapped
         if trouble or refused:
-            said = UNDER_WAY % (trouble, under_way, refused or EXPLAINED) if trouble else refused
+            said = UNDER_WAY % (trouble, self.shown(pending, shape), refused or EXPLAINED) if trouble else refused
             key = key_in(refused)
-            where = self.passed_before(seed) + self.key_line(key, shape), file, self.alone(file, key), self.by
+            where = (MADE_HARDER if shape != self.how.shape_of(seed) else "") + self.passed_before(seed) + self.key_line(key, shape), file, self.alone(file, key), self.by
             raise (CutShort if trouble else NotLinearizable)(seed, said, file, FAILED_RUN % (said, seed, shape.name, shape.threads, *where))
         return is_few(overlapped, calls)
 
@@ -322,11 +333,23 @@ class Tester:
         """Describes the key that has this number in the recording and, if the run has several sets, the key's set. Returns an
         empty text if the number itself is the key, and the run has a single set.
         """
-        one, at = divmod(int(number or 0), shape.keys)
-        key = repr(self.how.key_of(at, shape))
-        if not number or shape.sets == 1 and key == number:
+        if not number or shape.sets == 1 and not self.how.key:
             return ""
-        return KEY_IS % (number, key) + (IN_SET % (one + 1) if shape.sets > 1 else "")
+        key, in_set = self.named(int(number) // shape.times, shape)
+        return KEY_IS % (number, key) + in_set
+
+    def named(self, number: int, shape: Shape) -> tuple[str, str]:
+        """Returns the text of a key, and the part of the message that names its set if the run has several sets."""
+        one, at = divmod(number, shape.keys)
+        return repr(self.how.key_of(at, shape)), IN_SET % (one + 1) if shape.sets > 1 else ""
+
+    def shown(self, pending: list[Call], shape: Shape) -> str:
+        """Returns a line for each pending call, at most MOST_SHOWN."""
+        lines = ""
+        for it in pending[:MOST_SHOWN]:
+            key, in_set = self.named(it.key // shape.times, shape)
+            lines += PENDING_CALL % (it.thread, it.call, key, (IS_KEY % it.key if key != str(it.key) else "") + in_set, it.begin)
+        return lines + (AND_MORE % (len(pending) - MOST_SHOWN) if len(pending) > MOST_SHOWN else "") or " no call"
 
     def alone(self, file: pathlib.Path, key: str) -> str:
         """Writes calls on one key that no order explains to a small file beside the recording. Returns the part of the
@@ -342,7 +365,8 @@ class Tester:
 
 def recording_of(seed: int, record: str | os.PathLike | None) -> pathlib.Path:
     """Creates the file for the recording of a run and returns its path."""
-    folder = pathlib.Path(record or os.environ.get("LISTSET_RECORD") or tempfile.gettempdir())
+    named = os.environ.get("LISTSET_RECORD")
+    folder = pathlib.Path(record or named or tempfile.gettempdir())
     try:
         folder.mkdir(parents=True, exist_ok=True)
         if record is None:
@@ -353,7 +377,7 @@ def recording_of(seed: int, record: str | os.PathLike | None) -> pathlib.Path:
         file.write_text("")
         return file
     except OSError:
-        raise NoVerdict(NO_FOLDER % folder) from None
+        raise NoVerdict((NO_FOLDER if record is not None else NO_RECORD if named else NO_TEMPORARY) % folder) from None
 
 
 def key_in(refused: str) -> str:
@@ -374,7 +398,7 @@ class Run:
     # format of a counter for the progress of a thread.
     SLOT, COUNT = struct.Struct("=IIIIBB"), struct.Struct("=Q")
     SAVED = struct.Struct("=QI")  # the length of the file, and the moment when the last call in the file began
-    AT = 240  # the offset of the run's progress in the memory; the error precedes it
+    AT = 1000  # the offset of the run's progress in the memory; the error precedes it
 
     def __init__(self, make, how, shape, seed, file):
         self.make, self.how, self.shape, self.seed, self.file = make, how, shape, seed, file
@@ -405,8 +429,8 @@ class Run:
     # ---- in the process that watches the run
 
     def ended(self):
-        """Performs the run. Returns two texts: the reason if the run was cut short, and the pending calls. Both texts are
-        empty if the run was completed. If the run was cut short, writes the last calls to the file.
+        """Performs the run. Returns the reason if the run was cut short, and the pending calls. Both are empty if the run
+        was completed. If the run was cut short, writes the last calls to the file.
         """
         is_own = self.how.own_process and hasattr(os, "fork") and threading.active_count() == 1
         trouble = self.made_in_child() if is_own else self.made_here()
@@ -415,15 +439,13 @@ class Run:
             raise NoVerdict(why)
         rows, trouble, (length, _) = self.rows(), why or trouble, self.saved
         if not trouble:
-            return "", ""
+            return "", []
         if not rows and not why and length <= len(FIRST_LINE):
             raise NoVerdict(NOT_MADE % trouble)
         os.truncate(self.file, length)
         with open(self.file, "a") as file:
             file.write("".join(map(line_of, rows)) + "cut\n")
-        pending = [line_of(it).strip() for it in rows if not it.end and it.reply != UNKNOWN]
-        first = pending[0] if pending else "no call"
-        return trouble, AND_MORE % (first, len(pending) - 1) if len(pending) > 1 else first
+        return trouble, [it for it in rows if not it.end and it.reply != UNKNOWN]
 
     def made_in_child(self):
         """Performs the run in a child process. Returns the reason if the run was cut short."""
@@ -477,7 +499,7 @@ class Run:
     def rows(self):
         """Returns the calls that have not been saved, ordered by start."""
         (_, last), found = self.saved, self.SLOT.iter_unpack(self.slots[self.at_slots :])
-        return sorted(Call(begin, 0 if reply == UNKNOWN else end, thread, WORDS[word], key, reply)
+        return sorted(Call(begin, 0 if reply == UNKNOWN else end, thread, WORDS[word], key * self.shape.times, reply)
                       for begin, end, thread, key, word, reply in found if begin > last)
 
     # ---- the thread that creates the sets
@@ -494,7 +516,7 @@ class Run:
             for it in started:
                 it.join()
         except Exception as why:
-            self.fail(f"{type(why).__qualname__}: {why}")
+            self.fail(described(why))
         finally:
             sys.setswitchinterval(before)
         self.set = self.replies_of = None  # (deleting the set can raise too)
@@ -552,10 +574,14 @@ class Run:
         self.set = self.replies_of = None
         try:
             made = self.set = self.make()
-            self.replies_of = made.add, made.remove, made.contains if hasattr(made, CONTAINS) else made.__contains__
         except Exception as why:
-            self.fail(NOT_MADE % why, UNMADE)
+            self.fail(NOT_MADE % described(why), UNMADE)
             raise
+        for names in ((ADD,), (REMOVE,), (CONTAINS, "__contains__")):
+            if not any(hasattr(made, it) for it in names):
+                self.fail(f"the set has no {' and no '.join(names)}", UNMADE)
+                raise threading.BrokenBarrierError
+        self.replies_of = made.add, made.remove, made.contains if hasattr(made, CONTAINS) else made.__contains__
 
     def lines_of_keys(self, word, one):
         """Calls `contains` for each key, and retries if the outcome is unknown. Returns a list with a line for each key
@@ -567,7 +593,7 @@ class Run:
             replies = (self.replies_of[2](key) for _ in range(MOST_ASKED))
             found = next((it for it in replies if it is not None), None)
             if found or found is None:
-                lines.append(found and f"{word} {first + number}\n")
+                lines.append(found and f"{word} {(first + number) * self.shape.times}\n")
             self.count(self.shape.threads, first + number)
         return lines
 
@@ -586,7 +612,7 @@ class Run:
         except threading.BrokenBarrierError:
             pass
         except Exception as why:
-            self.fail(THREW % f"{type(why).__qualname__}: {why}")
+            self.fail(THREW % described(why))
             self.there.abort()
 
     def call(self, places, of_set, thread, number, draw):
@@ -613,6 +639,13 @@ class Run:
             if self.how.pauses:
                 sys.settrace(before)
         return number
+
+
+def described(why: BaseException) -> str:
+    """Returns the text of an exception, with the last place outside of this file at which it passed."""
+    places = [it for it in traceback.extract_tb(why.__traceback__) if it.filename != __file__]
+    at = f" ({places[-1].filename}:{places[-1].lineno}, in {places[-1].name})" if places else ""
+    return f"{type(why).__qualname__}: {why}{at}"
 
 
 def end_with_parent():
@@ -661,11 +694,17 @@ class Judge:
             self.name, self.answer, self.words, version = "liblistset", listset.judge_file, [], listset.version()
         except (ImportError, AttributeError):
             self.name = os.environ.get("LISTSET") or "listset"
-            words = ["node", self.name] if self.name.endswith(".js") else [self.name]
+            is_script = self.name.endswith(".js")
+            if is_script and not os.path.exists(self.name):
+                raise NoVerdict(NO_SCRIPT % (self.name, os.path.abspath(self.name))) from None
+            words = ["node", self.name] if is_script else [self.name]
             self.words, self.answer = words, lambda file: said([*words, "judge", file], subprocess.PIPE)
-            version, status = said([*words, "--version", "--long"])  # (stderr is not captured: ./listset first builds the judge and prints its progress there)
+            # (the stderr of a program is not captured: ./listset first builds the judge and prints its progress there)
+            version, status = said([*words, "--version", "--long"], subprocess.PIPE if is_script else None)
             if status == 127:
-                raise NoVerdict((IS_FOLDER if os.path.isdir(self.name) else NO_JUDGE) % self.name) from None
+                raise NoVerdict((IS_FOLDER if os.path.isdir(self.name) else NO_NODE if is_script else NO_JUDGE) % self.name) from None
+            if is_script and status != 0:
+                check_node(self.name)
         self.proof = next((it for it in version.splitlines() if it.startswith("proof ")), "proof unknown")
 
     def __str__(self):
@@ -687,6 +726,14 @@ class Judge:
         """Returns the recording of one key, if the judge can print it."""
         text, status = said([*self.words, "judge", "--only", key, file], subprocess.PIPE) if self.words else ("", 1)
         return text if status == 0 else ""
+
+
+def check_node(name: str) -> None:
+    """Raises if node is too old."""
+    version = said(["node", "--version"])[0].strip()
+    major = re.match("v([0-9]+)", version)
+    if major and int(major[1]) < 18:
+        raise NoVerdict(OLD_NODE % (version, name))
 
 
 def said(words: list, errors: int | None = None) -> tuple[str, int]:

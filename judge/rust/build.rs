@@ -14,7 +14,10 @@ fn main() {
     };
     let found = places.iter().find(|it| it.join("liblistset.a").exists());
     assert!(found.is_some() || places.len() > 1, "LISTSET_LIB names {}, where no liblistset.a is", places[0].display());
-    let found = match found { Some(it) => it, None => return };
+    let found = match found {
+        Some(it) => it,
+        None => return,
+    };
     let library = found.join("liblistset.a");
     let is_new = fs::read(&library).unwrap_or_default().windows(18).any(|it| it == b"listset_judge_from");
     assert!(is_new, "{} has no function listset_judge_from: take a newer one", library.display());

@@ -100,6 +100,10 @@ class Named(Right):
         return self.name == "finds all" or is_late and self.calls > 8000 or self.part(key).__contains__(self.place(key))
 
 
+class NoContains:
+    add = remove = lambda self, key: True
+
+
 def fails():
     raise MemoryError("no memory")
 
@@ -113,7 +117,8 @@ def judged(name, how):
     how = dict(it.split("=") for it in how)
     how = {word: it if word == "record" else bool(int(it)) if word in ("own_process", "opens_with_keys") else int(it) for word, it in how.items()}
     try:
-        return "ok", listset_judge.judge(object if name == "object" else lambda: Named(name), key=KEYS.get(name), **how)
+        make = {"object": object, "no contains": NoContains}.get(name, lambda: Named(name))
+        return "ok", listset_judge.judge(make, key=KEYS.get(name), **how | ({"record": 5} if name == "record 5" else {}))
     except tuple(KINDS) as why:
         return KINDS[type(why)], why
 

@@ -64,7 +64,7 @@ pub struct Area {
 }
 
 /// A recorded call.
-struct Row([u32; SLOT]);
+pub struct Row([u32; SLOT]);
 
 impl Row {
     /// Returns the call as it was at the moment `now`. Returns `None` if the call had not begun then, or was already saved at
@@ -81,9 +81,23 @@ impl Row {
         self.0[0] == 0
     }
 
-    fn line(&self) -> String {
-        let [end, begin, thread, word, key, reply] = self.0;
-        let word = ["add", "remove", "contains"][word as usize];
+    fn word(&self) -> &'static str {
+        ["add", "remove", "contains"][self.0[3] as usize]
+    }
+
+    /// Describes a pending call, with the name of its key.
+    pub fn pending(&self, name: &str, note: &str) -> String {
+        say(PENDING_CALL, &[&self.0[2], &self.word(), &name, &note, &self.0[1]])
+    }
+
+    /// The key's number: the number of the set times the number of keys, plus the number of the key in the set.
+    pub fn key(&self) -> u32 {
+        self.0[4]
+    }
+
+    fn line(&self, times: u32) -> String {
+        let ([end, begin, thread, _, number, reply], word) = (self.0, self.word());
+        let key = number * times;
         match end {
             0 => format!("call {thread} {word} {key} {begin} - -\n"),
             _ if reply == UNKNOWN => format!("call {thread} {word} {key} {begin} - -\n"),
@@ -159,16 +173,17 @@ impl Area {
         std::array::from_fn(|it| self.memory[first + it].load(SeqCst))
     }
 
-    /// Returns the lines of the calls that have not been saved, ordered by start, and the lines of the pending calls. Threads
+    /// Returns the lines of the calls that have not been saved, ordered by start, and the pending calls. Threads
     /// can begin and end calls meanwhile: a call that begins after the start of this function is left out, and a call that
     /// ends after the start of this function is pending.
-    pub fn lines(&self) -> (String, String) {
+    pub fn lines(&self) -> (String, Vec<Row>) {
         let (now, [_, _, saved]) = (self.get(At::Tickets), self.saved());
         let slots = self.memory[SLOTS..].chunks(SLOT);
         let numbers = |slot: &[AtomicU32]| Row(std::array::from_fn(|it| slot[it].load(SeqCst)));
         let mut rows: Vec<Row> = slots.filter_map(|it| numbers(it).as_of(now, saved)).collect();
         rows.sort_unstable_by_key(|it| it.0[1]);
-        (rows.iter().map(Row::line).collect(), rows.iter().filter(|it| it.is_under_way()).map(Row::line).collect())
+        let times = self.get(At::Times);
+        (rows.iter().map(|it| it.line(times)).collect(), rows.into_iter().filter(Row::is_under_way).collect())
     }
 
     // ---- for the process that watches a run
@@ -367,7 +382,7 @@ impl<S: Sync> Play<'_, S> {
         let line = |key: u32| {
             self.area.next(At::Tickets);
             let is_there = (0..MOST_ASKED).find_map(|_| (self.reply)(self.set, 2, key * self.of.times))?;
-            Some(if is_there { format!("{word} {}\n", self.one * self.of.keys + key) } else { String::new() })
+            Some(if is_there { format!("{word} {}\n", (self.one * self.of.keys + key) * self.of.times) } else { String::new() })
         };
         (0..self.of.keys).map(line).collect()
     }

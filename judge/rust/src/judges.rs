@@ -42,12 +42,34 @@ impl Judge {
         if Path::new(&name).is_dir() {
             return no_verdict(say(IS_FOLDER, &[&name]));
         }
-        let command = if name.ends_with(".js") { vec!["node".to_string(), name.clone()] } else { vec![name.clone()] };
-        // (stderr is not captured: ./listset first builds the judge and prints its progress there)
-        match ran(Command::new(&command[0]).args(&command[1..]).args(["--version", "--long"]).stderr(Stdio::inherit())) {
-            Ok((Some(127), _)) | Err(_) => no_verdict(say(NO_JUDGE, &[&name])),
-            Ok((_, version)) => Ok(Judge { name, proof: proof_in(&version), command }),
+        if name.ends_with(".js") {
+            return Judge::in_node(name);
         }
+        // (stderr is not captured: ./listset first builds the judge and prints its progress there)
+        match ran(Command::new(&name).args(["--version", "--long"]).stderr(Stdio::inherit())) {
+            Ok((Some(127), _)) | Err(_) => no_verdict(say(NO_JUDGE, &[&name])),
+            Ok((_, version)) => Ok(Judge { proof: proof_in(&version), command: vec![name.clone()], name }),
+        }
+    }
+
+    /// Returns the judge if `name` is a listset.js.
+    fn in_node(name: String) -> Result<Judge, Failure> {
+        let path = std::env::current_dir().unwrap_or_default().join(&name);
+        if !path.exists() {
+            return no_verdict(say(NO_SCRIPT, &[&name, &path.display()]));
+        }
+        let (status, version) = match ran(Command::new("node").arg(&name).args(["--version", "--long"])) {
+            Ok(answer) => answer,
+            Err(_) => return no_verdict(say(NO_NODE, &[&name])),
+        };
+        if status != Some(0) {
+            let (_, node) = ran(Command::new("node").arg("--version")).unwrap_or_default();
+            let major = node.strip_prefix('v').and_then(|it| it.split('.').next()?.parse::<u32>().ok());
+            if major.map_or(false, |it| it < 18) {
+                return no_verdict(say(OLD_NODE, &[&node, &name]));
+            }
+        }
+        Ok(Judge { proof: proof_in(&version), command: vec!["node".to_string(), name.clone()], name })
     }
 
     /// Returns the recording of one key, if the judge can print it.

@@ -174,6 +174,17 @@ impl Options {
         }
     }
 
+    /// Returns the part of the message that says whether a run has other sizes than its preset.
+    fn made_harder(&self, seed: u64, it: Shape) -> String {
+        let first = self.shape_of(seed);
+        let is_same = (it.threads, it.calls, it.keys) == (first.threads, first.calls, first.keys);
+        if is_same {
+            String::new()
+        } else {
+            MADE_HARDER.to_string()
+        }
+    }
+
     /// Applies the environment variables. `LISTSET_SECONDS` repeats runs for this many seconds, with seeds counting up
     /// from the current time. `LISTSET_SEED` sets the first seed.
     fn by_environment(&self) -> Result<Options, Failure> {

@@ -4,7 +4,7 @@ use std::path::PathBuf;
 use std::sync::atomic::AtomicU32;
 use std::sync::atomic::Ordering::SeqCst;
 
-use crate::area::Area;
+use crate::area::{Area, Row};
 use crate::judges::{Judge, Judged};
 use crate::words::*;
 use crate::{no_verdict, Failed, Failure, Options, Shape, Source};
@@ -14,22 +14,36 @@ pub struct Recording<'a> {
     judge: &'a Judge,
     shape: Shape,
     seed: u64,
-    /// The part of the message that names the presets of the earlier runs.
-    passed: String,
+    /// The part of the message that says whether the run has other sizes than its preset, and that names the presets of
+    /// the earlier runs.
+    notes: String,
     pub path: PathBuf,
     is_kept: bool,
 }
 
 impl<'a> Recording<'a> {
     pub(crate) fn new(options: &Options, shape: Shape, seed: u64, judge: &'a Judge) -> Result<Recording<'a>, Failure> {
-        let named =
-            || std::env::var_os("LISTSET_RECORD").filter(|it| !it.is_empty()).map_or_else(std::env::temp_dir, PathBuf::from);
-        let folder = options.record.clone().unwrap_or_else(named);
+        let named = std::env::var_os("LISTSET_RECORD").filter(|it| !it.is_empty()).map(PathBuf::from);
         let is_kept = options.record.is_some();
+        let fault = if is_kept {
+            NO_FOLDER
+        } else if named.is_some() {
+            NO_RECORD
+        } else {
+            NO_TEMPORARY
+        };
+        let folder = options.record.clone().or(named).unwrap_or_else(std::env::temp_dir);
         let path = folder.join(name_of(seed, is_kept));
         match std::fs::create_dir_all(&folder).and_then(|()| File::create(&path)) {
-            Ok(_) => Ok(Recording { judge, shape, seed, passed: options.passed_before(seed), path, is_kept }),
-            Err(_) => no_verdict(say(NO_FOLDER, &[&folder.display()])),
+            Ok(_) => Ok(Recording {
+                judge,
+                shape,
+                seed,
+                notes: options.made_harder(seed, shape) + &options.passed_before(seed),
+                path,
+                is_kept,
+            }),
+            Err(_) => no_verdict(say(fault, &[&folder.display()])),
         }
     }
 
@@ -48,11 +62,11 @@ impl<'a> Recording<'a> {
         self.is_kept = true;
         let said = match &trouble {
             None => refused,
-            Some(trouble) => say(UNDER_WAY, &[trouble, &first_of(&under_way), &refused]),
+            Some(trouble) => say(UNDER_WAY, &[trouble, &self.pending(&under_way, source), &refused]),
         };
         let Shape { name, threads, .. } = self.shape;
         let (of_key, alone) = key.map_or_else(Default::default, |it| (self.key_line(it, source), self.alone(it)));
-        let before = self.passed.clone() + &of_key;
+        let before = self.notes.clone() + &of_key;
         let text = say(FAILED_RUN, &[&said, &self.seed, &name, &threads, &before, &self.path.display(), &alone, self.judge]);
         let failed =
             Failed { seed: self.seed, name: name.into(), said, file: self.path.clone(), judge: self.judge.to_string(), text };
@@ -62,13 +76,38 @@ impl<'a> Recording<'a> {
     /// Describes the key that has this number in the recording and, if the run has several sets, the key's set. Returns
     /// an empty text if the number itself is the key, and the run has a single set.
     fn key_line<S>(&self, number: u32, source: &Source<S>) -> String {
-        let shown = (source.shown)(number % self.shape.keys * self.shape.times);
-        let of_set = if self.shape.sets > 1 { say(IN_SET, &[&(number / self.shape.keys + 1)]) } else { String::new() };
-        let is_plain = shown == number.to_string() && of_set.is_empty();
-        if is_plain {
+        let key = number / self.shape.times;
+        if self.shape.sets == 1 && !source.has_keys {
             String::new()
         } else {
-            say(KEY_IS, &[&number, &shown]) + &of_set
+            say(KEY_IS, &[&number, &self.name_of(key, source)]) + &self.in_set(key)
+        }
+    }
+
+    fn name_of<S>(&self, key: u32, source: &Source<S>) -> String {
+        (source.shown)(key % self.shape.keys * self.shape.times)
+    }
+
+    fn in_set(&self, key: u32) -> String {
+        if self.shape.sets > 1 {
+            say(IN_SET, &[&(key / self.shape.keys + 1)])
+        } else {
+            String::new()
+        }
+    }
+
+    /// Returns a line for each pending call, at most `MOST_SHOWN`.
+    fn pending<S>(&self, under_way: &[Row], source: &Source<S>) -> String {
+        let line = |it: &Row| {
+            let (name, number) = (self.name_of(it.key(), source), (it.key() * self.shape.times).to_string());
+            let of_key = if name == number { String::new() } else { say(IS_KEY, &[&number]) };
+            it.pending(&name, &(of_key + &self.in_set(it.key())))
+        };
+        let lines: String = under_way.iter().take(MOST_SHOWN).map(line).collect();
+        match under_way.len() {
+            0 => " no call".to_string(),
+            count if count > MOST_SHOWN => lines + &say(AND_MORE, &[&(count - MOST_SHOWN)]),
+            _ => lines,
         }
     }
 
@@ -89,14 +128,8 @@ fn key_in(refused: &str) -> Option<u32> {
     refused.split("of key ").nth(1)?.split(' ').next()?.parse().ok()
 }
 
-/// Returns the first line of `lines`, followed by the number of further lines.
-fn first_of(lines: &str) -> String {
-    match lines.lines().count() {
-        0 => "no call".to_string(),
-        1 => lines.trim().to_string(),
-        count => say(AND_MORE, &[&lines.lines().next().unwrap_or_default(), &(count - 1)]),
-    }
-}
+/// The maximum number of pending calls in the message.
+const MOST_SHOWN: usize = 16;
 
 impl Drop for Recording<'_> {
     fn drop(&mut self) {

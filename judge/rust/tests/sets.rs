@@ -159,6 +159,7 @@ fn how_of(words: &str) -> Options {
 }
 
 #[test]
+#[ignore = "the tests of listset_judge itself"]
 fn set() {
     let tests = std::env::var("TESTS").map_or(1, |it| it.parse().unwrap());
     (0..tests).for_each(|_: u32| print());
@@ -179,6 +180,7 @@ static COUNTED: Mutex<u64> = Mutex::new(0);
 
 /// Judges a correct set with an `add` that needs a lock. Another test holds this lock nearly all the time.
 #[test]
+#[ignore = "the tests of listset_judge itself"]
 fn another_test_holds_a_lock() {
     let holder = std::thread::spawn(|| {
         for _ in 0..40 {
