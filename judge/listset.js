@@ -1,5 +1,10 @@
 // The judge in one file, for Node 18, by page/build: the tools of page/listset.js with their module. To copy into a repository.
 "use strict";
+if (parseInt(process.versions.node, 10) < 18) {
+  console.error("listset.js needs Node 18 or newer, but node is " + process.version);
+  process.exit(1);
+}
+"use strict";
 var __defProp = Object.defineProperty;
 var __getOwnPropDesc = Object.getOwnPropertyDescriptor;
 var __getOwnPropNames = Object.getOwnPropertyNames;
@@ -69,7 +74,8 @@ function answerOf(engine, name, given) {
 }
 function textsOf(engine, parameters, given) {
   return Array.from({ length: (parameters - 3) / 2 }, (_, at) => {
-    const text = given[at] ?? new Uint8Array(0);
+    var _a3;
+    const text = (_a3 = given[at]) != null ? _a3 : new Uint8Array(0);
     const block = blockOf(engine, text.length);
     new Uint8Array(engine.memory.buffer, Number(block), text.length).set(text);
     return [block, BigInt(text.length)];
@@ -248,11 +254,12 @@ var ANSWERS = {
   explain: { isExplain: true }
 };
 function described(name) {
+  var _a3, _b2;
   const options = [...HELP[name].matchAll(/^ +--(\w+)(?: <(\w+)>)?  /gm)].map(([, option, value2]) => [`--${option}`, value2]);
   const values = [...HELP[name].matchAll(/^  \[(\w+)\]  (.*?)[;\n]/gm)];
-  const [, value, about] = values[0] ?? [];
+  const [, value, about] = (_a3 = values[0]) != null ? _a3 : [];
   return {
-    flag: options.find(([, value2]) => value2 === void 0)?.[0],
+    flag: (_b2 = options.find(([, value2]) => value2 === void 0)) == null ? void 0 : _b2[0],
     options: Object.fromEntries(options.filter(([, value2]) => value2 !== void 0)),
     most: Math.max(1, values.length),
     isOfFile: value === "FILE",
@@ -268,13 +275,19 @@ var Printed = class extends Error {
     this.status = status;
   }
 };
-var usageOf = (name) => /^Usage: (.*)$/m.exec(HELP[name] ?? "")?.[1] ?? `listset ${name} [CAUSE]`;
+var usageOf = (name) => {
+  var _a3, _b2, _c;
+  return (_c = (_b2 = /^Usage: (.*)$/m.exec((_a3 = HELP[name]) != null ? _a3 : "")) == null ? void 0 : _b2[1]) != null ? _c : `listset ${name} [CAUSE]`;
+};
 function wrongWords(error, usage, tip) {
   const parts2 = [`error: ${error}`, ...tip ? [`  tip: ${tip}`] : [], ...usage ? [`Usage: ${usage}`] : [], MORE];
   return new Printed(`${parts2.join("\n\n")}
 `, WRONG);
 }
-var helpOf = (name) => new Printed(HELP[name] ?? HELP["--help"], 0);
+var helpOf = (name) => {
+  var _a3;
+  return new Printed((_a3 = HELP[name]) != null ? _a3 : HELP["--help"], 0);
+};
 function parts() {
   try {
     return { ...require_in_node(), ...require_only() };
@@ -296,6 +309,7 @@ function asked([name = "replay", ...words]) {
   return found;
 }
 function answerFirst(name, words) {
+  var _a3;
   if (name === "--help" || name === "-h")
     throw helpOf("--help");
   if (name === "--version" || name === "-V") {
@@ -305,7 +319,7 @@ function answerFirst(name, words) {
   if (name === "help") {
     if (words.length > 0 && words[0] !== "help" && !Object.hasOwn(COMMANDS, words[0]))
       throw unknownCommand(words[0]);
-    throw helpOf(words[0] ?? "--help");
+    throw helpOf((_a3 = words[0]) != null ? _a3 : "--help");
   }
   if (name.startsWith("-") && name !== "-")
     throw wrongWords(`unexpected argument '${name.split("=")[0]}' found`, "listset [COMMAND]");
@@ -472,12 +486,13 @@ function answerTo(engine, { name, functions, inPieces, isJudge, isExplain, isOn,
   return tried.status === WRONG ? tried : ask(bytesOf2(opened(values[0])));
 }
 function explained(engine, file = "-", name = file === "-" ? "FILE" : file) {
+  var _a3;
   try {
     return engine.askBytes("listset_explain", Buffer.from(name), bytesOf2(opened(file)));
   } catch (fault) {
     if (fault.syscall === void 0)
       throw fault;
-    const why = (NOT_READ[fault.code] ?? NOT_READ.other).replaceAll("FILE", quoted(file));
+    const why = ((_a3 = NOT_READ[fault.code]) != null ? _a3 : NOT_READ.other).replaceAll("FILE", quoted(file));
     return { status: 0, bytes: Buffer.from(`${file}: ${why}
 `) };
   }
@@ -535,9 +550,10 @@ function hintOn(engine, words) {
   };
 }
 function hintOf(engine, { name, isOfFile, texts, values }, said) {
+  var _a3, _b2;
   const [file = "-"] = values;
-  const [, value] = /^listset: bad (\w+)\n/.exec(said) ?? [];
-  const [, number, cause] = /^listset: line (\d+): (\w+)/.exec(said) ?? [];
+  const [, value] = (_a3 = /^listset: bad (\w+)\n/.exec(said)) != null ? _a3 : [];
+  const [, number, cause] = (_b2 = /^listset: line (\d+): (\w+)/.exec(said)) != null ? _b2 : [];
   if (value)
     return valueHint(engine, { name, texts, values }, value);
   if (said.startsWith("listset: bad NAME: this example"))
@@ -568,9 +584,10 @@ var KINDS = [
   [/^(key |(listening|sessions|calls) [^ ]*$)/, "has keys for serve", "A server opens with these keys: listset serve KIND SEATS QUOTA PORT SESSIONS FILE"]
 ];
 var READS = { "show --lacks": "a schedule" };
+var _a;
 for (const [name, { about }] of Object.entries(COMMANDS)) {
-  const [, plain, kinds] = /^File of (recorded calls)|^(.*) file$/.exec(about) ?? [];
-  READS[name] = plain ?? (kinds ? `a ${kinds.toLowerCase().replace(" or ", " or a ")}` : "a text");
+  const [, plain, kinds] = (_a = /^File of (recorded calls)|^(.*) file$/.exec(about)) != null ? _a : [];
+  READS[name] = plain != null ? plain : kinds ? `a ${kinds.toLowerCase().replace(" or ", " or a ")}` : "a text";
 }
 var SCHEDULE = "'listset-schedule 1' (or 2)";
 var TITLES = {
@@ -643,11 +660,13 @@ function otherHint(lacks, file, cause) {
     return `listset faults ${cause} explains this error`;
   return `On the list that lacks ${lacks}, calls can take other steps than on the whole list. For each step above this line: listset trace --lacks ${lacks} ${quoted(file)}; for the cause: listset faults ${cause}`;
 }
-var BROKEN_LISTS = /^ *--lacks <NAME> [^:]*: (.*)$/m.exec(HELP.replay)?.[1] ?? "";
+var _a2, _b;
+var BROKEN_LISTS = (_b = (_a2 = /^ *--lacks <NAME> [^:]*: (.*)$/m.exec(HELP.replay)) == null ? void 0 : _a2[1]) != null ? _b : "";
 function lacksHint(engine, lacks, file) {
+  var _a3, _b2;
   const all = [...BROKEN_LISTS.matchAll(/([\w-]+) \(([\w-]+)\)/g)].map(([, name, list2]) => ({ name, list: list2 }));
-  const of = all.find((it) => it.name === lacks)?.list;
-  const list = file === "-" ? void 0 : /^list (.*)$/.exec(lineOf(file, 2))?.[1];
+  const of = (_a3 = all.find((it) => it.name === lacks)) == null ? void 0 : _a3.list;
+  const list = file === "-" ? void 0 : (_b2 = /^list (.*)$/.exec(lineOf(file, 2))) == null ? void 0 : _b2[1];
   const fitting = all.filter((it) => it.list === list).map((it) => it.name);
   if (fitting.length > 0)
     return `${lacks} is a check of the ${of} list, and line 2 is 'list ${list}'. The checks of the ${list} list: ${fitting.join(", ")}`;
@@ -691,9 +710,10 @@ function meant(engine, name, file) {
   return ["replay", "show", "trace"].includes(name) && isExample(engine, file) ? `If you mean the example: listset example ${file} | listset ${name}` : "";
 }
 function onlyWithEnding(file) {
+  var _a3;
   try {
     const found = fs.readdirSync(path.dirname(file)).filter((it) => it.startsWith(`${path.basename(file)}.`));
-    const ended = path.join(path.dirname(file), found[0] ?? "");
+    const ended = path.join(path.dirname(file), (_a3 = found[0]) != null ? _a3 : "");
     return found.length === 1 && fs.statSync(ended).isFile() ? ended : "";
   } catch {
     return "";
@@ -739,9 +759,10 @@ function spelling(range, value) {
   return kind ? `. Perhaps you mean ${kind}` : "";
 }
 function valueHint(engine, { name, texts, values }, value) {
-  const help = HELP[name] ?? "";
+  var _a3, _b2, _c;
+  const help = (_a3 = HELP[name]) != null ? _a3 : "";
   const given = texts[value.toLowerCase()];
-  const ofOption = new RegExp(`--${value.toLowerCase()} <[MN]> +(.*)`).exec(help)?.[1];
+  const ofOption = (_b2 = new RegExp(`--${value.toLowerCase()} <[MN]> +(.*)`).exec(help)) == null ? void 0 : _b2[1];
   if (ofOption)
     return `${value} '${given}' is wrong. ${ofOption}${spelling(ofOption, given)}${ofThisFile(engine, { texts, values }, value)}`;
   if (name === "example")
@@ -750,7 +771,7 @@ function valueHint(engine, { name, texts, values }, value) {
     return `There is no cause '${values[0]}'. listset faults lists all causes`;
   if (value === "KEY")
     return keyHint(texts.only, values[0]);
-  const range = new RegExp(`^ +\\[${value}\\] +(.*)`, "m").exec(help)?.[1];
+  const range = (_c = new RegExp(`^ +\\[${value}\\] +(.*)`, "m").exec(help)) == null ? void 0 : _c[1];
   return argumentHint(value, values[usageOf(name).split(" ").indexOf(value) - 2], range, usageOf(name));
 }
 function argumentHint(value, given, range, usage) {
@@ -779,13 +800,14 @@ function keyHint(only, file = "FILE") {
   return `The recording has no call of key ${only}. To see its keys: grep '^call' ${quoted(file)} | cut -d ' ' -f 4 | sort -n -u`;
 }
 function ofThisFile(engine, { texts, values: [file = "-"] }, value) {
+  var _a3, _b2;
   if (value === "TO")
-    return `; here, ${texts.from ?? 1} or a later one`;
+    return `; here, ${(_a3 = texts.from) != null ? _a3 : 1} or a later one`;
   if (value !== "FROM" || file === "-" || texts.lacks !== void 0)
     return "";
   const picture = engine.askBytes("listset_show", bytesOf2(opened(file)), Buffer.from("\0\0")).bytes;
-  const [, all, drawn] = /^moments .* of (\d+);|^moment .* (\d+)$/m.exec(Buffer.from(picture).toString()) ?? [];
-  return all || drawn ? `; of this file, 1 to ${all ?? drawn}` : "";
+  const [, all, drawn] = (_b2 = /^moments .* of (\d+);|^moment .* (\d+)$/m.exec(Buffer.from(picture).toString())) != null ? _b2 : [];
+  return all || drawn ? `; of this file, 1 to ${all != null ? all : drawn}` : "";
 }
 function asCalled(hint) {
   const [from, whole] = [path.relative("", process.argv[1]), process.argv[1]];
@@ -794,23 +816,24 @@ function asCalled(hint) {
 }
 var NAMED = new RegExp(`\\blistset (?=((${Object.keys(COMMANDS).join("|")}|help)\\b|--version|--help))`, "g");
 function wordsHint(given, said) {
+  var _a3, _b2, _c, _d;
   const [name = ""] = given;
-  const [, word] = /unexpected argument '([^' ]*)/.exec(said) ?? [];
+  const [, word] = (_a3 = /unexpected argument '([^' ]*)/.exec(said)) != null ? _a3 : [];
   if (/unrecognized subcommand/.test(said))
     return commandHint(name, said);
-  const [, option] = /^error: a value is required for '(--\w+)/.exec(said) ?? [];
+  const [, option] = (_b2 = /^error: a value is required for '(--\w+)/.exec(said)) != null ? _b2 : [];
   if (option)
     return noValueHint(name, option);
-  const [, flag] = /^error: unexpected value .* for '([^']*)' found/.exec(said) ?? [];
+  const [, flag] = (_c = /^error: unexpected value .* for '([^']*)' found/.exec(said)) != null ? _c : [];
   if (flag)
     return `${flag} has no value: leave out the = and what comes after it`;
   if (/^error: the argument .* multiple times/.test(said))
     return "Keep one of them: the command takes it once";
-  if (word?.startsWith("-"))
+  if (word == null ? void 0 : word.startsWith("-"))
     return optionHint(given, word);
   if (!word)
     return "";
-  if (COMMANDS[name]?.most > 1)
+  if (((_d = COMMANDS[name]) == null ? void 0 : _d.most) > 1)
     return `${name} has fewer arguments: leave out '${word}'`;
   if (name === "example")
     return "example prints one schedule. Run the command once for each";
@@ -822,7 +845,8 @@ function wordsHint(given, said) {
   return `${name} reads one file. Run the command once for each`;
 }
 function noValueHint(name, option) {
-  const [, value, about] = new RegExp(`^ *${option} <([A-Z]*)> *(.*)`, "m").exec(HELP[name] ?? "") ?? [];
+  var _a3, _b2;
+  const [, value, about] = (_b2 = new RegExp(`^ *${option} <([A-Z]*)> *(.*)`, "m").exec((_a3 = HELP[name]) != null ? _a3 : "")) != null ? _b2 : [];
   return `Write the value after ${option}. ${value ? `${value}: ${about}` : `listset help ${name} says what it can be`}`;
 }
 function commandHint(word, said) {
@@ -871,15 +895,16 @@ function optionHint(given, word) {
   return name.startsWith("-") ? "listset --help lists the commands" : `listset help ${name} lists its arguments and options`;
 }
 function negativeHint([name, ...words], word) {
+  var _a3, _b2, _c, _d, _e;
   const at = words.findIndex((it) => it.startsWith(word));
-  const option = Object.hasOwn(COMMANDS[name]?.options ?? {}, words[at - 1]) && words[at - 1];
+  const option = Object.hasOwn((_b2 = (_a3 = COMMANDS[name]) == null ? void 0 : _a3.options) != null ? _b2 : {}, words[at - 1]) && words[at - 1];
   if (option === "--only")
     return keyHint(words[at]);
   if (option)
     return valueHint(null, { name, texts: { [option.slice(2)]: words[at] }, values: [] }, option.slice(2).toUpperCase());
   const before = words.slice(0, at).filter(isValue).length;
-  const value = (usageOf(name).split(" ")[before + 2] ?? "").replace(/[[\]]/g, "");
-  const range = new RegExp(`^ +\\[?${value}\\]? +(.*)`, "m").exec(HELP[name] ?? "")?.[1];
+  const value = ((_c = usageOf(name).split(" ")[before + 2]) != null ? _c : "").replace(/[[\]]/g, "");
+  const range = (_e = new RegExp(`^ +\\[?${value}\\]? +(.*)`, "m").exec((_d = HELP[name]) != null ? _d : "")) == null ? void 0 : _e[1];
   return range ? `${value} '${word}' is wrong. ${range}` : `listset help ${name} lists its arguments and options`;
 }
 function tellWhatIsRead({ name, isOfFile, values: [file = "-"] }) {
