@@ -220,8 +220,9 @@ def lay_java(room, own):
 def lay_python(room, own):
     (room / "tests").mkdir()
     shutil.copy(FORMS / "python" / "listset_judge.py", room / "tests")
-    text = PYTHON + "def test_is_linearizable():\n    listset_judge.judge(MySet)\n"
-    (room / "tests" / "test_own.py").write_text(own(text, "key in self.keys"))
+    (room / "my_set.py").write_text(own(PYTHON, "key in self.keys").replace("import listset_judge\n", ""))
+    test = "import listset_judge\nfrom my_set import MySet\ndef test_is_linearizable():\n    listset_judge.judge(MySet)\n"
+    (room / "tests" / "test_own.py").write_text(test)
 
 
 def lay_go(room, own):
@@ -241,20 +242,22 @@ public class OwnTest {
 }
 """
 PROJECTS = {"C++": lay_cpp, "Rust": lay_rust, "Java": lay_java, "Python": lay_python, "Go": lay_go}
+SKIPPED = {"C++": "(Skipped)", "Rust": "skipped: LISTSET is skip", "Java": "Skipped: 1", "Python": "1 skipped", "Go": "--- SKIP"}
+WORDY = {"Go": "-v"}
 NEEDS = {"C++": ["cmake", "make", "g++", "node"], "Rust": ["cargo", "rustc", "node"], "Java": ["mvn", "java", "node"], "Python": ["node"], "Go": ["go", "node"]}
 
 
 def finds_all(text, found):
     """Returns the source of a set with a `contains` that always returns true."""
     for before, after in (("return ", ";"), ("return ", "\n"), ("{ ", " }")):
-        true = "True" if "import listset_judge" in text else "true"
+        true = "True" if "import threading" in text else "true"
         text = text.replace(f"{before}{found}{after}", f"{before}{true}{after}", 1)
     return text
 
 
 def command_of(language):
     (row,) = re.findall(rf"^\| {re.escape(language)} \| .* \| `(.*?)` \|$", PAGE.read_text(encoding="utf-8"), re.M)
-    return row if language != "Python" else f"{sys.executable} -B -m {row} -p no:cacheprovider"
+    return f"{row} -p no:cacheprovider".replace("python3", f"{sys.executable} -B") if language == "Python" else row
 
 
 def in_ci(room, command, **also):
@@ -282,6 +285,8 @@ def test_a_project_in_continuous_integration_is_judged(room, lacking, language):
         assert (done.returncode == 0) == is_right, said
         kept = list((own / "recordings").glob("*.calls"))
         assert bool(kept) != is_right and ("not linearizable" in said) != is_right, said
+    done = in_ci(own, f"{command_of(language)} {WORDY.get(language, '')}", LISTSET="skip", CI="")
+    assert done.returncode == 0 and SKIPPED[language] in done.stdout + done.stderr, done.stdout + done.stderr
     done = in_ci(own, command_of(language), LISTSET="skip")
     assert done.returncode != 0 and "in CI no test is skipped" in done.stdout + done.stderr
     done = in_ci(own, command_of(language), LISTSET="", PATH=os.environ["PATH"])
