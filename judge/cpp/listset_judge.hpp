@@ -152,11 +152,12 @@ struct range {
     uint64_t least, most;
 };
 
-// LONGEST is a number of polls, PART and MEET are numbers of calls, PATIENCE is in seconds, and SOON in nanoseconds.
+// LONGEST is a number of polls, PART and MEET are numbers of calls, PATIENCE is in seconds, ALERT in
+// microseconds, and SOON in nanoseconds.
 // The lines below are made of words.json by judge/make_words.
 constexpr shape PRESETS[] = {{"few keys", 4, 1, 5000, 4, 1}, {"fresh sets", 4, 40, 10, 4, 1}, {"multiples of 64", 4, 1, 5000, 8, 64}, {"one key", 3, 1, 5000, 1, 1}, {"sets that grow", 4, 20, 125, 64, 1}, {"many keys", 4, 1, 2500, 1000, 1}, {"multiples of 1,000", 8, 1, 2500, 8, 1000}};
 constexpr range RANGES[] = {{"threads", 1, 64}, {"threads times calls", 1, 1000000000}, {"keys", 1, 1048576}, {"pauses", 0, 100}, {"runs", 1, 1000000}, {"seconds", 1, 3600}, {"within", 1, 604800}, {"at_least", 0, 100}, {"the sum of shares", 1, 1000000}};
-constexpr unsigned PART = 20000, LONGEST = 100, HOT = 4, ENOUGH = 5, HARDER = 2, PATIENCE = 10, MEET = 250, AWAKE = 300000, WITHIN = 60, STOPS = 32, AGAIN = 4, PATIENT = 40, MANY = 40, SOON = 4000;
+constexpr unsigned PART = 20000, LONGEST = 100, HOT = 4, ENOUGH = 5, HARDER = 2, PATIENCE = 10, MEET = 250, AWAKE = 300000, WITHIN = 60, STOPS = 128, AGAIN = 4, PATIENT = 40, MANY = 40, SOON = 4000, ALERT = 500, TRIES = 60, NEAR = 128;
 constexpr const char *OK = "ok: %s calls, and %s of them overlapped a change of their key";
 constexpr const char *FEW = "few calls overlapped, so ok means little: %s calls, and %s of them overlapped a change of their key";
 constexpr const char *TOO_FEW = "too few calls overlapped: %s of %s calls overlapped a change of their key, and at_least requires %s of 100. Use fewer keys, more threads, or a less busy machine";
@@ -298,6 +299,7 @@ struct area {
     std::atomic<unsigned> save{0};  // index of the valid element of `saves`; one store replaces length and moment
     std::atomic<phase> at{GOING};
     std::atomic<bool> is_stopping{false}, is_busy{false}, is_end_known{true};
+    std::atomic<unsigned> alert{0}, ended{0};  // for `partners`: the number plus 1 of a thread that polls, and how often a block has ended
     char why[240] = "";
 
     area(const shape &it, uint64_t of_seed)
@@ -466,6 +468,60 @@ struct stops {
 #endif
 };
 
+// Lets two threads begin calls at the same time, for races that last only nanoseconds. On a busy machine, threads are seldom
+// on two processors at once. So a thread polls for a partner before a call, and both continue only if the partner polls too.
+// Half of the calls then use two neighboring keys, which change after every MEET calls. This happens in runs with an odd seed.
+struct partners {
+    area &run;
+    const unsigned thread;
+    const bool is_on;
+    std::mt19937 draw, common;  // all threads draw the same numbers from `common`
+    unsigned tries = TRIES, blocks = 0, first_key = 0;
+
+    partners(bool is_asked, area &of, unsigned number)
+        : run(of), thread(number), is_on(is_asked && of.seed % 2 == 1 && !of.of.meets_once && of.of.threads > 1 && std::thread::hardware_concurrency() > 1),
+          draw(uint32_t(~(of.seed * 64 + number))), common(uint32_t(of.seed)) {}
+
+    void begin_block() { first_key = unsigned(common() % run.of.keys); }
+
+    void end_block() {
+        blocks++;
+        run.ended++;
+    }
+
+    // Returns whether all other threads have ended this block of calls.
+    bool is_alone() const { return run.ended >= (blocks + 1) * run.of.threads - 1; }
+
+    unsigned key_or(unsigned other) { return is_on && draw() % 2 ? (first_key + unsigned(draw() % 2)) % run.of.keys : other; }
+
+    // Polls for at most ALERT microseconds for a thread that polls at the same time. Never sleeps: a thread that sleeps would wake up too late.
+    bool polls() {
+        unsigned mine = thread + 1, other = run.alert;
+        if (other != 0) return run.alert.compare_exchange_strong(other, 0);
+        if (!run.alert.compare_exchange_strong(other, mine)) return false;
+        using clock = std::chrono::steady_clock;
+        for (const auto until = clock::now() + std::chrono::microseconds(ALERT); clock::now() < until;)
+            for (unsigned looks = 0; looks < LONGEST; looks++)
+                if (run.alert != mine) return true;
+        return !run.alert.compare_exchange_strong(mine, 0);
+    }
+
+    // Waits for a partner. At most TRIES waits of a run end without one. Returns whether two threads can now begin their calls.
+    bool meet() {
+        while (is_on && tries > 0 && !is_alone() && !run.is_stopping) {
+            if (polls()) return true;
+            tries--;
+            std::this_thread::sleep_for(std::chrono::microseconds(20));
+        }
+        return false;
+    }
+
+    // Delays a call by up to some hundred nanoseconds, because one of two partners always continues a bit earlier.
+    void delay() {
+        for (volatile unsigned left = draw() % NEAR; left > 0; left = left - 1) {}
+    }
+};
+
 // Creates the sets of a run and calls them.
 template <class Make, class K> struct maker {
     using pointer = std::invoke_result_t<Make &>;
@@ -501,33 +557,38 @@ template <class Make, class K> struct maker {
     }
 
     // Executes the calls of one thread on a set, up to the next save of the recording.
-    void call_set(area &run, unsigned thread, unsigned round, unsigned &number, std::mt19937 &draw, stops &own) {
+    void call_set(area &run, unsigned round, unsigned &number, std::mt19937 &draw, stops &own, partners &others) {
         set_type &its = *set;
-        slot *at = run.slots + size_t(thread) * run.rows;
+        slot *at = run.slots + size_t(others.thread) * run.rows;
         const unsigned count = std::min(run.rows, run.of.calls - round % run.parts * run.rows);
         for (unsigned i = 0; i < count; i++, at++) {
+            if (i % MEET == 0) others.begin_block();
             if (i == 0 || (i % MEET == 0 && !run.of.meets_once)) run.meet();
-            const unsigned key = drawn_key(draw);
+            const unsigned key = others.key_or(drawn_key(draw));
             at->thread = number;
             at->call = drawn(draw);
             at->key = round / run.parts * run.of.keys + key;
-            for (unsigned pause = draw() % 100 < how.pauses ? unsigned(draw()) % LONGEST : 0; pause > 0; pause--) run.tickets.load();
-            own.before_call(uint64_t(run.of.sets) * run.of.calls);
+            const bool is_met = others.meet();
+            for (unsigned pause = !is_met && draw() % 100 < how.pauses ? unsigned(draw()) % LONGEST : 0; pause > 0; pause--) run.tickets.load();
+            if (!is_met) own.before_call(uint64_t(run.of.sets) * run.of.calls);
             at->begin.store(++run.tickets, std::memory_order_release);
+            if (is_met) others.delay();
             const reply given = own.in_call([&] { return call(at->call, its, keys[key]); });
             at->answer = given;
             at->end.store(++run.tickets, std::memory_order_release);
             if (given == reply::unknown) number += run.of.threads;
+            if (i + 1 == count || (i + 1) % MEET == 0) others.end_block();
         }
     }
 
     void call_in_rounds(area &run, unsigned thread, bool is_stopped) {
         std::mt19937 draw(uint32_t(run.seed * 64 + thread));
         stops own(is_stopped, run, run.seed * 64 + thread);
+        partners others(how.pauses > 0, run, thread);
         unsigned number = thread;
         if (how.begins) how.begins();
         for (unsigned round = 0; round < run.rounds && run.waits([&] { return run.begun > round; }); round++) {
-            run.tries(FAILED, [&] { call_set(run, thread, round, number, draw, own); });
+            run.tries(FAILED, [&] { call_set(run, round, number, draw, own, others); });
             run.done++;
         }
         if (how.ends) how.ends();

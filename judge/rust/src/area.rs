@@ -12,6 +12,7 @@ use std::sync::atomic::Ordering::{Relaxed, Release, SeqCst};
 use std::time::{Duration, Instant};
 
 use crate::memory::Memory;
+use crate::partners::Partners;
 use crate::stops::{in_call, Stops};
 use crate::words::*;
 use crate::{no_verdict, Failure, Options, Replies, Shape, Source};
@@ -27,9 +28,10 @@ const FAILED: u32 = 3;
 const UNMADE: u32 = 4;
 
 /// The positions of a run's numbers in memory. `Tickets` is the counter of moments, `Phase` the progress, and `Save`
-/// the index of the valid record in `SAVES`.
+/// the index of the valid record in `SAVES`. `Partners` uses `Alert`, the number plus 1 of a thread that polls, and `Ended`,
+/// how often a block of a set's calls has ended.
 #[derive(Clone, Copy)]
-enum At {
+pub(crate) enum At {
     Tickets,
     There,
     Done,
@@ -39,6 +41,8 @@ enum At {
     IsBusy,
     IsHere,
     Numbers,
+    Alert,
+    Ended,
     Seed,
     Threads,
     Sets,
@@ -119,7 +123,7 @@ impl Area {
         &self.memory[it as usize]
     }
 
-    fn get(&self, it: At) -> u32 {
+    pub(crate) fn get(&self, it: At) -> u32 {
         self.at(it).load(SeqCst)
     }
 
@@ -127,8 +131,13 @@ impl Area {
         self.at(it).store(to, SeqCst);
     }
 
-    fn next(&self, it: At) -> u32 {
+    pub(crate) fn next(&self, it: At) -> u32 {
         self.at(it).fetch_add(1, SeqCst) + 1
+    }
+
+    /// Replaces the number `from` by `to`. Returns `false` if the number was another.
+    pub(crate) fn replace(&self, it: At, from: u32, to: u32) -> bool {
+        self.at(it).compare_exchange(from, to, SeqCst, SeqCst).is_ok()
     }
 
     fn put_text(&self, at: usize, room: usize, text: &str) {
@@ -359,6 +368,7 @@ impl<S: Sync> Play<'_, S> {
                 None => area.fail(UNMADE, Box::new(say(NO_OPENING, &[&MOST_ASKED]))),
             }
         }
+        area.set(At::Ended, 0);
         let mut left = Some(String::new());
         for round in self.one * self.of.parts() + 1..=(self.one + 1) * self.of.parts() {
             area.set(At::Begun, round);
@@ -393,20 +403,31 @@ impl<S: Sync> Play<'_, S> {
         let stops = if is_stopped { Stops::of_this_thread(area) } else { None };
         let mut draws = Draws((u64::from(area.get(At::Seed)) << 20) + u64::from(self.one << 6) + u64::from(thread));
         let (mut stopping, mut number) = (Draws(!draws.0), self.one * of.threads + thread);
+        let mut partners = Partners::new(area, of, self.one, thread);
         for part in 0..of.parts() {
             if !area.waits(LONGEST, || area.get(At::Begun) > self.one * of.parts() + part) {
                 return;
             }
-            for row in 0..rows.min(of.calls - part * rows) {
+            let count = rows.min(of.calls - part * rows);
+            for row in 0..count {
+                if row % MEET == 0 {
+                    partners.begin_block();
+                }
                 let is_met = row > 0 && (row % MEET > 0 || of.meets_once);
                 if !is_met && !self.meet() {
                     return;
                 }
-                let (calls, drawn) = (of.sets * of.calls, stopping.below(of.sets * of.calls));
-                if let Some(it) = stops.as_ref().filter(|it| drawn < it.starts(calls)) {
-                    it.after(1 + stopping.below(SOON));
+                let slot = &area.memory[SLOTS + (thread * rows + row) as usize * SLOT..][..SLOT];
+                self.prepare(slot, number, &mut draws, &mut partners);
+                if partners.meet() {
+                    self.call(slot, &mut number, || partners.delay());
+                } else {
+                    self.pause(&mut draws, &mut stopping, stops.as_ref());
+                    self.call(slot, &mut number, || ());
                 }
-                self.call(&area.memory[SLOTS + (thread * rows + row) as usize * SLOT..][..SLOT], &mut number, &mut draws);
+                if row + 1 == count || (row + 1) % MEET == 0 {
+                    partners.end_block();
+                }
             }
             area.next(At::Done);
         }
@@ -430,23 +451,41 @@ impl<S: Sync> Play<'_, S> {
         are_there
     }
 
-    /// Executes a random call. Records the call when it begins, and completes the record when it ends. After an unknown
-    /// outcome, the thread continues under a new thread number.
-    fn call(&self, slot: &[AtomicU32], number: &mut u32, draws: &mut Draws) {
-        let (area, keys) = (self.area, self.of.keys);
-        let [adds, removes, finds] = area.options.shares;
+    /// Draws a call, and writes its thread number, operation and key to the slot.
+    fn prepare(&self, slot: &[AtomicU32], number: u32, draws: &mut Draws, partners: &mut Partners) {
+        let keys = self.of.keys;
+        let [adds, removes, finds] = self.area.options.shares;
         let word = match draws.below(adds + removes + finds) {
             it if it < adds => 0,
             it if it < adds + removes => 1,
             _ => 2,
         };
         let is_hot = keys > 2 * HOT && draws.below(2) == 0;
-        let key = draws.below(if is_hot { HOT } else { keys });
-        let pause = if draws.below(100) < area.options.pauses { draws.below(LONGEST) } else { 0 };
-        [*number, word, self.one * keys + key].into_iter().zip(&slot[2..]).for_each(|(it, to)| to.store(it, Relaxed));
-        (0..pause).for_each(|_| _ = area.get(At::Tickets));
+        let key = partners.key_or(draws.below(if is_hot { HOT } else { keys }));
+        [number, word, self.one * keys + key].into_iter().zip(&slot[2..]).for_each(|(it, to)| to.store(it, Relaxed));
+    }
+
+    /// Pauses before some of the calls, and starts the timer that stops the thread before some of the calls.
+    fn pause(&self, draws: &mut Draws, stopping: &mut Draws, stops: Option<&Stops>) {
+        let options = &self.area.options;
+        let pause = if draws.below(100) < options.pauses { draws.below(LONGEST) } else { 0 };
+        (0..pause).for_each(|_| _ = self.area.get(At::Tickets));
+        let calls = self.of.sets * self.of.calls;
+        let drawn = stopping.below(calls);
+        if let Some(it) = stops.filter(|it| drawn < it.starts(calls)) {
+            it.after(1 + stopping.below(SOON));
+        }
+    }
+
+    /// Executes the call in a slot. Records when the call begins and ends. After an unknown outcome, the thread continues under
+    /// a new thread number.
+    fn call(&self, slot: &[AtomicU32], number: &mut u32, delay: impl FnOnce()) {
+        let area = self.area;
+        let [word, key] = [3, 4].map(|it: usize| slot[it].load(Relaxed));
         slot[1].store(area.next(At::Tickets), Release);
-        let reply = in_call(|| (self.reply)(self.set, word as u8, key * self.of.times)).map_or(UNKNOWN, u32::from);
+        delay();
+        let number_of_key = (key - self.one * self.of.keys) * self.of.times;
+        let reply = in_call(|| (self.reply)(self.set, word as u8, number_of_key)).map_or(UNKNOWN, u32::from);
         slot[5].store(reply, Relaxed);
         slot[0].store(area.next(At::Tickets), Release);
         if reply == UNKNOWN {
@@ -456,10 +495,10 @@ impl<S: Sync> Play<'_, S> {
 }
 
 /// A random number generator (SplitMix64).
-struct Draws(u64);
+pub struct Draws(pub u64);
 
 impl Draws {
-    fn below(&mut self, bound: u32) -> u32 {
+    pub fn below(&mut self, bound: u32) -> u32 {
         self.0 = self.0.wrapping_add(0x9e37_79b9_7f4a_7c15);
         let mixed = (self.0 ^ (self.0 >> 30)).wrapping_mul(0xbf58_476d_1ce4_e5b9);
         let mixed = (mixed ^ (mixed >> 27)).wrapping_mul(0x94d0_49bb_1331_11eb);

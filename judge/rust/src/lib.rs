@@ -22,6 +22,7 @@ mod area;
 mod child;
 mod judges;
 mod memory;
+mod partners;
 mod recording;
 mod stops;
 mod words;

@@ -1,5 +1,5 @@
 //! The presets, ranges and messages that all languages have in common, from `words.json`. PART and MEET are numbers
-//! of calls, PATIENCE is in seconds.
+//! of calls, PATIENCE is in seconds, ALERT in microseconds, and SOON in nanoseconds.
 use crate::{Range, Shape};
 
 // made of words.json by judge/make_words
@@ -32,11 +32,14 @@ pub const PATIENCE: u32 = 10;
 pub const MEET: u32 = 250;
 pub const AWAKE: u32 = 300000;
 pub const WITHIN: u32 = 60;
-pub const STOPS: u32 = 32;
+pub const STOPS: u32 = 128;
 pub const AGAIN: u32 = 4;
 pub const PATIENT: u32 = 40;
 pub const MANY: u32 = 40;
 pub const SOON: u32 = 4000;
+pub const ALERT: u32 = 500;
+pub const TRIES: u32 = 60;
+pub const NEAR: u32 = 128;
 pub const OK: &str = "ok: %s calls, and %s of them overlapped a change of their key";
 pub const FEW: &str = "few calls overlapped, so ok means little: %s calls, and %s of them overlapped a change of their key";
 pub const TOO_FEW: &str = "too few calls overlapped: %s of %s calls overlapped a change of their key, and at_least requires %s of 100. Use fewer keys, more threads, or a less busy machine";

@@ -1,0 +1,101 @@
+//! Lets two threads begin calls at the same time, for races that last only nanoseconds. On a busy machine, threads are
+//! seldom on two processors at once. So a thread polls for a partner before a call, and both continue only if the partner
+//! polls too. Half of the calls then use two neighboring keys, which change after every `MEET` calls. This happens in runs
+//! with an odd seed.
+use std::hint::black_box;
+use std::time::{Duration, Instant};
+
+use crate::area::{Area, At, Draws};
+use crate::words::{ALERT, LONGEST, NEAR, TRIES};
+use crate::Shape;
+
+/// What a thread needs to find partners for its calls on one set.
+pub struct Partners<'a> {
+    area: &'a Area,
+    of: Shape,
+    thread: u32,
+    is_on: bool,
+    draws: Draws,
+    /// All threads draw the same numbers from `common`.
+    common: Draws,
+    tries: u32,
+    blocks: u32,
+    first_key: u32,
+}
+
+impl<'a> Partners<'a> {
+    pub(crate) fn new(area: &'a Area, of: Shape, one: u32, thread: u32) -> Partners<'a> {
+        let seed = area.get(At::Seed);
+        let processors = std::thread::available_parallelism().map_or(1, |it| it.get());
+        let can_meet = of.threads > 1 && processors > 1 && !of.meets_once;
+        Partners {
+            area,
+            of,
+            thread,
+            is_on: can_meet && area.options.pauses > 0 && seed % 2 == 1,
+            draws: Draws(!((u64::from(seed) << 20) + u64::from(one << 6) + u64::from(thread)) << 1),
+            common: Draws((u64::from(seed) << 20) + u64::from(one)),
+            tries: TRIES / of.sets + 1,
+            blocks: 0,
+            first_key: 0,
+        }
+    }
+
+    pub fn begin_block(&mut self) {
+        self.first_key = self.common.below(self.of.keys);
+    }
+
+    pub fn end_block(&mut self) {
+        self.blocks += 1;
+        self.area.next(At::Ended);
+    }
+
+    /// Returns whether all other threads have ended this block of calls.
+    fn is_alone(&self) -> bool {
+        self.area.get(At::Ended) >= (self.blocks + 1) * self.of.threads - 1
+    }
+
+    pub fn key_or(&mut self, other: u32) -> u32 {
+        if self.is_on && self.draws.below(2) == 0 {
+            (self.first_key + self.draws.below(2)) % self.of.keys
+        } else {
+            other
+        }
+    }
+
+    /// Polls for at most `ALERT` microseconds for a thread that polls at the same time. Never sleeps: a thread that sleeps would wake up too late.
+    fn polls(&self) -> bool {
+        let (area, mine, other) = (self.area, self.thread + 1, self.area.get(At::Alert));
+        if other != 0 || !area.replace(At::Alert, 0, mine) {
+            return other != 0 && area.replace(At::Alert, other, 0);
+        }
+        let until = Instant::now() + Duration::from_micros(ALERT.into());
+        while Instant::now() < until {
+            if (0..LONGEST).any(|_| area.get(At::Alert) != mine) {
+                return true;
+            }
+        }
+        !area.replace(At::Alert, mine, 0)
+    }
+
+    /// Waits for a partner. A limited number of waits end without one. Returns whether two threads can now begin their
+    /// calls.
+    pub fn meet(&mut self) -> bool {
+        while self.is_on && self.tries > 0 && !self.is_alone() && self.area.get(At::IsStopping) == 0 {
+            if self.polls() {
+                return true;
+            }
+            self.tries -= 1;
+            std::thread::sleep(Duration::from_micros(20));
+        }
+        false
+    }
+
+    /// Delays a call by up to some hundred nanoseconds, because one of two partners always continues a bit earlier.
+    pub fn delay(&mut self) {
+        let mut left = self.draws.below(NEAR);
+        while left > 0 {
+            left = black_box(left - 1);
+        }
+    }
+}
