@@ -144,7 +144,7 @@ func (c *child) serve() {
 				runtime.GOMAXPROCS(most) // (so that all goroutines can run at the same time)
 			}
 			isOver := make(chan bool)
-			if c.options.Pauses > 0 {
+			if c.options.Pauses > 0 && !c.pairs() {
 				go interrupt(c.seed, isOver)
 			}
 			c.callAll()

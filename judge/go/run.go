@@ -62,6 +62,7 @@ type head struct {
 	size
 	tickets, there, done, begun uint32
 	at, isStopping, isBusy      uint32
+	alert, ended                uint32 // for partners: the number plus 1 of a goroutine that polls, and how often a block of calls has ended
 	isHere                      uint32 // whether a child process has reached the test's Check
 	file, why                   text   // the path of the recording, and why the run failed
 }
@@ -373,6 +374,7 @@ func (a *area) linesOfKeys(word string, set Set, round int) (lines string, areKn
 // callInRounds executes the calls of one goroutine, one part (the calls between two saves) after another.
 func (a *area) callInRounds(on *stage, thread int) {
 	draw, number, rows := rand.New(rand.NewSource(a.seed*64+int64(thread))), uint32(thread), a.rows()
+	others := newPartners(a, thread)
 	for round := 0; round < a.rounds(); round++ {
 		if !a.waits(manyLongest, func() bool { return atomic.LoadUint32(&a.begun) > uint32(round) }) {
 			return
@@ -382,33 +384,44 @@ func (a *area) callInRounds(on *stage, thread int) {
 			mine = mine[:left]
 		}
 		for i := range mine {
+			if i%manyMeet == 0 {
+				others.beginBlock()
+			}
 			if isMet := i > 0 && (i%manyMeet > 0 || a.meetsOnce); !isMet && !a.meet() {
 				return
 			}
-			a.call(on.set, &mine[i], round/a.parts()*a.keys, &number, draw)
+			a.call(on.set, &mine[i], round/a.parts()*a.keys, &number, draw, others)
+			if i+1 == len(mine) || (i+1)%manyMeet == 0 {
+				others.endBlock()
+			}
 		}
 		atomic.AddUint32(&a.done, 1)
 	}
 }
 
-func (a *area) call(set Set, s *slot, ofSet int, number *uint32, draw *rand.Rand) {
+func (a *area) call(set Set, s *slot, ofSet int, number *uint32, draw *rand.Rand, others *partners) {
 	o := &a.options
 	key, at := draw.Intn(a.keys), draw.Intn(o.Adds+o.Removes+o.Finds)
 	if a.keys > 2*manyHot && draw.Intn(2) == 0 {
 		key = draw.Intn(manyHot)
 	}
+	key = others.keyOr(key)
 	s.thread, s.call, s.key = *number, 2, uint32(ofSet+key)
 	if at < o.Adds {
 		s.call = 0
 	} else if at < o.Adds+o.Removes {
 		s.call = 1
 	}
-	if draw.Intn(100) < o.Pauses {
+	isMet := others.meet()
+	if !isMet && draw.Intn(100) < o.Pauses {
 		for looks := draw.Intn(manyLongest); looks > 0; looks-- {
 			atomic.LoadUint32(&a.tickets)
 		}
 	}
 	atomic.StoreUint32(&s.begin, atomic.AddUint32(&a.tickets, 1))
+	if isMet {
+		others.delay()
+	}
 	s.reply = reply(set, s.call, a.number(key))
 	atomic.StoreUint32(&s.end, atomic.AddUint32(&a.tickets, 1))
 	if s.reply == unknown {

@@ -1,6 +1,7 @@
 package judge
 
-// Copied from words.json by judge/make_words. manyPart and manyMeet are numbers of calls, manyPatience is in seconds.
+// Copied from words.json by judge/make_words. manyPart and manyMeet are numbers of calls, manyPatience is in seconds,
+// manyAlert in microseconds.
 // made of words.json
 var presets = []shape{{"few keys", size{4, 1, 5000, 4, 1, false}}, {"fresh sets", size{4, 40, 10, 4, 1, false}}, {"multiples of 64", size{4, 1, 5000, 8, 64, false}}, {"one key", size{3, 1, 5000, 1, 1, false}}, {"sets that grow", size{4, 20, 125, 64, 1, false}}, {"many keys", size{4, 1, 2500, 1000, 1, false}}, {"multiples of 1,000", size{8, 1, 2500, 8, 1000, false}}}
 
@@ -17,6 +18,9 @@ const (
 	manyAwake       = 300000
 	manyWithin      = 60
 	manyApart       = 100
+	manyAlert       = 500
+	manyTries       = 60
+	manyNear        = 128
 	sayOk           = "ok: %v calls, and %v of them overlapped a change of their key"
 	sayFew          = "few calls overlapped, so ok means little: %v calls, and %v of them overlapped a change of their key"
 	sayTooFew       = "too few calls overlapped: %v of %v calls overlapped a change of their key, and at_least requires %v of 100. Use fewer keys, more threads, or a less busy machine"

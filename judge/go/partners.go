@@ -1,0 +1,91 @@
+package judge
+
+import (
+	"math/rand"
+	"runtime"
+	"sync/atomic"
+	"time"
+)
+
+// partners lets two goroutines begin calls at the same time, for races that last only nanoseconds. On a busy machine,
+// goroutines are seldom on two processors at once. So a goroutine polls for a partner before a call, and both continue
+// only if the partner polls too. Half of the calls then use two neighboring keys, which change after every manyMeet
+// calls. This happens in runs with an odd seed.
+type partners struct {
+	*area
+	thread                  int
+	isOn                    bool
+	draw, common            *rand.Rand // all goroutines draw the same numbers from common
+	tries, blocks, firstKey int
+}
+
+func newPartners(a *area, thread int) *partners {
+	p := &partners{area: a, thread: thread, tries: manyTries}
+	p.draw, p.common = rand.New(rand.NewSource(^(a.seed*64 + int64(thread)))), rand.New(rand.NewSource(a.seed))
+	p.isOn = a.pairs() && a.options.Pauses > 0
+	return p
+}
+
+// pairs returns whether two goroutines begin their calls at the same time in this run.
+func (a *area) pairs() bool {
+	return a.seed%2 == 1 && !a.meetsOnce && a.threads > 1 && runtime.NumCPU() > 1
+}
+
+func (p *partners) beginBlock() { p.firstKey = p.common.Intn(p.keys) }
+
+func (p *partners) endBlock() {
+	p.blocks++
+	atomic.AddUint32(&p.ended, 1)
+}
+
+// isAlone returns whether all other goroutines have ended this block of calls.
+func (p *partners) isAlone() bool {
+	return int(atomic.LoadUint32(&p.ended)) >= (p.blocks+1)*p.threads-1
+}
+
+func (p *partners) keyOr(other int) int {
+	if p.isOn && p.draw.Intn(2) == 0 {
+		return (p.firstKey + p.draw.Intn(2)) % p.keys
+	}
+	return other
+}
+
+// polls waits for at most manyAlert microseconds for another goroutine that polls at the same time. It never sleeps: a
+// goroutine that sleeps would wake up too late.
+func (p *partners) polls() bool {
+	mine := uint32(p.thread + 1)
+	if other := atomic.LoadUint32(&p.alert); other != 0 {
+		return atomic.CompareAndSwapUint32(&p.alert, other, 0)
+	}
+	if !atomic.CompareAndSwapUint32(&p.alert, 0, mine) {
+		return false
+	}
+	for until := time.Now().Add(manyAlert * time.Microsecond); time.Now().Before(until); {
+		for looks := 0; looks < manyLongest; looks++ {
+			if atomic.LoadUint32(&p.alert) != mine {
+				return true
+			}
+		}
+	}
+	return !atomic.CompareAndSwapUint32(&p.alert, mine, 0)
+}
+
+// meet waits for a partner. At most manyTries waits of a run end without one. It returns whether two goroutines can now
+// begin their calls.
+func (p *partners) meet() bool {
+	for p.isOn && p.tries > 0 && !p.isAlone() && atomic.LoadUint32(&p.isStopping) == 0 {
+		if p.polls() {
+			return true
+		}
+		p.tries--
+		time.Sleep(20 * time.Microsecond)
+	}
+	return false
+}
+
+// delay delays a call by up to some hundred nanoseconds, because one of two partners always continues a bit earlier.
+func (p *partners) delay() {
+	for left := p.draw.Intn(manyNear); left > 0; left-- {
+		atomic.LoadUint32(&p.isStopping)
+	}
+}
