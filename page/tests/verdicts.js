@@ -269,7 +269,7 @@ function checkKind(ask, drawn) {
 function checkFacts(ask, it) {
   const told = ask("listset_why_record", it.text).text.split("\n").filter((line) => /^(fact|because) /.test(line));
   const why = { because: told.filter((line) => line.startsWith("because ")), shown: [], also: [], guilty: [] };
-  for (const line of told.filter((one) => !one.startsWith("fact ("))) checkSentence(OF_WHY, it, line.replace(/; here .*$/, ""), why, {});
+  for (const line of told.filter((one) => !one.startsWith("fact ("))) checkSentence(OF_WHY, it, line.replace(/; suspected: .*$/, ""), why, {});
 }
 
 // Returns the call in the recording that a line of a diagnosis describes.
@@ -293,7 +293,7 @@ function checkWhy(ask, it) {
 // Returns a sentence without the call that it blames. If this call is not the one that the picture suspects, or overlaps no other call of the picture, returns
 // a sentence that no pattern matches.
 function guiltyIn(why, says) {
-  const [, sentence, operation, key, thread, begun, ended] = /^(because .*); here (\w+) (\d+) of thread (\d+), (\d+) to (\d+|\.\.)$/.exec(says) ?? [];
+  const [, sentence, operation, key, thread, begun, ended] = /^(because .*); suspected: (\w+) (\d+) of thread (\d+), (\d+) to (\d+|\.\.)$/.exec(says) ?? [];
   if (sentence === undefined) return says;
   const isNamed = (call) => `${[call.operation, call.key, call.thread, call.begun, call.ended ?? ".."]}` === `${[operation, key, thread, begun, ended]}`;
   const isMet = (call) => why.shown.some(({ call: one }) => one !== call && inTime(one, call.begun, call.ended ?? LAST));
@@ -528,18 +528,18 @@ const TALLIED = ["lost", "came back", "two adds true", "two removes true", "one 
 // Maps the words in the sentence that counts contradictions to the kinds of contradictions.
 const KINDS = {
   "where a key was lost": "lost", "where a key came back": "came back", "with two adds that both returned true": "two adds true",
-  "with two removes that both returned true": "two removes true", "with one wrong answer": "one wrong answer", "of another kind": "none of these",
+  "with two removes that both returned true": "two removes true", "with one wrong reply": "one wrong answer", "of no simple kind": "none of these",
 };
 // Returns whether the calls around an answer are not linearizable with it, but are without it or, for contains, with the other reply.
 const isOnlyWrong = (it, answer) => [...around(it, answer.key, answer)].some(({ calls, isThere, left }) =>
   calls.includes(answer) && !hasOrder(calls, answer.key, isThere, left) && hasOrder(calls.filter((one) => one !== answer), answer.key, isThere, left));
 
-// Returns whether the numbers of wrong answers of each kind, as in `2 add false, 1 contains true`, are true and add up.
+// Returns whether the numbers of wrong answers of each kind, as in `add returned false: 2, contains returned true: 1`, are true and add up.
 function areWrongAnswers(it, all, told) {
-  const kinds = told.split(", ").map((one) => /^(\d+) (add|remove|contains) (true|false)$/.exec(one));
-  const areSo = ([, count, operation, reply]) =>
+  const kinds = told.split(", ").map((one) => /^(add|remove|contains) returned (true|false): (\d+)$/.exec(one));
+  const areSo = ([, operation, reply, count]) =>
     it.calls.filter((call) => call.operation === operation && call.reply === reply && !isChange(call) && isOnlyWrong(it, call)).length >= Number(count);
-  return kinds.every((one) => one !== null && areSo(one)) && kinds.reduce((sum, [, count]) => sum + Number(count), 0) === all;
+  return kinds.every((one) => one !== null && areSo(one)) && kinds.reduce((sum, [, , , count]) => sum + Number(count), 0) === all;
 }
 
 // Returns, for each completed change by an operation, whether the next call on the key sees the change. Leaves out a change that an opposite change can have
@@ -565,7 +565,7 @@ function nextCall(it, answer, operation) {
 
 // Decides whether a contradiction in the short list of a diagnosis is true: no order explains the calls on the key up to the end of the contradiction.
 function isListed(it, told) {
-  const [, key, symptom, since, until] = /^key (\d+) (lost|came back|added twice|removed twice|missed|found, though absent,|contradictory) (?:by the end|from (\d+) to (?:(\d+)|the end))$/.exec(told) ?? [];
+  const [, key, symptom, since, until] = /^key (\d+) (lost|came back|added twice|removed twice|missed|found, though absent,|inconsistent) (?:by the end|from (\d+) to (?:(\d+)|the end))$/.exec(told) ?? [];
   if (key === undefined) return false;
   const calls = ofKey(it, Number(key));
   const last = until === undefined ? LAST : Number(until);
@@ -599,7 +599,7 @@ const OF_WHY = [
     const look = { thread: 98, operation: "contains", key: call.key, begun: call.ended + 0.25, ended: call.ended + 0.5, reply: String(state === "absent") };
     return !hasOrder([...ofKey(it, call.key).filter(({ begun }) => begun < next), look], call.key, opens(it, call.key));
   }],
-  [/^(?:call|also) suspected$/, (it, found, why, { call }) => call.operation !== "contains" && why.guilty.length === 1 && why.because.some(({ says }) => says.includes(`; here ${call.operation} ${call.key} of thread ${call.thread}, `))],
+  [/^(?:call|also) suspected$/, (it, found, why, { call }) => call.operation !== "contains" && why.guilty.length === 1 && why.because.some(({ says }) => says.includes(`; suspected: ${call.operation} ${call.key} of thread ${call.thread}, `))],
   [/^also(?: suspected)?$/, (it, found, why, { call, says }) => {
     const shown = why.shown.map((one) => one.call);
     const marked = why.shown.filter(({ mark }) => mark !== "-").map((one) => one.call);
@@ -616,7 +616,7 @@ const OF_WHY = [
       why.told = wrongAnswers(it, "contains", aside !== undefined);
       return why.told !== null && isTold(it, why.told, ["contains", atLeast, count, of, found, missed]);
     }],
-  [/^fact (?:before moment (\d+) the calls had an order; from then on )?at least (\d+) contradictions?: (\d+ (?:where|with|of another) .*)$/, (it, [moment, count, kinds], why) => {
+  [/^fact (?:before moment (\d+) the calls had an order; from then on )?at least (\d+) contradictions?: (\d+ (?:where|with|of no simple) .*)$/, (it, [moment, count, kinds], why) => {
     const isBefore = moment === undefined || keysOf(it).every((key) => hasOrder(knownBy(ofKey(it, key), Number(moment) - 1), key, opens(it, key)));
     why.tally = Object.fromEntries(TALLIED.map((kind) => [kind, 0]));
     const told = kinds.split(" + ").map((one) => /^(\d+) ([^(]*[^( ])(?: \((.*)\))?$/.exec(one));
@@ -624,7 +624,7 @@ const OF_WHY = [
     const areAnswers = told.every(([, many, kind, answers]) => (KINDS[kind] === "one wrong answer" ? areWrongAnswers(it, Number(many), answers) : answers === undefined));
     return Object.keys(why.tally).length === TALLIED.length && Object.values(why.tally).reduce((sum, many) => sum + many, 0) === Number(count) && areAnswers && isBefore;
   }],
-  [/^fact (\d+) of (\d+) keys are hit; after (\d+) of (\d+) successful adds the next call found the key absent, after (\d+) of (\d+) successful removes present \(no opposite change ran meanwhile\)$/, (it, [hit, all, ...counts]) => {
+  [/^fact (\d+) of (\d+) keys are affected; after (\d+) of (\d+) successful adds the next call found the key absent, after (\d+) of (\d+) successful removes present \(only calls with no opposite change in between are counted\)$/, (it, [hit, all, ...counts]) => {
     const refused = keysOf(it).filter((key) => !hasOrderOf(it, key));
     const seen = ["add", "remove"].map((operation) => refused.flatMap((key) => nextCallsSee(ofKey(it, key), operation)));
     const isOfKeys = Number(hit) === refused.length && Number(all) === new Set([...keysOf(it), ...it.padding.map(({ key }) => key)]).size;
@@ -634,7 +634,7 @@ const OF_WHY = [
     const isBeside = keysOf(it).some((key) => !hasOrderOf(it, key) && it.calls.some((one) => one.key !== key && isChange(one) && one.reply === "true"));
     return Number(some) <= Number(all) && Number(all) <= tally.lost + tally["came back"] && isBeside && Number(some) * 100 >= Number(all) * (Number(usual) + 25);
   }],
-  [/^(?:because|fact) (\d+) of the (\d+) times that a key was lost or came back, this happened to another key, too, meanwhile \(by chance: (\d+) of 100\)$/, (it, [some, all, usual]) =>
+  [/^(?:because|fact) (\d+) of the (\d+) times that a key was lost or came back, this happened to another key, too, meanwhile \(expected by chance: (\d+) of 100\)$/, (it, [some, all, usual]) =>
     Number(some) <= Number(all) && keysOf(it).filter((key) => !hasOrderOf(it, key)).length >= 2 && Number(some) * 100 >= Number(all) * (Number(usual) + 25)],
   [/^fact (?:before moment \d+ the calls had an order; from then on )?(at least )?(\d+) contradictions?: (.*)$/, (it, [atLeast, count, listed], why) => {
     const told = listed.split("; ");
@@ -777,7 +777,7 @@ const OF_WHY = [
   [/^because keys are lost \((\d+)\) (?:and|more than they) come back \((\d+)\), and (?:a change of another key ran during )?(\d+) of (\d+) /, (it, [lost, back, some, all], { tally }) =>
     tally.lost === Number(lost) && tally["came back"] === Number(back) && Number(some) <= Number(all)],
   [/^because (\d+) of (\d+) undone changes overlapped a change of another key that can have written an older state back$/, (it, [some, all], { tally }) => Number(some) <= Number(all) && Number(all) <= tally.lost + tally["came back"]],
-  [/^because the next call of the key did not see (\d+) of (\d+) adds and (\d+) of (\d+) removes, although no opposite change ran meanwhile$/, (it, found) => {
+  [/^because the next call of the key did not see (\d+) of (\d+) adds and (\d+) of (\d+) removes, although no opposite change ran in between$/, (it, found) => {
     const seen = ["add", "remove"].map((operation) => keysOf(it).filter((key) => !hasOrderOf(it, key)).flatMap((key) => nextCallsSee(ofKey(it, key), operation)));
     return `${found.map(Number)}` === `${seen.flatMap((some) => [some.filter((isSeen) => !isSeen).length, some.length])}`;
   }],
@@ -789,7 +789,7 @@ const OF_WHY = [
   }],
   [/^because (\d+) of (\d+) wrong answers, of more than one operation, overlapped a change of another key$/, (it, [some, all], { tally }) => Number(some) <= Number(all) && Number(all) <= tally["one wrong answer"]],
   [/^because another key was lost at (\d+) of the (\d+) removes after which their key came back$/, (it, [some, all], { tally }) => Number(some) <= Number(all) && Number(all) <= tally["came back"]],
-  [/^because (\d+) keys are hit, each once$/, (it, [count]) => keysOf(it).filter((key) => !hasOrderOf(it, key)).length === Number(count)],
+  [/^because (\d+) keys are affected, each once$/, (it, [count]) => keysOf(it).filter((key) => !hasOrderOf(it, key)).length === Number(count)],
   [/^because keys are lost \((\d+)\) and added twice \((\d+)\), none comes back, and none is removed twice$/, (it, [lost, twice], { tally }) =>
     Number(lost) === tally.lost && Number(twice) === tally["two adds true"] && tally["two removes true"] === 0 && tally["came back"] === 0],
   [/^(?:because|fact) a successful (add|remove) of another key ran during the add of (\d+) of the (\d+) lost keys, but only during (\d+) of 100 successful adds$/, (it, [operation, some, all, usual], { tally }) => {
@@ -842,7 +842,7 @@ const OF_WHY = [
     return burst.length >= Number(answers) && new Set(burst.map(({ key }) => key)).size >= Number(keys) && near.length >= Number(some) && missed.length >= Number(all) && Number(some) <= Number(all) && Number(usual) <= 100;
   }],
   [/^because they disagree as long as nothing changes the key$/, () => true],
-  [/^because an order fits until one moment, and then all (\d+) keys are hit, and calls disagree while nothing changes the key$/, (it, [count]) => {
+  [/^because an order fits until one moment, and then all (\d+) keys are affected, and calls disagree while nothing changes the key$/, (it, [count]) => {
     const keys = keysOf(it);
     return keys.length === Number(count) && keys.every((key) => !hasOrderOf(it, key));
   }],
@@ -859,7 +859,7 @@ const OF_WHY = [
     const found = ended.filter((call) => call.reply === "false" && ended.some((one) => one.key === call.key && one !== call && one.reply === "true" && needsKey(call) !== leaves(one) && inTime(one, call.begun, call.ended)));
     return Number(pairs) <= count && Number(both) === tally["two adds true"] + tally["two removes true"] && Number(undone) <= tally.lost + tally["came back"] && (Number(undone) === 0 || found.length > 0);
   }],
-  [/^because many keys are added \((\d+) present at first, (\d+) at the end\), (\d+) were in use at moment (\d+), and only (\d+) of (\d+) keys are hit$/, (it, [from, to, active, moment, hit, all]) => {
+  [/^because many keys are added \((\d+) present at first, (\d+) at the end\), (\d+) were in use at moment (\d+), and only (\d+) of (\d+) keys are affected$/, (it, [from, to, active, moment, hit, all]) => {
     const present = new Set(it.opening);
     const calls = [...it.calls, ...it.padding];
     for (const call of calls.filter(holdsReply).sort((one, other) => one.ended - other.ended)) present[leaves(call) ? "add" : "delete"](call.key);

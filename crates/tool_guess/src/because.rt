@@ -189,7 +189,7 @@ fn put_because_of_calls(out: &mut String, tally: &Tally, cause: Cause) -> Result
             let keys = tally.keys;
             writeln!(
                 out,
-                "an order fits until one moment, and then all {keys} keys are hit, and calls disagree while nothing changes the key"
+                "an order fits until one moment, and then all {keys} keys are affected, and calls disagree while nothing changes the key"
             )
         }
         _ => writeln!(out, "they disagree as long as nothing changes the key"),
@@ -233,7 +233,7 @@ fn put_because_of_few(
     )
 }
 
-/// Writes the fact that supports the cause `Outgrown`: many keys are added, and few keys are hit.
+/// Writes the fact that supports the cause `Outgrown`: many keys are added, and few keys are affected.
 fn put_because_of_growth(
     out: &mut String,
     evidence: &Evidence,
@@ -244,7 +244,7 @@ fn put_because_of_growth(
     let (active, moment) = (growth.active, growth.moment);
     writeln!(
         out,
-        "many keys are added ({from} present at first, {to} at the end), {active} were in use at moment {moment}, and only {keys} of {all} keys are hit"
+        "many keys are added ({from} present at first, {to} at the end), {active} were in use at moment {moment}, and only {keys} of {all} keys are affected"
     )
 }
 
@@ -303,7 +303,7 @@ fn put_because_of_mixed(out: &mut String, tally: &Tally, cause: Cause) -> Result
             let (missed, removes) = (tally.unseen_removes, tally.followed_removes);
             writeln!(
                 out,
-                "the next call of the key did not see {unseen} of {adds} adds and {missed} of {removes} removes, although no opposite change ran meanwhile"
+                "the next call of the key did not see {unseen} of {adds} adds and {missed} of {removes} removes, although no opposite change ran in between"
             )
         }
         Cause::RemovedLater => {
@@ -420,7 +420,7 @@ fn put_because_of_gone(
     match cause {
         Cause::ReplacedAtOnce | Cause::OldCopyAtOnce => writeln!(
             out,
-            "{together} of the {timed} times that a key was lost or came back, this happened to another key, too, meanwhile (by chance: {usually} of 100)"
+            "{together} of the {timed} times that a key was lost or came back, this happened to another key, too, meanwhile (expected by chance: {usually} of 100)"
         ),
         Cause::CarriedOutTwice => writeln!(
             out,
@@ -450,7 +450,7 @@ fn put_because_of_gone(
             out,
             "another key was lost at {swapped} of the {undone} removes after which their key came back"
         ),
-        _ => writeln!(out, "{keys} keys are hit, each once"),
+        _ => writeln!(out, "{keys} keys are affected, each once"),
     }
 }
 
@@ -469,7 +469,10 @@ pub fn because_text(
     if let Some(call) = guilty {
         let (word, key, thread) = (call.operation.word(), call.key, call.thread);
         let begun = call.begun;
-        write!(out, "; here {word} {key} of thread {thread}, {begun} to ")?;
+        write!(
+            out,
+            "; suspected: {word} {key} of thread {thread}, {begun} to "
+        )?;
         match call.ended {
             NEVER => out.push_str("..")?,
             ended => write!(out, "{ended}")?,

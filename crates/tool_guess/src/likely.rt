@@ -253,7 +253,7 @@ fn is_rarely_inside(evidence: &Evidence, further: &Further) -> bool {
         && !is_first_use(evidence)
 }
 
-/// Returns whether few of many added keys are hit, and most of at least three contradictions are losses or returns of
+/// Returns whether few of many added keys are affected, and most of at least three contradictions are losses or returns of
 /// keys, or pairs of calls that both returned true.
 fn is_outgrown(evidence: &Evidence, further: &Further) -> bool {
     let tally = &evidence.tally;
@@ -266,7 +266,7 @@ fn is_outgrown(evidence: &Evidence, further: &Further) -> bool {
 }
 
 /// Returns whether nearly all of the set breaks at one moment: a key's calls disagree for long, most contradictions are
-/// unclear, and all keys are hit.
+/// unclear, and all keys are affected.
 fn is_broken_for_good(evidence: &Evidence) -> bool {
     let tally = &evidence.tally;
     tally.keys >= 2 && tally.keys == evidence.keys && tally.others.saturating_mul(2) > tally.places
@@ -381,7 +381,7 @@ pub fn likely_cause(evidence: &Evidence, further: &Further) -> Option<Cause> {
 }
 
 /// Returns the cause `Outgrown` in place of no cause, or in place of a table that is replaced, if many keys are added
-/// and few of them are hit.
+/// and few of them are affected.
 fn or_outgrown(evidence: &Evidence, further: &Further, cause: Option<Cause>) -> Option<Cause> {
     let is_open = matches!(cause, None | Some(Cause::Replaced | Cause::ReplacedAtOnce));
     if is_open && is_outgrown(evidence, further) {

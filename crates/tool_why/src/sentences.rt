@@ -156,7 +156,7 @@ fn put_kinds(out: &mut String, tally: &Tally) -> Result<(), AllocError> {
         ),
         (
             tally.missed.saturating_add(tally.found),
-            "with one wrong answer",
+            "with one wrong reply",
         ),
     ];
     let mut is_first = true;
@@ -171,8 +171,8 @@ fn put_kinds(out: &mut String, tally: &Tally) -> Result<(), AllocError> {
     let others = tally.others;
     match others {
         0 => Ok(()),
-        _ if others == tally.places => write!(out, ": {others} of another kind"),
-        _ => write!(out, " + {others} of another kind"),
+        _ if others == tally.places => write!(out, ": {others} of no simple kind"),
+        _ => write!(out, " + {others} of no simple kind"),
     }
 }
 
@@ -181,16 +181,19 @@ fn put_kinds(out: &mut String, tally: &Tally) -> Result<(), AllocError> {
 fn put_answers(out: &mut String, tally: &Tally) -> Result<(), AllocError> {
     let (adds, removes) = (tally.refused_adds, tally.refused_removes);
     let kinds = [
-        (adds, "add false"),
-        (removes, "remove false"),
-        (tally.found.saturating_sub(adds), "contains true"),
-        (tally.missed.saturating_sub(removes), "contains false"),
+        (adds, "add returned false"),
+        (removes, "remove returned false"),
+        (tally.found.saturating_sub(adds), "contains returned true"),
+        (
+            tally.missed.saturating_sub(removes),
+            "contains returned false",
+        ),
     ];
     let mut is_first = true;
     for (count, kind) in kinds {
         if count > 0 {
             out.push_str(if is_first { " (" } else { ", " })?;
-            write!(out, "{count} {kind}")?;
+            write!(out, "{kind}: {count}")?;
             is_first = false;
         }
     }
@@ -206,7 +209,7 @@ fn symptom_text(symptom: Symptom) -> &'static str {
         Symptom::BothTrue(_) => "removed twice",
         Symptom::Lost => "lost",
         Symptom::CameBack => "came back",
-        Symptom::Unclear => "contradictory",
+        Symptom::Unclear => "inconsistent",
     }
 }
 
@@ -266,7 +269,7 @@ fn put_tally(out: &mut String, diagnosis: &Diagnosis) -> Result<(), AllocError> 
     let (lost, kept) = (tally.unseen_adds, tally.unseen_removes);
     writeln!(
         out,
-        "\n{keys} of {all} keys are hit; after {lost} of {adds} successful adds the next call found the key absent, after {kept} of {removes} successful removes present (no opposite change ran meanwhile)"
+        "\n{keys} of {all} keys are affected; after {lost} of {adds} successful adds the next call found the key absent, after {kept} of {removes} successful removes present (only calls with no opposite change in between are counted)"
     )
 }
 
@@ -338,7 +341,7 @@ fn put_gone_beside(out: &mut String, tally: &Tally) -> Result<(), AllocError> {
     if is_more(together, timed, usually) {
         writeln!(
             out,
-            "{together} of the {timed} times that a key was lost or came back, this happened to another key, too, meanwhile (by chance: {usually} of 100)"
+            "{together} of the {timed} times that a key was lost or came back, this happened to another key, too, meanwhile (expected by chance: {usually} of 100)"
         )?;
     }
     let (adds, usual) = (tally.with_add, tally.usually_with_add);
