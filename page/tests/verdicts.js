@@ -1,6 +1,6 @@
-// node tests/verdicts.js [CASES] checks that the page's sentences about random recordings, about runs of broken lists and about the reader's own orders are
-// true. A search of all orders decides each sentence. The sentences of a diagnosis are checked too. Prints as JSON how many checks passed, and which
-// failed.
+// node tests/verdicts.js [CASES [SEED]] checks that the page's sentences about random recordings, about runs of broken lists and about the reader's own orders
+// are true. A search of all orders decides each sentence. The sentences of a diagnosis are checked too. Prints as JSON how many checks passed, which failed,
+// and how many diagnoses were checked.
 "use strict";
 
 const fs = require("fs");
@@ -9,7 +9,8 @@ const { inPage, startedEngine } = require("../in_node.js");
 const kindsOf = require("./kinds.js");
 
 const CASES = Number(process.argv[2] ?? 150); // for each kind
-const result = { passed: 0, failed: [] };
+let seed = Number(process.argv[3] ?? 1);
+const result = { passed: 0, failed: [], diagnoses: 0 };
 const met = new Set(); // the patterns that some sentence has matched
 const [verdictOnCalls, verdictOnLacking, verdictOn] = ["verdictOnCalls", "verdictOnLacking", "verdictOn"].map(inPage);
 const [OwnAnswer, exerciseOf, readReport, LACKING] = ["OwnAnswer", "exerciseOf", "readReport", "LACKING"].map(inPage);
@@ -17,9 +18,8 @@ const LAST = Infinity;
 const LONG = ["inside", "growing", "unlinked", "outlasted", "ownCopies", "transit", "successors", "borrowed", "stripes"]; // kinds with long recordings
 const OF_FACTS = ["inside", "unlinked", "outlasted", "ownCopies", "transit", "successors", "borrowed", "stripes"]; // kinds of which only the facts are checked
 
-// ---- Random numbers, which are the same each time this script runs.
+// ---- Random numbers, which are the same each time this script runs with the same seed.
 
-let seed = 1;
 function draw(most) {
   seed = (seed + 0x6d2b79f5) | 0;
   let it = Math.imul(seed ^ (seed >>> 15), seed | 1);
@@ -77,38 +77,43 @@ function asLook(call) {
   return { ...call, operation: "contains", key: Number(found ?? call.key), reply: String(found !== undefined) };
 }
 
-// Returns the states in which the calls on a key can leave the key if it starts in a given state. A node of the search is a state of the key with the
-// pending calls that have taken effect. A call that changes nothing takes effect as soon as it can.
+// Returns the states in which the calls on a key can leave the key if it starts in a given state. The search keeps a set of nodes. A node is a number: its
+// lowest bit is the state of the key, and each pending call has a bit, which is set if the call has taken effect. A call that changes nothing takes effect
+// as soon as it can.
 function waysLeft(calls, key, isThere) {
   const ofKey = calls.map(asLook).filter((call) => call.key === key && (call.ended !== null || mayChange(call)));
-  const events = ofKey.flatMap((call) => [[call.begun, call, true], ...(call.ended === null ? [] : [[call.ended, call, false]])]).sort(([one], [other]) => one - other);
-  const number = new Map(ofKey.map((call, at) => [call, at]));
-  const add = (nodes, state, done) => nodes.set(`${state} ${[...done].map((call) => number.get(call)).sort()}`, { state, done });
-  let [nodes, pending] = [add(new Map(), isThere, new Set()), new Set()];
-  const settle = () => {
-    const [todo, settled] = [[...nodes.values()], new Map()];
-    while (todo.length > 0) {
-      const { state, done: before } = todo.pop();
-      const done = new Set([...before, ...[...pending].filter((call) => !mayChange(call) && needs(call) === state)]);
-      const { size } = settled;
-      add(settled, state, done);
-      if (settled.size === size) continue;
-      for (const call of pending) if (mayChange(call) && !done.has(call) && (call.operation === "add") !== state) todo.push({ state: !state, done: new Set([...done, call]) });
+  const events = ofKey.flatMap((call) => [[call.begun, call], ...(call.ended === null ? [] : [[call.ended, call]])]).sort(([one], [other]) => one - other);
+  const [pending, bitOf] = [[], new Map()];
+  let nodes = new Set([Number(isThere)]);
+  for (const [, call] of events) {
+    const bit = bitOf.get(call);
+    if (bit === undefined) {
+      let free = 2;
+      while (pending.some((one) => one.bit === free)) free *= 2;
+      if (free >= 2 ** 31) throw new Error("more than 30 calls are pending");
+      bitOf.set(call, free);
+      pending.push({ bit: free, isChange: mayChange(call), needed: Number(mayChange(call) ? call.operation !== "add" : needs(call)) });
+      nodes = settled(nodes, pending);
+    } else {
+      pending.splice(pending.findIndex((one) => one.bit === bit), 1);
+      nodes = new Set([...nodes].filter((node) => node & bit).map((node) => node ^ bit));
     }
-    nodes = settled;
-  };
-  for (const [, call, isBegin] of events) {
-    if (isBegin) {
-      pending.add(call);
-      settle();
-      continue;
-    }
-    pending.delete(call);
-    const left = [...nodes.values()].filter(({ done }) => done.has(call));
-    nodes = new Map();
-    for (const { state, done } of left) add(nodes, state, new Set([...done].filter((one) => one !== call)));
   }
-  return [...new Set([...nodes.values()].map(({ state }) => state))];
+  return [...new Set([...nodes].map((node) => (node & 1) === 1))];
+}
+
+// Returns the nodes that the pending calls reach from some nodes.
+function settled(nodes, pending) {
+  const [todo, found] = [[...nodes], new Set()];
+  while (todo.length > 0) {
+    let node = todo.pop();
+    const state = node & 1;
+    for (const { bit, isChange, needed } of pending) if (!isChange && needed === state) node |= bit;
+    if (found.has(node)) continue;
+    found.add(node);
+    for (const { bit, isChange, needed } of pending) if (isChange && (node & bit) === 0 && needed === state) todo.push((node | bit) ^ 1);
+  }
+  return found;
 }
 
 const quotaIn = (report) => Number(/^quota (\d+)$/m.exec(report)[1]);
@@ -267,6 +272,7 @@ function checkKind(ask, drawn) {
 
 // Checks only the facts of a diagnosis. (The recording is too long to check its headline and picture.)
 function checkFacts(ask, it) {
+  result.diagnoses++;
   const told = ask("listset_why_record", it.text).text.split("\n").filter((line) => /^(fact|because) /.test(line));
   const why = { because: told.filter((line) => line.startsWith("because ")), shown: [], also: [], guilty: [] };
   for (const line of told.filter((one) => !one.startsWith("fact ("))) checkSentence(OF_WHY, it, line.replace(/; suspected: .*$/, ""), why, {});
@@ -280,6 +286,7 @@ function callOfLine(it, words) {
 }
 
 function checkWhy(ask, it) {
+  result.diagnoses++;
   const lines = ask("listset_why_record", it.text).text.split("\n").filter((line) => line !== "").map((line) => line.split(" "));
   const told = lines.map((words) => (["call", "also"].includes(words[0]) ? { call: callOfLine(it, words.slice(1)), says: [words[0], ...words.slice(7)].join(" "), mark: words.slice(7).join(" ") } : { says: words.join(" ") }));
   const why = { shown: told.filter(({ says }) => says.startsWith("call ")), also: told.filter(({ says }) => says.startsWith("also")).map(({ call }) => call), because: told.filter(({ says }) => says.startsWith("because ")), told: null,
@@ -407,13 +414,20 @@ function* around(it, key, call) {
   }
 }
 
+// Returns whether an earlier change leaves the state that `call` does not find, and no change to the state that `call` finds overlaps the time of both.
+function isKnownOtherwise(it, call) {
+  const wanted = needs(call) ? "add" : "remove";
+  const isLast = (one) => one.ended !== null && one.ended < call.begun && leaves(one) !== needs(call) && isNoneBetween(it, call.key, wanted, one.begun, call.ended);
+  return !isChange(call) && ofKey(it, call.key).filter(isChange).some(isLast);
+}
+
 // Returns whether some calls on the key are not linearizable with the recorded reply of `call`, but are linearizable with the
-// inverted reply. These calls are the changes of the key, or the calls around `call`.
+// inverted reply. These calls are the changes of the key, or the calls around `call`. An earlier change can show it too.
 function isExpected(it, call) {
   const changes = knownBy(ofKey(it, call.key).filter((one) => isChange(one) && one !== call), call.ended);
   const fits = (one, others, isThere, left) => hasOrder([...others, one], call.key, isThere, left);
   const isOnlyTurned = (others, isThere, left) => !fits(call, others, isThere, left) && fits(turned(call), others, isThere, left);
-  if (isOnlyTurned(changes, opens(it, call.key), null)) return true;
+  if (isOnlyTurned(changes, opens(it, call.key), null) || isKnownOtherwise(it, call)) return true;
   return [...around(it, call.key, call)].some(({ calls, isThere, left }) => calls.includes(call) && isOnlyTurned(calls.filter((one) => one !== call), isThere, left));
 }
 
