@@ -23,7 +23,7 @@ use Rattle.lset_text.specs.Texts.{TextGrammar, last_of_header, text_from}
 use Rattle.lset_text.specs.Openings.{opening_form, is_above}
 use Rattle.lset_schedule.specs.declared.value.Line.{Line}
 use Rattle.lset_schedule.specs.declared.value.Line.TheVariants.{Begin, Go}
-use Rattle.lset_schedule.specs.declared.body.Body.{Body as TextBody}
+use Rattle.lset_schedule.specs.declared.content.Body.{Body as TextBody}
 use Rattle.lset_schedule.specs.Plan.{Plan, planned, IsSchedule, title, schedule_text, event_count}
 
 -- ---- Reading the lines after the header: opening keys, then event lines

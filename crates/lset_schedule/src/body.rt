@@ -1,6 +1,7 @@
 ghost use Rattle.std.specs.Prelude.{◌≡◌, ◌∷◌, [], ◌<◌, codes, false, IfErr, MatchOption, OnOk};
 ghost use Rattle.lset_text.specs.Parts.{cut_at};
 ghost use Rattle.lset_text.specs.Forms.{have_form};
+ghost use Rattle.lset_text.specs.Headers.{IsHeader};
 ghost use Rattle.lset_text.specs.Lines.{lines_from, IsGoodLine};
 ghost use Rattle.lset_text.specs.Kinds.{line_in, made};
 ghost use Rattle.lset_text.specs.Openings.{opening_form};
@@ -24,6 +25,7 @@ ghost use Rattle.lset_schedule.specs.ScheduleReading.{
   IsGoodAfterHeader,
 };
 
+use crate::content::Body;
 use crate::{FIRST_LINE, MOST_EVENTS};
 use lset_text::{Cause, Header, LineFault, Version, cut, is_above, number, read_header};
 use lset_words::MOST_OPENING;
@@ -45,15 +47,6 @@ pub trait EventLine: Copy {
         ensures { result ≡ lines.count self };
 }
 
-/// The content of a schedule or draft: its header, its opening keys, and its event lines.
-#[derive(Drop)]
-pub struct Body<L> {
-    pub header: Header,
-    pub opening: Vec<u32>,
-    pub lines: Vec<L>,
-    total: u32,
-}
-
 /// Returns the second field `K` if the line is `opening K`, else `None`.
 fn opening_piece(line: &[u8]) -> Option<&[u8]>
     ensures { MatchOption result (have_form Version.Two opening_form (cut_at 32 line.now) ≡ false)
@@ -71,6 +64,7 @@ fn opening_piece(line: &[u8]) -> Option<&[u8]>
 
 impl<L: EventLine> Body<L> {
     fn new(alloc: Global, header: Header) -> Body<L>
+        requires { IsHeader header }
         ensures told { told result ≡ no_lines header }
         ensures counts { Counts L.lines result }
     {
@@ -97,6 +91,7 @@ impl<L: EventLine> Body<L> {
         }
     }
 
+    #[tactic(auto, using(lset_text::proofs::OpeningLaws::increases_more))]
     fn add_key(&mut self, key: u32) -> Result<(), Cause>
         requires counts { Counts L.lines self.old }
         ensures takes { Takes (with_item L.lines (told self.old) (opens key)) (told self.new) result }
@@ -152,6 +147,7 @@ fn read_body<L: EventLine>(
     header: Header,
     text: &[u8],
 ) -> Result<Body<L>, LineFault>
+    requires { IsHeader header }
     ensures exact { Gives told result (lines_from (grammar L.lines version) first_line (no_lines header) (cut_at 10 text.now)) }
     ensures memory { IfErr result (λ e. e.cause ≡ Cause.Memory → IsGoodLine first_line (cut_at 10 text.now)
         (lines_from (grammar L.lines version) first_line (no_lines header) (cut_at 10 text.now)) e.line) }

@@ -3,6 +3,7 @@
 #![tactic(auto)]
 
 mod body; // reads opening keys and event lines
+mod content; // the type `Body`, which holds them
 mod draws; // random calls, and `programs` of calls
 mod gen_fault; // the errors of `generate` and `programs`
 mod generator; // `generate`, which draws a random schedule
@@ -10,7 +11,8 @@ mod schedule_reading; // `read_schedule`, from text to schedule
 mod schedule_writing; // `write_schedule`, from schedule to text
 mod value; // the type `Schedule` and its lines
 
-pub use body::{Body, EventLine, read_text};
+pub use body::{EventLine, read_text};
+pub use content::Body;
 pub use draws::programs;
 pub use gen_fault::GenFault;
 pub use generator::generate;

@@ -1,3 +1,4 @@
 pub mod Replaying
 pub mod Checking
 pub mod GenAnswers
+pub mod Drafts

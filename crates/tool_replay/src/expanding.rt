@@ -50,7 +50,8 @@ fn make_line<M: Machine>(world: &mut World<M>, line: DraftLine, left: u32) -> Re
 /// Creates the world of a draft (shared words and private states), before the first event.
 fn start_of<M: Machine>(alloc: Global, draft: &Draft) -> Result<World<M>, AllocError> {
     let keys = draft.opening.as_slice();
-    let Ok(layout) = layout_opening(draft.threads, draft.quota, keys.len() as u32) else {
+    let Ok(layout) = layout_opening(draft.header.threads, draft.header.quota, keys.len() as u32)
+    else {
         unreachable!();
     };
     World::<M>::opened(alloc, layout, keys)
@@ -110,13 +111,13 @@ impl Task for Expanding<'_> {
 pub fn schedule_of(alloc: Global, draft: &Draft) -> Result<Schedule, Trouble>
     ensures { IfOk result (λ s. HasWordsOfVersion (view s)) }
 {
-    let lines = on_list(draft.kind, Expanding { alloc, draft })?;
+    let lines = on_list(draft.header.kind, Expanding { alloc, draft })?;
     let opening = draft.opening.to_vec(alloc)?;
     Ok(Schedule {
         version: smallest_version(&opening, &lines),
-        kind: draft.kind,
-        threads: draft.threads,
-        quota: draft.quota,
+        kind: draft.header.kind,
+        threads: draft.header.threads,
+        quota: draft.header.quota,
         opening,
         lines,
     })

@@ -2,7 +2,7 @@ use Rattle.std.proofs.Common.{arith, ℕ, List, sym, ◌∙◌, Bor}
 use Rattle.std.proofs.lemmas.Bool.{eqb-true}
 use Rattle.std.proofs.lemmas.List.{nil_from_length}
 use Rattle.lset_schedule.proofs.BodyLoops.{key_told, not_due}
-use Rattle.lset_schedule.proofs.body.Body.key_due.Goals as goal
+use Rattle.lset_schedule.proofs.content.Body.key_due.Goals as goal
 
 pub returns-in-Two : goal.returns-in-Two
 returns-in-Two g c =
