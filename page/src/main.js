@@ -77,17 +77,13 @@ function takeEmpty() {
   held.render = render;
 }
 
-const NO_ENGINE = (cause) => `<h1 class="title">This browser does not run the lists</h1>
-  <p class="lead">Each step on this page is computed by a proved program, as WebAssembly, and this browser does not start it (${escaped(cause)}). Every
-  browser since 2024 can, unless WebAssembly is turned off. <a href="how-it-works.html">How the lists work</a> can be read without it.</p>`;
-
 async function startPage() {
   document.body.dataset.ready = "begun";
   Object.assign(VIEWS, SCENES, MAPS);
   try {
     held.engine = await startEngine();
   } catch (fault) {
-    byId("scene").innerHTML = NO_ENGINE(fault.message);
+    byId("scene").innerHTML = byId("no-engine").innerHTML.replace("CAUSE", escaped(fault.message));
     byId("bench").hidden = true;
   }
   if (held.engine !== null) await openPage();

@@ -78,10 +78,10 @@ function checkDocs(engine) {
 
 // Checks that each link to a page made from docs/ leads to an existing page and heading. One of the links must lead to the table of progress.
 function checkRead() {
-  const links = inPage("PAGES").map(([href]) => href);
-  check("Read leads to the table of progress", links.includes("tables.html#progress"));
   const text = fs.readFileSync(path.join(folder, "index.html"), "utf8");
-  for (const link of [...links, ...Array.from(text.matchAll(/href="(\w[\w-]*\.html#[^"]+)"/g), ([, href]) => href)]) {
+  const links = Array.from(text.matchAll(/href="(\w[\w-]*\.html(?:#[^"]+)?)"/g), ([, href]) => href);
+  check("Read leads to the table of progress", links.includes("tables.html#progress"));
+  for (const link of links) {
     const [file, heading] = link.split("#");
     const there = path.join(folder, file);
     const isThere = fs.existsSync(there) && (heading === undefined || fs.readFileSync(there, "utf8").includes(` id="${heading}"`));
@@ -315,7 +315,7 @@ function checkPresses(engine) {
   let seed = 7;
   const draw = (many) => (seed = (seed * 48271) % 2147483647) % many;
   for (const screen of inPage("SCREENS").flatMap((one) => [one, ...(one.parts ?? [])])) {
-    const { figure: { calls, ...spec } } = screen;
+    const { figure: { calls = {}, ...spec } } = screen;
     const run = new LiveRun(spec);
     const left = (one, thread) => calls[thread]?.slice(one.trace.calls.filter((call) => call.thread === thread && call.begun <= one.count).length) ?? [];
     const able = (one) => one.state.threads.map((_, thread) => thread).filter((thread) => !one.isIdle(thread) || left(one, thread).length > 0);

@@ -76,8 +76,8 @@ function checkAddresses() {
   const states = {
     "#example=snip&event=1": shown(EXAMPLE, TEXT),
     "#learn=one-lock&list=lock-free&threads=2&quota=4&s=b0.add.5&event=1": atScene("learn", "one-lock", TEXT),
-    "#break=3": atScene("break", "3", start),
-    "#break=3&list=lock-free&threads=2&quota=2&opening=3.7&s=b0.add.5&event=1": atScene("break", "3", `${start}begin 0 add 5\n`),
+    "#break=8": atScene("break", "8", start),
+    "#break=8&list=lock-free&threads=2&quota=2&opening=3.7&s=b0.add.5&event=1": atScene("break", "8", `${start}begin 0 add 5\n`),
     "#seed=lazy.2.5.2.17&event=1": shown({ kind: "seed", id: "lazy.2.5.2.17" }, TEXT),
     "#list=lock-free&threads=2&quota=4&s=b0.add.5&event=1": shown(OWN_TASK, TEXT),
     "#learn": atScene("learn", ""),

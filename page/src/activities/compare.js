@@ -5,17 +5,13 @@ import { toggleLecture } from "../page/play.js";
 import { now } from "../page/now.js";
 import { linkTo } from "../page/visit.js";
 import { addressOf, readAddress } from "../run/address.js";
-import { chipOf, escaped, listOptions, tag } from "../run/markup.js";
+import { chipOf, listOptions, tag } from "../run/markup.js";
 import { Figure, STILL } from "../story/figure.js";
 import { RunFault, ShownRun } from "../story/live_run.js";
 import { copyText, head, part, setScene, threadOfKey } from "../story/scene.js";
 import { programText, readProgram, Sides } from "../story/sides.js";
 
-const PRESETS = [
-  ["Who waits?", "#sides=coarse.lazy&quota=4&calls=0.add.5,1.contains.5&turns=0.0.0.0.1.1.1"],
-  ["Two removes of neighbours", "#sides=fine.optimistic&quota=4&opening=3.5.7&calls=0.remove.3,1.remove.7&turns=0.0.0.1.1.1"],
-  ["A reader beside a writer", "#sides=lazy.lock-free&quota=4&opening=3.5.7&calls=0.remove.5,1.contains.5&turns=0.0.0.0.0.1.1"],
-];
+const FIRST = "#sides=coarse.lazy&quota=4&calls=0.add.5,1.contains.5&turns=0.0.0.0.1.1.1";
 const PICTURE = '<header class="line"><h2></h2> <a class="small">Watch this run</a></header><div class="pair"></div>';
 const SIDES = ["one", "other"];
 const QUOTA = 4;
@@ -24,23 +20,16 @@ const sidesPart = (name) => byId(`sides-${name}`);
 const listsOf = ({ given }) => (given.sides ?? "coarse.lazy").split(".");
 
 function html(place) {
-  const preset = ([name, href]) => tag("a", { class: "button", href }, escaped(name));
   const choice = (name, at) => tag("label", {}, ["left ", "right "][at], tag("select", { id: `sides-${name}` }, listOptions(listsOf(place)[at])));
   const lead = `<p class="prose">Each turn executes the thread’s next step in both lists. A list that has finished the call waits for the other list. <a class="beside" href="tables.html#progress">Progress of each list: blocking, lock-free, wait-free</a></p>`;
-  return `<section class="screen on-stage">${head("", "The same calls on two lists: which one waits?", lead)}
-    <div id="sides-presets" class="line">${PRESETS.map(preset).join(" ")}<details id="sides-own"><summary>Your own program</summary><div class="line small">${SIDES.map(choice).join("")}
-      <label>initial keys <input id="sides-opening" spellcheck="false" placeholder="no keys" size="8"></label>
-      <label>calls <textarea id="sides-program" rows="2" cols="24" spellcheck="false"></textarea></label>
-      <button data-do="begin">Run this program</button> <button data-do="copy">Copy link</button></div></details></div>
-    <p id="scene-said" role="status"></p><div id="sides-pictures"></div></section>
-    <footer class="foot"><button class="quiet" data-do="back" aria-label="one turn back">◂</button>
-      <input id="sides-slider" type="range" min="0" value="0" aria-label="turn"> <span id="sides-where" class="small"></span> <span id="sides-turns"></span>
-      <button class="quiet" id="sides-lecture" data-do="lecture" title="show this as a single lecture slide; press Escape to go back">Lecture view</button></footer>`;
+  return `<section class="screen on-stage">${head("", "In which list does a call wait?", lead)}
+    <div id="sides-presets" class="line">${byId("sides-own-parts").innerHTML.replace("LISTS", SIDES.map(choice).join(""))}</div>
+    <p id="scene-said" role="status"></p><div id="sides-pictures"></div></section>${byId("sides-foot").innerHTML}`;
 }
 
 function begin({ given }) {
   /** @type {Record<string, string>} */
-  const { calls, turns = "", opening = "" } = { ...readAddress(PRESETS[0][1]).sides, ...given };
+  const { calls, turns = "", opening = "" } = { ...readAddress(FIRST).sides, ...given };
   const program = [];
   for (const call of calls.split(",").filter((one) => one !== "")) {
     const [thread, operation, key] = call.split(".");

@@ -13,15 +13,13 @@ import { callText, chipOf, escaped, letterOf } from "../run/markup.js";
 import { itemOf } from "../story/ask_branches.js";
 import { homeworkOf } from "../story/assignment.js";
 import { isNarrow } from "../story/figure_parts.js";
+import { listenToBars } from "../story/placing.js";
 import { keepJudged } from "../story/progress.js";
 
-const HALF_STEPS = { ArrowLeft: -0.5, ArrowDown: -0.5, ArrowRight: 0.5, ArrowUp: 0.5 };
-const SLIDER_KEYS = { ...HALF_STEPS, PageDown: -5, PageUp: 5, Home: -Infinity, End: Infinity };
 const judgePart = (name) => byId(`judge-${name}`);
 
 class Judging {
   answer = null; verdict = null;
-  held = null; // the call with the point that is being dragged
   tries = 0; // the number of refused answers
 
   get exercise() {
@@ -32,28 +30,9 @@ class Judging {
     const report = askNow("listset_replay", now.run.text);
     if (report.status !== 0) return say(`This run cannot be judged: ${escaped(report.text.trim())}.`);
     const exercise = exerciseOf(report.text, level);
-    Object.assign(this, { answer: new OwnAnswer(exercise), held: null, verdict: null, tries: 0 });
+    Object.assign(this, { answer: new OwnAnswer(exercise), verdict: null, tries: 0 });
     judgePart("level").value = level;
     dispatch("exercise", { exercise });
-  }
-
-  callAt(event) {
-    const id = event.target.closest("[data-call]")?.dataset.call;
-    return id === undefined ? null : this.exercise.calls[Number(id)];
-  }
-
-  grasp(event) {
-    const call = this.callAt(event);
-    if (call === null) return;
-    event.preventDefault();
-    judgePart("bars").setPointerCapture(event.pointerId);
-    this.held = call;
-    this.drag(event);
-  }
-
-  drag(event) {
-    const { left, width } = judgePart("bars").firstElementChild.getBoundingClientRect();
-    this.place(this.held, this.scale.momentAt(((event.clientX - left) * this.scale.width) / width));
   }
 
   place(call, at) {
@@ -62,16 +41,9 @@ class Judging {
     judgePart("bars").querySelector(`[data-call="${call.id}"]`).focus();
   }
 
-  press(event) {
-    const call = this.callAt(event);
-    const by = SLIDER_KEYS[event.key];
-    if (call === null || event.ctrlKey || event.altKey || event.metaKey) return;
-    if (event.key === "Delete" || event.key === "Backspace") {
-      this.answer.take(call);
-      this.changed();
-    } else if (by === undefined) return;
-    else this.place(call, this.answer.points.has(call.id) ? this.answer.points.get(call.id).at + by : call.begun);
-    event.preventDefault();
+  take(call) {
+    this.answer.take(call);
+    this.changed();
   }
 
   changed() {
@@ -174,9 +146,5 @@ export function listenToJudging() {
     dispatch("exercise", { exercise: null });
     byId("judge-begin").focus();
   };
-  const bars = judgePart("bars");
-  bars.onpointerdown = (event) => judging.grasp(event);
-  bars.onpointermove = (event) => judging.held !== null && judging.drag(event);
-  bars.onpointerup = bars.onpointercancel = () => (judging.held = null);
-  bars.onkeydown = (event) => judging.press(event);
+  listenToBars(judgePart("bars"), judging);
 }

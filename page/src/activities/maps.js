@@ -98,9 +98,7 @@ function judgeHtml() {
     const { title, question } = itemOf({ id: name });
     return { href: `#example=${name}&judge`, list: LIST_WORDS[kind], title, says: question, state };
   };
-  const words = `You see a run without its replies. Choose what each call returns, and when it takes effect: one moment between its start and its end. Your
-    answer is right if the replies are those of this run, and each is correct in the order of these moments. (A key is a number in the set. An add without a free node returns full.)`;
-  const top = `${lead(words)}<p class="line"><button data-do="recorded">Judge calls recorded from your own set ↓</button></p>`;
+  const top = `${byId("judge-words").innerHTML}<p class="line"><button data-do="recorded">Judge calls recorded from your own set ↓</button></p>`;
   const lists = Object.entries(LIST_WORDS).map(([kind, name]) => tag("option", { value: kind }, name)).join("");
   return `${head("", "Judge", top, "title")}<div class="start-row"><label>list <select id="judge-seed-list">${lists}</select></label>
     <label>run number <input id="judge-seed-number" type="number" min="1" max="999999999" placeholder="any"></label>
@@ -112,16 +110,9 @@ function openSeed() {
   location.hash = `#seed=${Number(number) > 0 ? seedOf(kind, Number(number)) : anotherSeed(null, kind)}&judge`;
 }
 
-export const PAGES = [
-  ["how-it-works.html", "How it works", "The five lists, from one lock to none, each with the runs that show why."],
-  ["classic.html", "The examples", "Eighteen runs, each with its question, the answer, and what goes wrong without the check."],
-  ["tables.html", "The step tables", "Each list row by row: what a step reads and writes, and which row comes next."],
-  ["tables.html#progress", "Progress: blocking, lock-free, wait-free", "Which calls of each list can block, and within how many steps a call ends."],
-];
-
 function readHtml() {
   const isAlone = document.body.dataset.alone !== undefined; // the page is a single file: the documents are not beside it
-  const pages = isAlone ? "" : cards(PAGES.map(([href, title, says]) => ({ href, list: "", title, says: escaped(says) })));
+  const pages = isAlone ? "" : byId("pages").innerHTML;
   return `${head("", "Read", "", "title")}${pages}<h2>Terms</h2><dl class="words card">${byId("terms").innerHTML}</dl>
     <h2>What is proved, and what is not</h2><div class="panel prose">${byId("proved").innerHTML}</div>`;
 }

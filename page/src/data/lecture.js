@@ -14,7 +14,7 @@ export const LECTURE = [
   [5, "LazyList: a mark", "#story=7&view=lecture", "Press B: it marks 5, and the node is still in the chain. What does A answer?",
     "false: with the mark, 5 has left the set. contains reads the mark and takes no lock."],
   [4, "In another thread’s step", "#ask=read-in-anothers-step&view=lecture", "A will return false. When is that correct?",
-    "Between B’s remove and B’s add, while A’s call was pending: it takes effect in a step of B."],
+    "From B’s mark to B’s link, 5 is not in the set, and A’s call is pending: it takes effect in B’s marking step."],
   [3, "Who waits?", "#sides=coarse.lazy&quota=4&calls=0.add.5,1.contains.5&turns=0.0.0.0.1.1.1&view=lecture", "A is stopped after four turns. Which list answers B?",
     "LazyList: its contains needs no lock. In CoarseList B tries the lock again and again."],
   [4, "LockFreeList: compare-and-set", "#story=9&view=lecture", "Two removes of 5, no lock. Who comes first? Let the class decide, by A and B.",
@@ -23,7 +23,7 @@ export const LECTURE = [
     "No: B unlinks 5 itself and links 7. A’s own attempt to unlink fails later, and A still returns true."],
   [3, "Everybody judges", "#seed=lock-free.2.3.1.5&judge&view=lecture",
     "Three calls of LockFreeList in 17 events. If the page is on a web server, everybody opens the address on the slide, and states what each call returns.",
-    "contains returns false, the add and the remove return true. The order: contains, add, remove."],
+    "In this run contains returns false, the add and the remove return true. The order: contains, add, remove. (On paper, contains true after the add is also right.)"],
 ];
 
 export const slideAddress = (number) => `#lecture=${number}`;

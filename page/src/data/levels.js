@@ -1,5 +1,5 @@
 // The levels of Break it, one for each list that lacks a check. A level states the missing check, wrong guesses at it with a reply to each, the first calls, how many
-// events and calls the shortest known run has, and the code to strike out. Links contain the position of a level, so a new level is added at the end.
+// events and calls the shortest known run has, and the code to strike out. Links and cards have the position of a level, so a new level is added at the end.
 
 export const BREAK_LEVELS = {
   lock: {
@@ -11,34 +11,6 @@ export const BREAK_LEVELS = {
     others: { "It releases the lock before it writes the arrow.": "it releases the lock only after that",
       "It writes the arrow of pred before that of its own node.": "it writes the arrow of its own node first" },
     start: [["add", 5], ["add", 4]], shortest: [20, 2], missing: [{ row: 1, part: "wait while it is held" }],
-  },
-  "mark-in-remove": {
-    story: "Two threads remove one key. One of them should find that it came too late.",
-    hints: ["Two removes of the same key, 3.",
-      "Let both threads find the node of 3 before either of them marks it.",
-      "Stop A before the step that sets the mark; let B set its own; then let both end."],
-    lacks: "A remove marks a node that is marked already.",
-    others: { "A remove takes its node out before it marks it.": "it marks the node first",
-      "A remove does not check whether its key is there.": "it compares curr.key with its key" },
-    start: [["remove", 3], ["remove", 3]], shortest: [14, 2], missing: [{ row: 9, part: "unmarked" }],
-  },
-  mark: {
-    story: "Removing a node is one compare-and-set here. Fast. Too fast?",
-    hints: ["Add 5, and remove the node in front of its place.",
-      "The pred of the add must be the node of 3, which the other thread removes.",
-      "Stop A before the step that links 5 in. Let B remove 3. Then one step of A."],
-    lacks: "A remove unlinks its node without marking it first.",
-    others: { "A remove marks a node that is marked already.": "it marks no node at all",
-      "An add writes its arrow without comparing.": "it compares with what it saw" },
-    start: [["add", 5], ["remove", 3]], shortest: [15, 2], missing: [{ row: 9, part: "CAS curr.next: succ unmarked → marked" }],
-  },
-  "new-slot": {
-    story: "Each key that is added needs a node of its own. Does it get one?",
-    hints: ["One thread is enough. It adds.", "Two adds of different keys, one after the other.", "Let A add 4, and then 5. Where is 4?"],
-    lacks: "An add writes into the node of its last key.",
-    others: { "An add does not check whether its key is there.": "it compares curr.key with its key",
-      "An add writes its arrow without comparing.": "it compares with what it saw" },
-    start: [["add", 4], ["add", 5]], shortest: [20, 2], missing: [{ row: 5, part: "new " }],
   },
   "second-lock": {
     story: "Hand over hand means two locks at a time. One kind of call here holds only one when it writes.",
@@ -70,6 +42,16 @@ export const BREAK_LEVELS = {
       "It does not check whether pred still points to curr.": "it checks that while it holds both locks" },
     start: [["add", 5], ["remove", 3]], shortest: [23, 2], missing: [{ row: 6, part: "walk from the head again" }, { row: 7, part: "until pred is met, else not valid" }],
   },
+  "same-node": {
+    story: "The second walk looks for pred. It meets a node that looks like it.",
+    hints: ["Three calls: an add of 5, and of the other thread a remove and an add of one key.",
+      "The node of 3 is unlinked, and another node of 3 is inserted.",
+      "Stop A before it locks pred, the old node of 3. Let B remove 3 and add 3 again. Then let A end."],
+    lacks: "The second walk looks for the key of pred, and not for the node itself.",
+    others: { "It does not walk a second time.": "it walks from the head again, with its locks",
+      "It does not lock pred.": "it locks pred and curr" },
+    start: [["add", 5], ["remove", 3]], shortest: [36, 3], missing: [{ row: 7, part: "pred is met" }],
+  },
   "marks-in-validation": {
     story: "Marks are set here. Does every call read them?",
     hints: ["An add of 5 beside a remove of 3, its neighbour.",
@@ -81,6 +63,26 @@ export const BREAK_LEVELS = {
     start: [["add", 5], ["remove", 3]], shortest: [25, 2],
     missing: [{ row: 6, part: "pred unmarked," }, { row: 7, part: "and curr unmarked" }],
   },
+  "mark-in-remove": {
+    story: "Two threads remove one key. One of them should find that it came too late.",
+    hints: ["Two removes of the same key, 3.",
+      "Let both threads find the node of 3 before either of them marks it.",
+      "Stop A before the step that sets the mark; let B set its own; then let both end."],
+    lacks: "A remove marks a node that is marked already.",
+    others: { "A remove takes its node out before it marks it.": "it marks the node first",
+      "A remove does not check whether its key is there.": "it compares curr.key with its key" },
+    start: [["remove", 3], ["remove", 3]], shortest: [14, 2], missing: [{ row: 9, part: "unmarked" }],
+  },
+  mark: {
+    story: "Removing a node is one compare-and-set here. Fast. Too fast?",
+    hints: ["Add 5, and remove the node in front of its place.",
+      "The pred of the add must be the node of 3, which the other thread removes.",
+      "Stop A before the step that links 5 in. Let B remove 3. Then one step of A."],
+    lacks: "A remove unlinks its node without marking it first.",
+    others: { "A remove marks a node that is marked already.": "it marks no node at all",
+      "An add writes its arrow without comparing.": "it compares with what it saw" },
+    start: [["add", 5], ["remove", 3]], shortest: [15, 2], missing: [{ row: 9, part: "CAS curr.next: succ unmarked → marked" }],
+  },
   "mark-in-add": {
     story: "A marked arrow must not change. One call changes it all the same.",
     hints: ["Add 5, and remove the node in front of its place.",
@@ -91,16 +93,6 @@ export const BREAK_LEVELS = {
       "An add does not check whether its key is there.": "it compares curr.key with its key" },
     start: [["add", 5], ["remove", 3]], shortest: [17, 2], missing: [{ row: 7, part: "unmarked" }],
   },
-  "same-node": {
-    story: "The second walk looks for pred. It meets a node that looks like it.",
-    hints: ["Three calls: an add of 5, and of the other thread a remove and an add of one key.",
-      "The node of 3 is unlinked, and another node of 3 is inserted.",
-      "Stop A before it locks pred, the old node of 3. Let B remove 3 and add 3 again. Then let A end."],
-    lacks: "The second walk looks for the key of pred, and not for the node itself.",
-    others: { "It does not walk a second time.": "it walks from the head again, with its locks",
-      "It does not lock pred.": "it locks pred and curr" },
-    start: [["add", 5], ["remove", 3]], shortest: [36, 3], missing: [{ row: 7, part: "pred is met" }],
-  },
   "mark-at-key": {
     story: "A marked node can stay in the chain for a while. Which call reads it there?",
     hints: ["Three calls: an add of 5, a remove of 7, and then a contains of 7.",
@@ -110,6 +102,14 @@ export const BREAK_LEVELS = {
     others: { "A remove does not mark its node.": "it marks the node before it unlinks it",
       "A contains stops before it comes to its key.": "it walks on while curr.key is below its key" },
     start: [["add", 5], ["remove", 7]], shortest: [26, 3], missing: [{ row: 22, part: "and unmarked" }],
+  },
+  "new-slot": {
+    story: "Each key that is added needs a node of its own. Does it get one?",
+    hints: ["One thread is enough. It adds.", "Two adds of different keys, one after the other.", "Let A add 4, and then 5. Where is 4?"],
+    lacks: "An add writes into the node of its last key.",
+    others: { "An add does not check whether its key is there.": "it compares curr.key with its key",
+      "An add writes its arrow without comparing.": "it compares with what it saw" },
+    start: [["add", 4], ["add", 5]], shortest: [20, 2], missing: [{ row: 5, part: "new " }],
   },
   "mark-in-ceiling": {
     story: "ceiling(2) asks for the smallest key from 2 on. It takes the first node that it finds. Any node?",
@@ -132,10 +132,8 @@ export const BREAK_LEVELS = {
   },
 };
 
-export const TEN = ["lock", "second-lock", "hand-over-hand", "second-walk", "same-node", "marks-in-validation", "mark-in-remove", "mark",
-  "mark-in-add", "mark-at-key"];
-export const THREE_MORE = ["new-slot", "mark-in-ceiling", "mark-in-contains"];
 const NUMBERED = Object.keys(BREAK_LEVELS);
+export const [TEN, THREE_MORE] = [NUMBERED.slice(0, 10), NUMBERED.slice(10)];
 export const numberOfLevel = (name) => NUMBERED.indexOf(name) + 1;
 export const levelOfNumber = (number) => NUMBERED[Number(number) - 1];
 export const whyWrong = (name, sentence) => `No: ${BREAK_LEVELS[name].others[sentence]}. Step with the code open: one line is not executed as it is written.`;

@@ -2,6 +2,7 @@
 import { lastMoment, nameOfCall } from "../run/judged.js";
 import { callText, chipOf, colourOf, escaped, label, tag, title } from "../run/markup.js";
 import { recordedInWords } from "../run/recorded.js";
+import { drawContents } from "./tables.js";
 import { drawLane, HISTORY_LEFT, layLabels, ROW_HEIGHT, signOf, SMALL_GROWN, widthOf } from "./history.js";
 
 const JUDGE_RIGHT = 20;
@@ -94,6 +95,13 @@ function drawWhen(call, at, y, scale) {
   const isRoomy = (room) => room >= SLOT_WIDTH;
   if (isRoomy(rightOf(call, scale) - x)) return label({ x: x + 11, y: y + 5 }, momentInWords(at));
   return isRoomy(x - leftOf(call, scale)) ? label({ x: x - 11, y: y + 5, "text-anchor": "end" }, momentInWords(at)) : "";
+}
+
+// Draws the contents of the set between the moments that the reader has chosen.
+export function drawOwnSet(answer, scale) {
+  const changing = answer.order().filter(({ call, reply }) => call.operation !== "contains" && reply === "true");
+  const changes = changing.map(({ call, at }) => ({ number: at, [call.operation === "add" ? "put" : "took"]: call.key }));
+  return drawContents({ opening: answer.exercise.opening, lacks: null, total: scale.last, changes }, { ...scale, first: 1, count: 0, now: Infinity, grown: 1 });
 }
 
 export function drawJudged(judged) {

@@ -8,7 +8,7 @@
  * @typedef {"lecture" | "embed" | "list" | "history" | null} PageView
  * @typedef {{ activity: string, screen: "stage" | "scene", id: string, given: Record<string, string>, view: PageView, slide: number }} Place
  * @typedef {"" | "task" | "again" | "guess" | "playing" | "moment" | "done"} Stage
- * @typedef {{ stage: Stage, chosen: number | null, note: string, text: string, hints: number, at: number, branches: any[], wrong: string[] }} Scene
+ * @typedef {{ stage: Stage, chosen: number | null, note: string, text: string, hints: number, at: number, moments: [number, number][], branches: any[], wrong: string[] }} Scene
  * @typedef {{ text: string, trace: any, state: any, count: number, isRun: boolean }} Run
  * @typedef {{ kind: "own" | "example" | "seed", id: string }} Task
  * @typedef {{ hides: boolean, letters: boolean }} Prefs
@@ -19,7 +19,7 @@
 export const OWN_TASK = { kind: "own", id: "" };
 
 /** @type {Scene} */
-const SCENE_AT_FIRST = { stage: "", chosen: null, note: "", text: "", hints: 0, at: 0, branches: [], wrong: [] };
+const SCENE_AT_FIRST = { stage: "", chosen: null, note: "", text: "", hints: 0, at: 0, moments: [], branches: [], wrong: [] };
 
 /** @returns {State} */
 export const stateAtFirst = () => ({

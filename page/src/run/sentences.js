@@ -36,9 +36,9 @@ function effectText({ trace, event }, hidden) {
 }
 
 function openingText(trace) {
-  if (trace.opening.length === 0) return "Before the first event the list is empty, and every thread is idle. Its nodes will be n0, n1 and so on.";
+  if (trace.opening.length === 0) return "Before the first event the list is empty, and every thread is idle.";
   const some = trace.opening.slice(0, 20).join(", ");
-  return `Before the first event the set is {${some}${trace.opening.length > 20 ? ", …" : ""}}, and every thread is idle. The nodes are n0, n1 and so on.`;
+  return `Before the first event the set is {${some}${trace.opening.length > 20 ? ", …" : ""}}, and every thread is idle.`;
 }
 
 // Moves a state to the moment after the first `count` events of its trace. Returns the last event and the registers of its thread before the event.

@@ -76,13 +76,13 @@ export const QUESTIONS = [
   {
     name: "read-in-anothers-step", list: "lazy", title: "In another’s step", opening: [5], isTimed: true,
     lines: ["begin 0 contains 5", "go 0 2", "begin 1 remove 5", "go 1 out", "begin 1 add 5", "go 1 out"], rest: ["go 0 1"],
-    question: "A asks contains(5). Whenever A took a step, 5 was in the set, and it is in now. A is about to return false. When is that correct?",
+    question: "A asks contains(5). Whenever A took a step, 5 was in the set, and it is in now. A is about to return false. When is A’s false correct?",
     options: [
       { text: "Never: it is a bug", says: "It looks like one. But A’s call is also pending while A is paused." },
-      { text: "Between B’s remove and B’s add", right: true, says: "" },
+      { text: "After B’s mark, before B links 5 in again", right: true, says: "" },
       { text: "When A answers", says: "Then 5 is in the set, in a new node." },
     ],
-    why: "<b>Between B’s two calls.</b> There 5 was not in the set, and A’s call was pending. It takes effect there, at a step of B. If you look only at A’s own steps, you find no such moment and would call a correct list wrong.",
+    why: "<b>From B’s mark to B’s link, 5 was not in the set,</b> and A’s call was pending. A’s call takes effect in the step in which B marks 5. If you look only at A’s own steps, you find no such moment and would call a correct list wrong.",
   },
   {
     name: "two-removers", list: "lock-free", title: "Two removers", opening: [5],
@@ -100,7 +100,7 @@ export const QUESTIONS = [
   {
     name: "snip", list: "lock-free", title: "A remover that stops", opening: [5],
     lines: ["begin 0 remove 5", "go 0 to 10"], rest: ["begin 1 add 7", "go 1 out", "go 0 out"], calls: { 1: [["add", 7]] },
-    question: "A has marked 5, and stops before it unlinks the node. B wants to add 7 just behind it. Does B have to wait?",
+    question: "A has marked 5, and stops before it unlinks the node. B wants to add 7 just behind it. Does B have to wait for A?",
     options: [
       { text: "Yes, until A has unlinked 5", says: "If A never resumed, B would wait forever. In this list no thread waits." },
       { text: "No: it links 7 behind 5", says: "Then 7 would be unlinked together with 5." },

@@ -8,6 +8,7 @@ import { NO_TASK } from "../run/broken.js";
 import { counted, escaped, inLetters, tag } from "../run/markup.js";
 import { handInText, NAMED, readSchedule, solutionLine } from "../course/hand_in.js";
 import { triedCourse } from "../course/lesson.js";
+import { byId } from "../page/dom.js";
 import { saveText } from "../page/files.js";
 import { askNow, now } from "../page/now.js";
 import { addressOfAssignment } from "../page/visit.js";
@@ -118,13 +119,7 @@ function itemOf({ kind, title, says, href }, isDone) {
   return tag("li", { class: isDone ? "done" : "" }, tag("a", { class: "task", href }, tick, words));
 }
 
-const HAND = ({ student, number }, count) => `<section class="panel hand" id="hand"><h2>Hand in</h2>
-  <div class="line"><label>Name <input id="hand-student" autocomplete="name" value="${escaped(student)}"></label>
-  <label>Student number <input id="hand-number" inputmode="numeric" value="${escaped(number)}"></label>
-  <button data-do="copy">Copy the text</button><button data-do="save">Save as a file</button>
-  <button class="quiet" data-do="afresh">Start afresh on this computer</button></div>
-  <p class="small" id="scene-said" role="status">${count === 0 ? "No task is solved yet. Solved tasks are added to this text, and your teacher’s page runs each of them again." : `The text has your ${counted(count, "solution")}. Your teacher’s page runs ${count === 1 ? "it" : "each of them"} again.`}</p>
-  <details><summary>See the text</summary><pre id="hand-text"></pre></details></section>`;
+const handHtml = (count) => byId("hand-parts").innerHTML.replace("WORDS", count === 0 ? "No task is solved yet. Solved tasks are added to this text, and your teacher’s page runs each of them again." : `The text has your ${counted(count, "solution")}. Your teacher’s page runs ${count === 1 ? "it" : "each of them"} again.`);
 
 function html(place) {
   const { tasks, unknown, lines, done } = doneOf(place);
@@ -133,19 +128,19 @@ function html(place) {
   const due = place.given.due === undefined ? "" : `<p class="due"><b>Due: ${escaped(place.given.due.slice(0, 40))}</b></p>`;
   const lead = `${due}<p class="lead">${counted(tasks.length, "task")}, ${done.length} done in this browser. Come back by the same link: what is done stays ticked.</p>
     <progress max="${tasks.length || 1}" value="${done.length}" aria-label="${done.length} of ${tasks.length} done"></progress>${wrong}
-    <p class="small">New to this? <a href="#story=1">Why not just one lock?</a> Twenty minutes, from nothing.</p>`;
+    <p class="small">New to this? <a href="#story=1">Why not just one lock?</a> 18 minutes, from nothing.</p>`;
   const verb = done.length === 0 ? "Begin" : "Go on";
   const next = (task) => tag("a", { class: "button primary", href: task.href }, `${verb}: ${escaped(task.title)} →`);
   const bar = first === undefined ? foot(tasks.length === 0 ? "No task." : "All done.", '<button class="primary" data-do="hand">Hand in ↑</button>') : foot("", next(first));
   const lacksName = ({ id, kind }) => kind === "Break" && lines[id] !== undefined && !lines[id].endsWith(` ${NAMED}`);
   const items = tasks.map((task) => itemOf({ ...task, says: lacksName(task) ? "Broken. Now name the missing check too." : task.says }, lines[task.id] !== undefined));
   const title = head("Assignment", escaped(titleOfAssignment(place)), lead, "title");
-  return `${title}${tag("ol", { class: "tasks" }, ...items)}${HAND(keptStory(), done.length)}${bar}`;
+  return `${title}${tag("ol", { class: "tasks" }, ...items)}${handHtml(done.length)}${bar}`;
 }
 
 function begin({ id, given }) {
   keepStory({ homework: { id, given } }); // the tasks of the assignment link back to it
-  for (const name of ["student", "number"]) part(`#hand-${name}`).oninput = fill;
+  for (const name of ["student", "number"]) Object.assign(part(`#hand-${name}`), { value: keptStory()[name], oninput: fill });
   fill();
 }
 

@@ -1,5 +1,6 @@
 // The activity Step by the code: the reader begins any calls, and each line of the code is a button. The address contains the run.
 import { LISTS } from "../../made/rows.js";
+import { byId } from "../page/dom.js";
 import { now } from "../page/now.js";
 import { addressOfCode, linesOfCode, linkTo, SET_OF_CODE, START_OF_CODE } from "../page/visit.js";
 import { tag } from "../run/markup.js";
@@ -17,14 +18,10 @@ const openingOf = ({ given: { opening, s } }) => (opening === undefined ? (s ===
 function html(place) {
   const list = listOf(place);
   const tab = ([kind, name]) => tag("button", { class: "small", "data-do": "list", "data-list": kind, "aria-pressed": kind === list }, name);
-  const prose = `<p class="prose">Each thread’s letter marks the line that the thread executes next. Press that line to execute it. Press another line, and
-    the thread runs to it. Let an idle thread begin any call.</p>`;
-  return `${onStage(`${head("", "Press a line, and its thread executes it.", prose)}
+  return `${onStage(`${head("", "Press a line, and its thread executes it.", byId("code-words").innerHTML)}
     <div class="line"><span class="branches">${Object.entries(LIST_WORDS).map(tab).join("")}</span>
     <label class="small">begins with <input id="code-opening" value="${openingOf(place).join(" ")}" size="8"></label></div>
-    <p id="code-said" class="again" role="status" hidden></p>`)}
-    <footer class="foot"><span class="small" id="scene-said" role="status"></span><span class="spread"></span>
-    <button class="quiet" data-do="copy">Copy link</button><button class="primary" data-do="step">Step</button></footer>`;
+    <p id="code-said" class="again" role="status" hidden></p>`)}${byId("code-foot").innerHTML}`;
 }
 
 function figureOf(place, lines) {

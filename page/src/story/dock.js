@@ -61,11 +61,12 @@ export function showStrip(figure) {
   const { run } = figure;
   const wide = Math.max(250, figure.stripWide / zoomOf(figure));
   const grown = isLecture() ? GROWN : figure.spec.isPath ? 1 : wide < 450 ? SMALL_GROWN : WIDE_GROWN;
+  figure.part("strip").style.cssText = `--zoom:${zoomOf(figure)};--grown:${grown}`;
+  if (figure.spec.places) return figure.placing?.draw(figure.part("strip"), wide);
   const room = 26 + 9 * grown * `{${run.promised().join(", ")}}`.length; // pixels right of the last event, for the keys of the set
   const scale = scaleOf(run.trace, run.count, wide - room, figure.hides, isLow(figure), grown);
   Object.assign(scale, { edge: scale.edge + room, width: wide });
   figure.scale = scale;
-  figure.part("strip").style.cssText = `--zoom:${zoomOf(figure)};--grown:${grown}`;
   setHtml(figure.part("strip"), tag("div", { class: "calls" }, drawCalls(run.trace, scale)) + drawContents(run.trace, scale) + legendOf(figure.spec));
 }
 const isLow = ({ spec }) => (isLecture() ? spec.prompt !== false : innerHeight < 760 && !spec.isPath); // (the narrow bars of two lists have no room for labels)

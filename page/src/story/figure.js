@@ -37,6 +37,7 @@ export class Figure {
   /** @type {(value?: any) => void} */
   wake = () => {}; // ends the wait between two steps
   onShown = null; onStep = null; onFork = null;
+  placing = null; // the bars of a task to place moments
 
   /** @param {any} box @param {import("./live_run.js").RunSpec & { [name: string]: any }} spec */
   constructor(box, spec) {

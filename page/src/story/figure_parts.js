@@ -4,6 +4,7 @@ import { arranged } from "../draw/places.js";
 import { drawStage } from "../draw/stage.js";
 import { isLecture, isSceneSlide } from "../page/now.js";
 import { callText, colourOf, letterOf } from "../run/markup.js";
+import { isLock } from "../run/outcomes.js";
 import { momentAt } from "../run/sentences.js";
 import { scrollToLine, setHtml } from "../page/dom.js";
 import { drawOwnCode } from "./code.js";
@@ -53,17 +54,21 @@ function scrollSoon(figure, moved) {
     if (figure.isEnded) return;
     scrollToTouched(figure);
     scrollToLit(figure, moved);
-    if (figure.spec.strip) scrollToLane(figure);
+    if (figure.spec.strip && !figure.spec.places) scrollToLane(figure);
   });
 }
 
+const isOwnRelease = ({ word, deed, thread }, own) => thread === own && deed === "store" && isLock(word);
+
+// Returns the sentence about the shown event. On the path, a call that returns with a release of its locks shows the sentence about the step before.
 function saidHere({ run, spec }, moment) {
   if (spec.sentence) return spec.sentence(moment);
   if (moment.event === null) return spec.says ?? "";
-  const isOfLock = spec.plain === true && moment.event.word === "list.lock";
-  if (!isOfLock || moment.event.answer === undefined) return saidOf(moment, spec);
-  const { answer, call } = moment.event;
-  const before = saidOf(momentAt(run.state, run.count - 1), spec);
+  const { answer, call, thread } = moment.event;
+  let count = run.count;
+  while (isOwnRelease(run.trace.event(count), thread)) count--;
+  if (count === run.count || spec.isPath !== true || answer === undefined || run.trace.event(count).thread !== thread) return saidOf(moment, spec);
+  const before = saidOf(momentAt(run.state, count), spec);
   run.state.moveTo(run.count);
   return `${before} <b>${callText(call)} returns ${answer}.</b>`;
 }

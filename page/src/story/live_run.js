@@ -46,10 +46,10 @@ export class ShownRun {
 
 /**
  * A run to begin with. `lines` are the first lines of the schedule; lines of a draft are allowed. In a `free` run, the reader can begin any call. A `plain`
- * run ignores the list's lock and does not show it. One press executes the rows in `joined` together with the row before
- * them, unless the run is `free` and not `plain`.
+ * run ignores the list's lock and does not show it. One press executes the rows in `joined`, of every call or by operation, together with
+ * the row before them, unless the run is `free` and not `plain`.
  * @typedef {{ list: string, lacks?: string | null, threads?: number, quota?: number, opening?: number[], lines?: string[], version?: number,
- *   free?: boolean, plain?: boolean, joined?: number[] }} RunSpec
+ *   free?: boolean, plain?: boolean, joined?: number[] | Record<string, number[]> }} RunSpec
  */
 export class LiveRun extends ShownRun {
   /** @param {RunSpec} spec */
@@ -117,7 +117,8 @@ export class LiveRun extends ShownRun {
   chunk(trace, begun, row) {
     const { list, plain, joined = [] } = this.spec;
     const phase = phaseAt(list, row, plain);
-    const rows = this.spec.free && !plain ? [] : [...joinedRows(list, plain), ...joined];
+    const own = Array.isArray(joined) ? joined : joined[trace.event(begun + 1).call.operation] ?? [];
+    const rows = this.spec.free && !plain ? [] : [...joinedRows(list, plain), ...own];
     let last;
     let steps = 0;
     let before = row;

@@ -1,7 +1,8 @@
 // For lecturers: a second window with the notes of the current slide, and a printable handout.
-import { LECTURE, slideAddress } from "../data/lecture.js";
+import { LECTURE } from "../data/lecture.js";
 import { drawJudged, judgeScale } from "../draw/judged_bars.js";
 import { drawStage } from "../draw/stage.js";
+import { byId } from "../page/dom.js";
 import { HERE, keptUnder } from "../page/kept.js";
 import { askNow, now } from "../page/now.js";
 import { linkTo } from "../page/visit.js";
@@ -20,13 +21,8 @@ const numberIn = (address) => Number(/^#lecture=(\d+)$/.exec(address ?? "")?.[1]
 const minutesTo = (number) => LECTURE.slice(0, number).reduce((sum, [minutes]) => sum + minutes, 0);
 const twoDigits = (count) => String(count).padStart(2, "0");
 
-function notesHtml() {
-  return `${head("Notes to the slides", "", '<p id="notes-says" class="lead"></p><p id="notes-answer" class="prose"></p><p id="notes-next" class="prose"></p>', "title")}
-    <p class="clock" role="timer"><b id="notes-clock"></b> <span id="notes-plan" class="small"></span></p>
-    <p class="small">Keep this window on your own screen. In this browser it follows the slides; ← and → turn its pages by hand. If you are late, N on a slide opens the next one.</p>
-    ${foot('<a class="button quiet" href="#teachers">For teachers</a>', `<button data-do="restart">Restart</button>
-      <a class="button primary" target="_blank" href="${slideAddress(1)}">Open the slides ↗</a>`)}`;
-}
+const notesHtml = () =>
+  head("Notes to the slides", "", '<p id="notes-says" class="lead"></p><p id="notes-answer" class="prose"></p><p id="notes-next" class="prose"></p>', "title") + byId("notes-parts").innerHTML;
 
 const follow = ({ key }) => {
   const number = key === HERE ? numberIn(keptUnder(HERE)) : 0;
@@ -73,7 +69,7 @@ export const notesView = {
   deeds: { restart: () => ((clock.began = Date.now()), drawClock()) },
 };
 
-// ---- The handout: each screen of the path with its initial list, its question, and lines to write on.
+// ---- The handout: for each slide its picture, its question, and lines to write on.
 const ROOM = { wide: 720, high: 190, hides: ["succ"] };
 
 function pictureOf(figure) {
@@ -82,40 +78,47 @@ function pictureOf(figure) {
   return drawStage(run.state, null, { ...ROOM, slots, flat, lock: lockShown(figure) }, `h${figure.list}${figure.slots}${run.lines.length}`);
 }
 
-const onPaper = (task) =>
-  task.replace(/^Press A and B in/, "Write").replace("an order that", "an order of A and B that").replace(/^Press [^.]* until (A’s|its) call returns\./, "Let A run until its call returns, and draw the list.");
+const onPaper = (task) => task.replace(/^Press A and B in/, "Write").replace("an order that", "an order of A and B that").replace(/^Press A and B until/, "Let A and B run until");
 
-/** @param {any} sheet */
-function sheetOf({ question, prose, drawn, ask, options = [] }) {
+/** @param {any} screen */
+function sheetOfScreen({ prose, figure, ask, options, task }) {
+  return { prose, drawn: pictureOf(figure), ask: ask ?? onPaper(task), options };
+}
+
+function sheetOfItem({ question, list, opening, lines, options }) {
+  const [prose, ask] = partsOfQuestion(question);
+  return { prose, drawn: pictureOf({ list, opening, lines, slots: 4 }), ask, options };
+}
+
+function sheetOfSides() {
+  const stopped = Object.entries({ coarse: "One lock", lazy: "Lazy" }).map(([list, text]) => ({ text, drawn: pictureOf({ list, lines: ["begin 0 add 5", "go 0 3"], slots: 2 }) }));
+  const prose = "A has begun add(5), has made three steps, and is stopped: above in the list with one lock, below in the lazy list.";
+  return { prose, drawn: stopped.map(({ drawn }) => drawn).join(""), ask: "B calls contains(5). Which list answers B?", options: stopped };
+}
+
+function sheetOfSeed(seed) {
+  const exercise = exerciseOf(askNow("listset_replay", scheduleOfSeed(askNow, seed)).text, "replies");
+  const drawn = drawJudged({ exercise, answer: new OwnAnswer(exercise), verdict: null, scale: judgeScale(exercise, ROOM.wide), count: 0 });
+  const ask = "Write a reply to each call, and mark the moment when it takes effect. In the order of your moments, every reply must be correct.";
+  return { prose: `Three calls on the set {${exercise.opening.join(", ")}}, each from its start to its end.`, drawn, ask };
+}
+
+/** @param {any[]} slide */
+function sheetOf([, title, address], at) {
+  const { story, ask: name, seed } = Object.fromEntries(new URLSearchParams(address.slice(1)));
+  /** @type {any} */
+  const sheet = story ? sheetOfScreen(SCREENS[Number(story) - 1]) : name ? sheetOfItem(QUESTIONS.find((item) => item.name === name)) : seed ? sheetOfSeed(seed) : sheetOfSides();
+  const { prose, drawn, ask, options = [] } = sheet;
   const choices = options.length === 0 ? "" : tag("ol", { class: "choices" }, ...options.map(({ text }) => tag("li", {}, text)));
-  return `<section class="sheet"><h2>${question}</h2><p>${prose}</p><div class="list">${drawn}</div>
+  return `<section class="sheet"><h2>${at + 1}. ${title}</h2><p>${prose}</p><div class="list">${drawn}</div>
     <p><b>${ask}</b></p>${choices}<p class="lines-to-write" aria-hidden="true"></p></section>`;
 }
-
-/** @param {any} screen @param {number} at */
-const sheetOfScreen = ({ question, prose, figure, ask, options, task }, at) =>
-  sheetOf({ question: `${at + 1}. ${question}`, prose, drawn: pictureOf(figure), ask: ask ?? onPaper(task), options });
-
-// Returns the sheets of the slides that show neither a screen of the path nor its like.
-function sheetsOfSlides() {
-  const questionOf = (number) => `Slide ${number}: ${LECTURE[number - 1][1]}`;
-  const stopped = Object.entries({ coarse: "One lock", lazy: "Lazy" }).map(([list, text]) => ({ text, drawn: pictureOf({ list, lines: ["begin 0 add 5", "go 0 3"], slots: 2 }) }));
-  const waits = { prose: "A has begun add(5), has made three steps, and is stopped: above in the list with one lock, below in the lazy list.", drawn: stopped.map(({ drawn }) => drawn).join(""), ask: "B calls contains(5). Which list answers B?", options: stopped };
-  const item = QUESTIONS.find(({ name }) => name === "snip");
-  const [prose, ask] = partsOfQuestion(item.question);
-  const helps = { prose, drawn: pictureOf({ list: item.list, opening: item.opening, lines: item.lines, slots: 4 }), ask, options: item.options };
-  const exercise = exerciseOf(askNow("listset_replay", scheduleOfSeed(askNow, SEED)).text, "replies");
-  const judged = { exercise, answer: new OwnAnswer(exercise), verdict: null, scale: judgeScale(exercise, ROOM.wide), count: 0 };
-  const everybody = { prose: `Three calls on the set {${exercise.opening.join(", ")}}, each from its start to its end.`, drawn: drawJudged(judged), ask: "Write a reply to each call, and mark the moment when it takes effect. In the order of your moments, every reply must be correct." };
-  return [waits, helps, everybody].map((sheet, at) => sheetOf({ ...sheet, question: questionOf([8, 10, 11][at]) }));
-}
-const [, SEED] = /seed=([^&]+)/.exec(LECTURE.at(-1)[2]);
 
 export const handoutView = {
   kind: "handout",
   title: () => "Handout · Why not just one lock?",
-  html: () => `${head("Handout: the screens of the path", "Why not just one lock?", warningOf(linkTo("")) === "" ? `<p class="small">${linkTo("#story=1")}</p>` : "", "title")}
-    ${[...SCREENS.flatMap((screen) => [screen, ...(screen.parts ?? [])]).map(sheetOfScreen), ...sheetsOfSlides()].join("")}
+  html: () => `${head("Handout to the slides", "Why not just one lock?", warningOf(linkTo("")) === "" ? `<p class="small">${linkTo("#story=1")}</p>` : "", "title")}
+    ${LECTURE.map(sheetOf).join("")}
     ${foot('<a class="button quiet" href="#teachers">For teachers</a>', '<button class="primary" data-do="print">Print</button>')}`,
   deeds: { print: () => print() },
 };

@@ -1,30 +1,32 @@
 // Shows the path, one screen at a time. Each screen has a task or a question. "Show me" presses the next button of a solution.
 import { byId } from "../page/dom.js";
-import { letterOf } from "../run/markup.js";
 import { isLecture, now } from "../page/now.js";
+import { showStrip } from "./dock.js";
 import { Figure } from "./figure.js";
 import { keepStory, keptStory, startAfresh } from "./progress.js";
 import { waysOn } from "./live_run.js";
 import { SCREENS } from "./path.js";
-import { barHtml, dots, drawBar, endHtml, GONE, HERO, LAST, openContents, promptOf, welcome } from "./path_parts.js";
-import { drawLedger, head, isOddRun, numberOfKey, onStage, openScene, part, pressThread, scene, setScene, takeFigure, showPrompt, threadOfKey } from "./scene.js";
+import { barHtml, dots, drawBar, endHtml, GONE, LAST, promptOf, welcome } from "./path_parts.js";
+import { Placing } from "./placing.js";
+import { drawLedger, head, numberOfKey, onStage, openScene, part, pressThread, scene, setScene, takeFigure, showPrompt } from "./scene.js";
 import { toSlide } from "./slide.js";
 
 // The address names a screen and a part of it: #story=4 is the first part of screen 4, #story=4.2 the second.
 const placeIn = ({ id }) => {
   const [number, at = "1"] = id.split(".");
-  return { number: Math.max(1, Math.min(LAST, Number(number) || 1)), at: Number(at) };
+  return { number: Math.max(1, Math.min(LAST, Number(number) || 1)), at };
 };
 const partsOf = (number) => {
   const screen = SCREENS[number - 1];
   return screen === undefined ? [null] : [screen, ...(screen.parts ?? []).map((one) => ({ id: screen.id, ...one }))];
 };
+const partName = (screen) => screen?.at ?? "1";
 const screenOf = (place) => {
   const { number, at } = placeIn(place);
-  return partsOf(number)[at - 1];
+  return partsOf(number).find((screen) => partName(screen) === at);
 };
 const here = () => screenOf(now.place);
-const PLACES = Array.from({ length: LAST }, (_, index) => partsOf(index + 1).map((_, at) => (at === 0 ? `${index + 1}` : `${index + 1}.${at + 1}`))).flat();
+const PLACES = Array.from({ length: LAST }, (_, index) => partsOf(index + 1).map((screen) => `${index + 1}.${partName(screen)}`.replace(/[.]1$/, ""))).flat();
 
 function goBy(by) {
   if (now.place.slide > 0) return toSlide(by); // a slide has only the first part of a screen
@@ -34,14 +36,14 @@ function goBy(by) {
 }
 
 function html(place) {
-  const { number, at } = placeIn(place);
+  const { number } = placeIn(place);
   const { done } = keptStory();
   const screen = screenOf(place);
   const path = dots(number, done) + (place.given.gone === "yes" ? GONE : place.given.back === "yes" ? welcome(done) : "");
   if (screen === null) return path + endHtml(done);
   const question = head("", screen.question, `<p class="prose">${screen.prose}</p>`);
   const isFirst = number === 1;
-  return path + onStage(isFirst ? `<div class="two">${HERO}${question}</div>` : question, isFirst ? "first" : "") + barHtml(number, at);
+  return path + onStage(isFirst ? `<div class="two">${byId("hero").innerHTML}${question}</div>` : question, isFirst ? "first" : "") + barHtml(isFirst);
 }
 
 function begin(place) {
@@ -51,8 +53,8 @@ function begin(place) {
   const isGuess = screen.ask !== undefined;
   const figure = takeFigure(new Figure(part("#figure"), { ...screen.figure, isPath: true, restart: screen.play && (() => openScene(now.place)) }));
   Object.assign(figure, { onStep: looked, onShown: redrawLedger });
-  figure.box.classList.toggle("hides-points", screen.figure.hidesPoints === true);
-  setScene({ stage: isGuess ? "guess" : "task" });
+  if (screen.figure.places) figure.placing = new Placing(figure, placed);
+  setScene({ stage: isGuess ? "guess" : screen.figure.places ? "moment" : "task" });
   if (isGuess) figure.set({ isOpen: false, isGuess: true });
 }
 
@@ -61,6 +63,7 @@ function draw(state) {
   if (screen === null || state.stage === "") return;
   if (state.stage !== "done" || part(".reveal") === null) showPrompt(promptOf(screen, state, scene.figure)); // the reader can step on after the reveal
   drawBar(state.stage, placeIn(now.place).number, screen.onWords);
+  if (scene.figure.placing !== null) showStrip(scene.figure);
   byId("scene").dataset.stage = state.stage;
 }
 
@@ -81,65 +84,49 @@ function looked() {
   if (stage === "done" && (met !== null || screen.goal === undefined)) return focusOn();
   if (met?.again !== undefined) startOver(met.again);
   else if (met !== null) done();
-  else if (screen.ledger && waysFrom(scene.figure, FEW) === null) startOver(HOPELESS);
-  else setScene({ stage: "task", note: screen.ledger && isOddRun(scene.figure.run) ? noteAtFault(scene.figure) : "" }); // (also after Undo)
+  else if (isToBreak(screen) && waysFrom(scene.figure, FEW) === null) startOver(HOPELESS);
+  else setScene({ stage: "task", note: "" }); // (also after Undo)
 }
 
-// Tells a reader who has reached the fault how to end the run.
-function noteAtFault(figure) {
-  const pending = figure.shown.filter((thread) => !figure.run.isIdle(thread) || figure.left(thread).length > 0).map(letterOf);
-  return `There is the fault: compare the two rows. Now press ${pending.join(" and ")} until ${pending.length > 1 ? "both calls return" : "its call returns"}.`;
-}
-
+const isToBreak = ({ ledger, figure }) => ledger === true && figure.lacks !== undefined;
 const FEW = 30; // states that are searched after each press, to report early that nothing can go wrong any more
 const HOPELESS = "From here nothing can go wrong any more.";
 const startOver = (why) => setScene({ stage: "again", note: `${why} Start over. ${here().hint}` });
 const waysFrom = ({ spec, run }, most) => waysOn(spec, run.lines, spec.calls, most);
 
 async function guessed(index) {
-  const screen = here();
-  const { figure } = scene;
   if (now.scene.stage !== "guess") return;
-  figure.isGuess = false;
   setScene({ stage: "playing", chosen: index });
-  if (screen.playTask !== undefined) {
-    setScene({ stage: "task" });
-    return figure.set({ isOpen: true });
-  }
-  figure.set({ isOpen: true, isPlayed: true });
+  scene.figure.set({ isOpen: true, isPlayed: true, isGuess: false });
   return playOn();
 }
 
-// Plays a screen after the guess: [thread] presses once, [thread, "out"] until the thread's call returns. On a slide, each press waits for a key.
+// Plays a screen after the guess: presses of the threads in `play`. On a slide, each press waits for a key.
 async function playOn() {
   const { figure } = scene;
-  const { play, then } = here();
+  const { play } = here();
   const { at } = now.scene;
-  const [thread, many] = play[at];
-  await figure.step(thread);
+  await figure.step(play[at]);
   if (!isLecture()) await figure.rest();
   if (scene.figure !== figure) return;
-  const next = many !== "out" || figure.run.isIdle(thread) ? at + 1 : at;
-  setScene({ at: next });
-  if (next < play.length) return isLecture() || playOn();
+  setScene({ at: at + 1 });
+  if (at + 1 < play.length) return isLecture() || playOn();
   figure.set({ isPlayed: false });
-  if (then === undefined) return done();
-  setScene({ stage: "moment" });
-  openContents(figure, pressedMoment);
+  done();
 }
 
-function pressedMoment(contents, index) {
+// Takes the moments that the reader has placed. Once all are placed, `check` accepts or refuses them.
+function placed(moments) {
   if (now.scene.stage !== "moment") return;
-  if (contents !== "{}") return setScene({ note: here().then.wrong });
-  const { figure } = scene;
-  const stretches = figure.part("strip").querySelectorAll(".content");
-  stretches.forEach((stretch) => stretch.classList.remove("press"));
-  stretches[index].classList.add("found");
-  const middleOf = (part) => part.getBBox().x + part.getBBox().width / 2;
-  figure.box.classList.remove("hides-points");
-  const by = middleOf(stretches[index].querySelector("rect")) - middleOf(figure.part("strip").querySelector(".hole"));
-  figure.part("strip").querySelectorAll(".point:has(.hole), .stem.thread-0").forEach((drawn) => drawn.setAttribute("transform", `translate(${by})`)); // to the pressed time
-  done();
+  setScene({ moments, note: "" });
+  const verdict = scene.figure.placing.verdict();
+  if (verdict?.isRight) done();
+  else if (verdict !== null) setScene({ note: verdict.says });
+}
+
+function saidNone() {
+  if (here().hasNone) done();
+  else setScene({ note: here().again });
 }
 
 function done() {
@@ -153,20 +140,21 @@ function done() {
 // Stores that a part of a screen is finished. The screen is finished when all its parts are, apart from the extra ones.
 function keepPart({ number, at }, { id }) {
   const done = { ...keptStory().done, [`${id}.${at}`]: true };
-  if (partsOf(number).every(({ isExtra }, index) => isExtra || done[`${id}.${index + 1}`])) done[id] = true;
+  if (partsOf(number).every((screen) => screen.isExtra || done[`${id}.${partName(screen)}`])) done[id] = true;
   keepStory({ done });
 }
 
 function focusOn() {
-  const isElsewhere = () => document.activeElement.closest(":is(button, a, input, [tabindex='0']):not(.again button, .content)")?.getClientRects().length > 0; // (a low window hides the buttons of threads)
+  const isElsewhere = () => document.activeElement.closest(":is(button, a, input, [tabindex='0']):not(.again button, [role=slider])")?.getClientRects().length > 0; // (a low window hides the buttons of threads)
   if (!isLecture()) setTimeout(() => isElsewhere() || part("#go-on")?.focus({ preventScroll: true })); // after the key press, which would press the button too
 }
 
 // Returns the thread to press next to complete the task. If the task can fail, a search finds the thread; otherwise the screen's `help` lists the presses.
-function nextPress(figure, { help, ledger }) {
-  if (ledger) return waysFrom(figure, Infinity)?.[0];
+function nextPress(figure, screen) {
+  const { help } = screen;
+  if (isToBreak(screen)) return waysFrom(figure, Infinity)?.[0];
   const isOver = (thread) => figure.run.isIdle(thread) && figure.left(thread).length === 0;
-  return [...help.slice(figure.past.length).map(([thread]) => thread), ...figure.shown].find((thread) => !isOver(thread));
+  return [...help.slice(figure.past.length), ...figure.shown].find((thread) => !isOver(thread));
 }
 
 async function showMe() {
@@ -178,8 +166,10 @@ async function showMe() {
   const { stage } = now.scene;
   if (stage === "guess") return guessed(-1);
   else if (stage === "playing" && isLecture()) return playOn();
-  else if (stage === "moment") pressedMoment("{}", 1);
-  else if (stage === "again") figure.again();
+  else if (stage === "moment") {
+    setScene({ moments: figure.run.trace.order.map(({ id, at }) => [id, at]) });
+    done();
+  } else if (stage === "again") figure.again();
   else if (stage === "task") {
     const next = nextPress(figure, here());
     if (next !== undefined) return figure.step(next);
@@ -188,15 +178,12 @@ async function showMe() {
 }
 
 function press(event) {
-  const { number, at } = placeIn(now.place);
+  const { number } = placeIn(now.place);
   const { stage } = now.scene;
-  if (event.key === "ArrowLeft" && (number > 1 || at > 1)) return goBy(-1);
+  if (event.key === "ArrowLeft" && number > 1) return goBy(-1);
   if (["ArrowRight", "PageDown"].includes(event.key) && number < LAST) return stage === "done" && goBy(1);
   if (stage === "guess" && numberOfKey(event) !== -1 && numberOfKey(event) < here().options.length) guessed(numberOfKey(event));
-  else {
-    if (isLecture() && stage === "guess" && here().playTask !== undefined && threadOfKey(event) !== -1) guessed(-1);
-    pressThread(event);
-  }
+  else pressThread(event);
 }
 
 async function goes(by) {
@@ -223,5 +210,5 @@ export const pathView = {
   fault: ({ id }) => (id === "" || PLACES.includes(id) ? null : `the path has no screen "${id}"`),
   title: (place) => `${screenOf(place)?.question ?? "So, why not just one lock?"} · Why not just one lock?`,
   html, begin, draw, press, goes,
-  deeds: { answer: ({ dataset }) => guessed(Number(dataset.option)), show: showMe, on: () => goBy(1), back: () => goBy(-1), afresh: startAfresh },
+  deeds: { none: saidNone, answer: ({ dataset }) => guessed(Number(dataset.option)), show: showMe, on: () => goBy(1), back: () => goBy(-1), afresh: startAfresh },
 };

@@ -22,10 +22,7 @@ function lectureHtml() {
       tag("button", { class: "quiet", "data-do": "link", "data-link": slideAddress(at + 1) }, "Copy link"));
   const sum = LECTURE.reduce((total, [minutes]) => total + minutes, 0);
   return `<section class="panel" id="slides"><h2>A lecture of ${sum} minutes</h2>
-    <p class="prose">Each slide is as large as the screen. A presenter’s keys, the arrows and Space go on and back, through all of them; N opens
-    the next slide at once; A and B let a thread step; Escape leads back here. Ask the class first, then step. The project has no licence yet: show the
-    slides, link to them, and print the handout for your class, but ask before you copy more.</p>
-    <p class="line"><a class="button" target="_blank" href="#notes">Notes and a clock, for your own screen ↗</a><a class="button" target="_blank" href="#handout">A handout to print: the path ↗</a></p><ol class="plan">${LECTURE.map(slide).join("")}</ol></section>`;
+    ${byId("lecture-parts").innerHTML}<ol class="plan">${LECTURE.map(slide).join("")}</ol></section>`;
 }
 
 const titleOf = (name) => QUESTIONS.find((item) => item.name === name).title;
@@ -34,11 +31,7 @@ const snippetOf = (name) =>
 
 function embedHtml() {
   const option = ({ name, title, list }) => tag("option", { value: name }, `${title} (${LISTS[list].name})`);
-  return `<section class="panel" id="embed"><h2>A question in your own page</h2>
-    <p class="prose">The question, the list, the answers, then the run: in 800 × 420 pixels, for a course page or a blog.</p>
-    <div class="line"><label>Question <select id="embed-which">${QUESTIONS.map(option).join("")}</select></label>
-    <button data-do="snippet">Copy the snippet</button></div><pre id="embed-text" class="snippet" tabindex="0"></pre>
-    <div class="frame"><iframe id="embed-frame" width="800" height="420" title="how it looks" loading="lazy"></iframe></div></section>`;
+  return byId("embed-parts").innerHTML.replace("OPTIONS", QUESTIONS.map(option).join(""));
 }
 
 function beginEmbed() {
@@ -50,22 +43,6 @@ function beginEmbed() {
   };
   which.onchange();
 }
-
-export const OWN_COURSE = `listset-course 1
-course Monday
-lesson first
-title A key that is gone
-list lazy
-threads 2
-quota 0
-opening 5
-question
-  Let a contains of thread 0 answer false, although 5 was in the set when it began: thread 1 removes it meanwhile.
-goal
-  call C of 0: contains, key 5, answers false
-  call R of 1: remove, key 5, answers true, begins after C, ends during C
-  say The contains of thread 0 answers false. A remove of thread 1 begins after it, and answers true while it is pending.
-`;
 
 // ---- Homework: the ticked lessons, levels and numbered runs are packed into one link.
 const FIRST_NUMBER = 17;
@@ -89,13 +66,7 @@ function homeworkHtml() {
     <div class="line"><label class="wide-label">Title <input id="hw-title" value="${escaped(work.title)}" maxlength="60"></label>
     <label class="wide-label">Due (optional; students see it) <input id="hw-due" type="date" value="${work.due}"></label></div>
     <div class="columns">${picks("learn", "Solve", lessons)}${picks("break", "Break", levels)}
-    <fieldset><legend>Judge: numbered runs</legend><p class="small">All students get the same run and state what each call returns and when it
-      takes effect.</p><div class="line"><select id="hw-kind" aria-label="list of the run">${listOptions("lazy")}</select>
-      <input id="hw-number" type="number" min="1" max="9999" value="${FIRST_NUMBER}" aria-label="number of the run">
-      <button data-do="add">Add this run</button></div><ul id="hw-seeds"></ul></fieldset></div>
-    <div class="made-link"><p id="hw-count" class="small" role="status"></p><pre id="hw-link" class="snippet" tabindex="0"></pre>
-    <div class="line"><button class="primary" data-do="copy">Copy the link</button>
-    <a id="hw-open" class="button" target="_blank">Open it as a student ↗</a></div></div></section>`;
+    ${byId("homework-runs").innerHTML.replace("LISTS", listOptions("lazy"))}</div>${byId("homework-link").innerHTML}</section>`;
 }
 
 const ticked = (kind) => [...part("#homework").querySelectorAll(`[data-kind=${kind}]:checked`)].map(({ value }) => value);
@@ -128,19 +99,11 @@ function tickAll({ dataset }) {
   fill();
 }
 
-const OWN = `<section class="panel" id="own"><h2>Lessons of your own</h2>
-  <p class="prose">A course is a text file. Each lesson has a question, a list, its initial keys, and the conditions that a solution meets. Write it under Solve,
-  “Courses”: it names errors by their lines, and makes a link with the whole course in it. The start of a lesson must not reach its goal. If
-  the line after the list is <code>lacks</code> and the name of a check, the lesson is solved by breaking that list. <a class="button" href="#learn">Open Solve</a></p>
-  <details><summary>A course of one lesson</summary><pre class="snippet" tabindex="0">${escaped(OWN_COURSE)}</pre></details>
-  <h2>A computer that others use too</h2><p class="prose">Names and solutions are kept in the browser. <button data-do="afresh">Start afresh</button>
-  deletes all of them.</p></section>`;
-
 function html() {
   const jump = ([id, name]) => tag("button", { class: "quiet", "data-do": "jump", "data-panel": id }, name);
   const lead = `<p class="lead">A lecture of 45 minutes, figures for your own pages, homework as a single link, and automatic checking of hand-ins.
     No account, no server: all of it happens in the browser.</p><p class="jump">${Object.entries(PANELS).map(jump).join("")}</p>`;
-  return `${head("", "For teachers", lead, "title")}${lectureHtml()}${embedHtml()}${homeworkHtml()}${byId("handins-parts").innerHTML}${OWN}
+  return `${head("", "For teachers", lead, "title")}${lectureHtml()}${embedHtml()}${homeworkHtml()}${byId("handins-parts").innerHTML}${byId("own-parts").innerHTML}
     <footer class="foot"><span id="scene-said" class="small" role="status"></span><span class="spread"></span>
     <button class="quiet" data-do="jump" data-panel="homework">Homework</button><button class="quiet" data-do="jump" data-panel="handins">Hand-ins</button></footer>`;
 }

@@ -134,7 +134,7 @@ def test_a_self_loop_does_not_cross_its_key(visitor):
 
 
 def test_a_run_that_does_not_break_the_list_is_reported(visitor):
-    visitor.open("#break=2")
+    visitor.open("#break=7")
     visitor.step("aaabbbababab")
     assert "not broken this time" in visitor.text("#prompt") and visitor.is_seen("[data-again]")
 

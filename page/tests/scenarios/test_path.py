@@ -18,7 +18,7 @@ def test_a_first_visit_opens_the_path(visitor):
     assert visitor.title.startswith("How does a thread add 5")
 
 
-@pytest.mark.parametrize("number", ["1", "2", "3", "4", "4.2", "4.3", "4.4", "4.5", "5", "6", "7", "7.2", "8", "9", "9.2"])
+@pytest.mark.parametrize("number", ["1", "2", "3", "4", "4.2", "4.2b", "4.3", "4.3b", "4.4", "4.5", "5", "6", "7", "7.2", "8", "8.2", "9", "9.2"])
 def test_pressing_show_me_leads_through_each_story(visitor, number):
     visitor.open(f"#story={number}")
     for _ in range(60):
@@ -33,7 +33,7 @@ def test_pressing_show_me_leads_through_each_story(visitor, number):
     assert visitor.script("const it = document.querySelector('.lines'); return it === null || it.closest('details').open === false || it.scrollHeight <= it.clientHeight")
 
 
-@pytest.mark.parametrize(("keys", "lost"), [("abbbaa", 6), ("baaabb", 5), ("abaabb", 5), ("aabbba", 6)])
+@pytest.mark.parametrize(("keys", "lost"), [("abba", 6), ("baab", 5), ("abab", 5), ("baba", 6)])
 def test_each_way_to_lose_a_number_is_shown(visitor, keys, lost):
     visitor.open("#story=2")
     visitor.step(keys)
@@ -44,7 +44,7 @@ def test_each_way_to_lose_a_number_is_shown(visitor, keys, lost):
 
 def test_a_run_without_a_loss_is_reported_and_can_be_undone(visitor):
     visitor.open("#story=2")
-    visitor.step("aaabbb")
+    visitor.step("aabb")
     assert "nothing is lost" in visitor.text("#prompt") and visitor.text("#show-me") == "Start over"
     visitor.click("[data-undo]")
     assert "nothing is lost" not in visitor.text("#prompt")
@@ -62,9 +62,9 @@ def test_the_last_press_focuses_the_next_button_and_can_be_undone(visitor):
 
 def test_each_fast_press_makes_its_own_steps(visitor):
     visitor.open("#story=2")
-    visitor.press("a", "b", "a", "a")
+    visitor.press("a", "b", "a")
     visitor.idle()
-    assert visitor.inside("return listsets.scene.figure.past.length") == 4 and "add(5) returns true" in visitor.text(".said")
+    assert visitor.inside("return listsets.scene.figure.past.length") == 3 and "add(5) returns true" in visitor.text(".said")
 
 
 SENTENCES = """window.told = []; const said = document.querySelector(".said");
@@ -72,7 +72,7 @@ SENTENCES = """window.told = []; const said = document.querySelector(".said");
         .observe(said, { subtree: true, childList: true, characterData: true })"""
 
 
-@pytest.mark.parametrize(("address", "keys"), [("#story=2", "abaabb"), ("#story=5", "aabb"), ("#story=4.2", "aaab")])
+@pytest.mark.parametrize(("address", "keys"), [("#story=2", "abab"), ("#story=5", "aba"), ("#story=4.2", "aab")])
 def test_each_step_of_fast_presses_is_seen(visitor, address, keys):
     told = []
     for pressed in (visitor.step, lambda keys: visitor.press(*keys)):
@@ -88,7 +88,7 @@ def test_each_step_of_fast_presses_is_seen(visitor, address, keys):
         assert all(after - before > 100 for (_, before), (_, after) in zip(told[1], told[1][1:]))
 
 
-@pytest.mark.parametrize(("address", "keys"), [("#story=4.3", "bbbaaaabbb"), ("#story=4.2", "aaaabb"), ("#story=3", "3")])
+@pytest.mark.parametrize(("address", "keys"), [("#story=4.3", "aab"), ("#story=4.2", "aab"), ("#story=3", "3")])
 def test_no_button_says_that_a_thread_starts_again(visitor, address, keys):
     visitor.open(address)
     visitor.script("""window.labels = []; new MutationObserver(() => document.querySelectorAll(".step").forEach((it) => window.labels.push(it.innerText)))
@@ -127,9 +127,9 @@ def test_enter_continues_after_the_focused_button_is_hidden(visitor):
 def test_buttons_do_not_move(visitor):
     visitor.open("#story=5")
     places = set()
-    for key in "abbba":
+    for key in "aba":
         visitor.step(key)
-        places.add(visitor.script("return document.querySelector('[data-step=\"1\"]').getBoundingClientRect().top"))
+        places.add(visitor.script("return document.querySelector('[data-step=\"0\"]').getBoundingClientRect().top"))
     assert len(places) == 1
 
 
@@ -148,29 +148,29 @@ def test_the_story_shows_why_two_locks_are_needed(visitor):
     guess(visitor, "2")
     visitor.click("#go-on")
     visitor.wait("return location.hash === '#story=4.2'")
-    visitor.step("aaaabb")
+    visitor.step("aab")
     visitor.revealed()
-    assert visitor.text(".why b") == "The remove of 8 is lost: B’s call returned true, and 8 is still in the list."
+    assert visitor.text(".why b") == "8 is still in the list, although remove(8) returned true."
     assert visitor.text(".ledger .odd") == "8" and visitor.is_seen(".list .lost")
     visitor.click("[data-undo]")
     assert not visitor.is_seen(".reveal") and not visitor.is_seen(".list .lost")
     visitor.step("b")
     visitor.revealed()
-    visitor.click(".why a", "Three more questions")
-    visitor.wait("return location.hash === '#story=4.3'")
-    visitor.step("bbbaaaabbb")
-    visitor.revealed()
-    assert visitor.text(".why b").startswith("8 is lost") and visitor.is_seen(".ledger .gap")
-    visitor.click("#go-on")
+    for number, keys, word in (("4.2b", "aba", "Both numbers are out"), ("4.3", "aab", "8 is lost"), ("4.3b", "aba", "A remove locks two nodes")):
+        visitor.click("#go-on")
+        visitor.wait("return location.hash === `#story=${arguments[0]}`", number)
+        visitor.step(keys)
+        visitor.revealed()
+        assert word in visitor.text(".why") and visitor.is_seen(".ledger .gap") == (number == "4.3")
+    visitor.click(".why a", "Two more questions")
     visitor.wait("return location.hash === '#story=4.4'")
     guess(visitor, "2")
     assert "B wants the lock of 3, but A holds it." in visitor.text(".said") and "one lock is enough for an add" in visitor.text(".why")
     visitor.click("#go-on")
     visitor.wait("return location.hash === '#story=4.5'")
     visitor.step("abbbaa")
-    assert "Now press A and B until both calls return." in visitor.text("#prompt") and visitor.text(".ledger .gap") == "no 5"
-    visitor.step("ab")
     visitor.revealed()
+    assert visitor.text(".ledger .gap") == "no 5"
     assert visitor.text(".why b").startswith("5 is lost") and visitor.is_seen(".list .lost")
     visitor.click("#go-on")
     visitor.wait("return location.hash === '#story=5'")
@@ -181,13 +181,22 @@ def test_the_path_leads_past_the_extra_questions(visitor):
     guess(visitor, "2")
     visitor.click("#go-on")
     visitor.wait("return location.hash === '#story=4.2'")
-    visitor.step("aaaabb")
-    visitor.revealed()
-    visitor.click("#go-on")
-    visitor.wait("return location.hash === '#story=5'")
+    for number, keys in (("4.2b", "aab"), ("4.3", "aba"), ("4.3b", "aab"), ("5", "aba")):
+        visitor.step(keys)
+        visitor.revealed()
+        visitor.click("#go-on")
+        visitor.wait("return location.hash === `#story=${arguments[0]}`", number)
     assert visitor.script("return document.querySelectorAll('.dots a')[3].className") == "done"
     visitor.press("Left")
-    visitor.wait("return location.hash === '#story=4.2'")
+    visitor.wait("return location.hash === '#story=4.3b'")
+
+
+@pytest.mark.parametrize(("number", "keys"), [("4.2b", "aba"), ("4.2b", "ba"), ("4.3b", "aba"), ("4.3b", "ba")])
+def test_two_locks_lose_nothing_in_any_order(visitor, number, keys):
+    visitor.open(f"#story={number}")
+    visitor.step(keys)
+    visitor.revealed()
+    assert "in any order" in visitor.text(".why b") and not visitor.is_seen(":is(.ledger .gap, .ledger .odd, .list .lost)")
 
 
 def test_a_screen_is_finished_when_all_its_parts_are(visitor):
@@ -219,7 +228,7 @@ def test_the_second_press_of_a_double_press_skips_nothing(visitor):
 
 
 def test_a_reply_does_not_reveal_the_answer_before_it_is_seen(visitor):
-    for number, key in ((3, "1"), (3, "3"), (9, "2")):
+    for number, key in ((3, "1"), (3, "3")):
         visitor.open(f"#story={number}")
         visitor.press(key)
         assert visitor.text(".you").endswith("Let us see.") and not visitor.is_seen(":is(.right, .wrong)"), (number, key)
@@ -228,27 +237,15 @@ def test_a_reply_does_not_reveal_the_answer_before_it_is_seen(visitor):
     assert visitor.text(".you").startswith("How far does B get? You said: to its answer.")
 
 
-def test_a_reader_at_the_fault_learns_what_to_press(visitor):
-    for address, keys, threads in (("#story=4.2", "aaab", "A and B"), ("#story=4.3", "bbbaaab", "A and B"), ("#story=5", "abbbbaa", "A")):
-        visitor.open(address)
-        said = ""
-        for key in keys + "ab":
-            if not visitor.is_seen(".reveal"):
-                visitor.step(key)
-                said += visitor.text("#prompt")
-        assert "There is the fault: compare the two rows. Now press" in said, address
-
-
 def test_the_sentence_about_a_change_stays_until_the_next_press(visitor):
     visitor.open("#story=4.2")
-    visitor.step("aaa")
-    assert visitor.text(".said") == "A makes the head point to 8: 7 is unlinked."
-    assert visitor.text("[data-step='0']").startswith("release, and return")
+    visitor.step("aa")
+    assert visitor.text(".said") == "A makes the head point to 8: 7 is unlinked. remove(7) returns true."
 
 
 def test_the_label_of_a_press_names_each_of_its_deeds(visitor):
-    for address, keys, words in (("#story=6", "aa", "walk, then lock pred and curr"), ("#story=7.2", "aa", "walk, then lock pred and curr"), ("#story=7", "", "walk to 5, read its mark, return"),
-                                 ("#story=4.2", "a", "read the next node"), ("#story=4.3", "b", "lock the next node")):
+    for address, keys, words in (("#story=6", "a", "release; walk and lock once more"), ("#story=7.2", "a", "release; walk and lock once more"), ("#story=7", "", "walk to 5, read its mark, return"),
+                                 ("#story=4.2", "a", "change the arrow of pred, return"), ("#story=4.3b", "ab", "lock 7, unlink it, return"), ("#story=9.2", "aa", "unlink 5 for B, then link 6 in")):
         visitor.open(address)
         visitor.step(keys)
         assert words in visitor.text(".dock"), address
@@ -263,16 +260,16 @@ def test_show_a_step_continues_from_the_current_event(visitor):
                 break
             visitor.click("#show-me")
             visitor.idle()
-        assert "lost" in visitor.text(".why b") or "no longer in the list" in visitor.text(".why b"), address
+        assert visitor.is_seen(".list .lost"), address
     visitor.open("#story=5")
-    visitor.step("aabb")  # A holds its locks before B has removed anything, so no key can be lost any more
+    visitor.step("aa")  # A holds its locks before B has removed anything, so no key can be lost any more
     assert "Start over" in visitor.text("#prompt") and visitor.text("#show-me") == "Start over"
     visitor.click("#show-me")
     assert not visitor.is_seen("[data-undo]") and visitor.text("#show-me") == "Show a step"
 
 
 def test_a_mark_warns_an_add_and_a_thread_helps(visitor):
-    for address, told, word in (("#story=6", "pred is no longer in the list", "the second walk saved it"), ("#story=7.2", "sees a mark on its pred", "the mark warned A"), ("#story=9.2", "5 is unlinked", "6 is not lost")):
+    for address, told, word in (("#story=6", "pred is no longer in the list", "the second walk saved it"), ("#story=7.2", "sees a mark on its pred", "the mark warned A"), ("#story=9.2", "5, which is marked", "6 is not lost")):
         visitor.open(address)
         seen = ""
         while not visitor.is_seen(".reveal"):
@@ -333,38 +330,50 @@ def test_a_link_to_the_current_place_restarts_it(visitor):
     assert "You said: up to A." in visitor.text(".reveal")
 
 
-def test_the_reader_finds_the_moment_before_it_is_shown(visitor):
-    visitor.open("#story=8")
-    visitor.press("2")
-    visitor.wait("return document.querySelectorAll('.content.press').length === 3")
-    assert visitor.script("return [...document.querySelectorAll('.strip .point')].every((it) => getComputedStyle(it).display === 'none')")
-    for at in (0, 2):
-        visitor.script("document.querySelectorAll('.content')[arguments[0]].focus()", at)
-        visitor.press("Enter")
-        assert "5 was in the set" in visitor.text("#prompt")
-    visitor.script("document.querySelectorAll('.content')[1].focus()")
-    visitor.press("Enter")
-    visitor.revealed()
-    definition = "Each call appears to take effect at one moment between its start and its end, and in the order of these moments every answer is the one a set used by one thread would give."
-    assert "linearizable" in visitor.text(".reveal") and definition in visitor.text(".why")
-    assert visitor.script("""const at = (what) => document.querySelector(what).getBoundingClientRect();
-        const [found, ring] = [at(".content.found rect"), at(".point .hole")];
-        return ring.left > found.left + 4 && ring.right < found.right""")
+def place(visitor, call, part):
+    """Presses the bar of a call, at a part of its width from the left."""
+    left, top, wide, high = visitor.script("""const box = document.querySelector(`.strip [data-call="${arguments[0]}"] rect`).getBoundingClientRect();
+        return [box.left, box.top, box.width, box.height]""", call)
+    visitor.point(left + part * wide, top + high / 2)
 
 
-def test_tab_visits_the_moments_of_the_set(visitor):
+SETS = "return [...document.querySelectorAll('.strip .content text')].map((it) => it.textContent)"
+DEFINITION = "Each call appears to take effect at one moment between its start and its end, and in the order of these moments every answer is the one a set used by one thread would give."
+
+
+def test_the_reader_places_the_moment_of_each_call(visitor):
     visitor.open("#story=8")
-    visitor.press("2")
-    visitor.wait("return document.querySelectorAll('.content.press').length === 3")
-    at = "return [...document.querySelectorAll('.content')].indexOf(document.activeElement)"
-    visitor.script("document.querySelector('.content').focus()")
-    visitor.press("Tab")
-    assert visitor.script(at) == 1
-    visitor.press("Shift+Tab")
-    assert visitor.script(at) == 0
-    visitor.press("Tab", "Enter")
+    assert visitor.script(SETS) == ["{5}"]
+    for call, part in ((0, 0.1), (1, 0.5), (2, 0.5)):
+        place(visitor, call, part)
+    assert visitor.script(SETS) == ["{5}", "{}", "{5}"]
+    assert "contains(5) of A cannot return false there" in visitor.text("#prompt") and visitor.is_seen(".strip .clash")
+    visitor.click("[data-do=none]")
+    assert "There are such moments" in visitor.text("#prompt")
+    place(visitor, 0, 0.95)
+    assert "the set is {5}" in visitor.text("#prompt")
+    place(visitor, 0, 0.5)
     visitor.revealed()
-    assert "linearizable" in visitor.text(".reveal")
+    assert visitor.text(".why b").startswith("No bug") and not visitor.is_seen(".strip .clash")
+
+
+def test_the_reader_finds_calls_without_moments(visitor):
+    visitor.open("#story=8.2")
+    for call, part in ((0, 0.5), (1, 0.5), (2, 0.2), (2, 0.9)):
+        place(visitor, call, part)
+    assert "contains(5) of A cannot return false there" in visitor.text("#prompt")
+    visitor.click("[data-do=none]")
+    visitor.revealed()
+    assert "linearizable" in visitor.text(".why") and DEFINITION in visitor.text(".why")
+
+
+def test_moments_are_placed_by_keys(visitor):
+    visitor.open("#story=8")
+    for call, keys in ((0, ["Home"] + 8 * ["Right"]), (1, ["Home", "Right"]), (2, ["End"])):
+        visitor.script("document.querySelector(`.strip [data-call='${arguments[0]}']`).focus()", call)
+        visitor.press(*keys)
+    visitor.revealed()
+    assert visitor.text(".why b").startswith("No bug")
 
 
 def test_steps_follow_the_code(visitor):
@@ -427,7 +436,7 @@ def test_the_path_works_on_a_phone(visitor, number):
 def test_a_slide_follows_a_presenters_keys(visitor):
     visitor.open("#story=2&view=lecture")
     assert not visitor.is_seen("#top") and not visitor.is_seen(".dots")
-    for _ in range(8):
+    for _ in range(6):
         visitor.press("PageDown")
         visitor.idle()
     visitor.wait("return location.hash.startsWith('#lecture=2')")
