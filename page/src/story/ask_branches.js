@@ -15,11 +15,12 @@ export const isEmbed = () => now.place.view === "embed";
 export function takeBranch({ lines, opening, lacks = null, isFree = false }) {
   const item = itemOf(now.place);
   const calls = isFree ? {} : item.calls;
+  const opensCode = part("#figure .codebox")?.open;
   return takeFigure(new Figure(freshBox(), {
     list: item.list, lacks, lines, calls, threads: item.threads ?? 2, quota: item.quota ?? 4, opening: opening ?? item.opening,
-    operations: operationsIn(item), hidden: { hides: item.hides },
+    operations: operationsIn(item), hidden: item.hides && { hides: item.hides.slice(1), instead: { [item.hides[0]]: "validate: …" } },
     strip: true, scrub: true, again: false, free: isFree, isTimed: item.isTimed, slots: 5,
-    code: !isEmbed(), codeTitle: LIST_WORDS[item.list], codeNote: BREAK_LEVELS[lacks]?.lacks ?? "", struck: BREAK_LEVELS[lacks]?.missing,
+    code: !isEmbed(), opensCode, codeTitle: LIST_WORDS[item.list], codeNote: BREAK_LEVELS[lacks]?.lacks ?? "", struck: BREAK_LEVELS[lacks]?.missing,
   }));
 }
 

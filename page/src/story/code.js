@@ -62,17 +62,19 @@ export const drawOwnCode = (spec) => tag("ol", { class: "steps" }, ...linesShown
 // ---- The algorithm of each list. `rows` are the rows of the step table that a line executes, `of` the operations that execute the line.
 
 const CHANGES = ["add", "remove"];
+const VALID = "valid and ";
 
-// Returns the lines of add and remove that write, for a list with locks. The arguments are rows of the step table; `mark` precedes `unlink`.
-const writes = (make, link, unlink, mark = []) => [
-  { of: ["add"], text: "add, if curr.key ≠ key:" },
-  { of: ["add"], text: "    node = new Node(key, next = curr)", rows: make },
+// Returns the lines of add and remove that write, for a list with locks. The arguments are rows of the step table; `mark` precedes `unlink`. In a list that
+// validates, `valid` is part of the condition: an invalid call writes nothing.
+const writes = (make, link, unlink, mark = [], valid = "") => [
+  { of: ["add"], text: `add, if ${valid}curr.key ≠ key:` },
+  { of: ["add"], text: "    node = new Node(key, next: curr)", rows: make },
   { of: ["add"], text: "    pred.next = node", rows: link },
-  { of: ["remove"], text: "remove, if curr.key == key:" },
+  { of: ["remove"], text: `remove, if ${valid}curr.key == key:` },
   ...mark.map((row) => ({ of: ["remove"], text: "    mark curr", rows: [row] })),
   { of: ["remove"], text: "    pred.next = curr.next", rows: unlink },
 ];
-const LOOKS = { of: ["contains"], text: "contains: return curr.key == key" };
+const LOOKS = { of: ["contains"], text: "contains: reply = (curr.key == key)" };
 
 const READS = [
   { of: ["contains"], text: "contains(key):  no lock, no retry" },
@@ -114,7 +116,7 @@ export const BOOK_CODE = {
     { text: "validate: walk from the head again", rows: [6] },
     { text: "    until pred is met, else not valid", rows: [7] },
     { text: "    pred.next == curr, else not valid", rows: [8] },
-    ...writes([9, 10], [11], [12, 13]),
+    ...writes([9, 10], [11], [12, 13], [], VALID),
     LOOKS,
     { text: "release pred; release curr", rows: [14, 15] },
     { text: "if not valid: start again; return", isPlain: true },
@@ -126,7 +128,7 @@ export const BOOK_CODE = {
     { of: CHANGES, text: "lock pred; lock curr", rows: [4, 5] },
     { of: CHANGES, text: "validate: pred unmarked, leads to curr", rows: [6] },
     { of: CHANGES, text: "    and curr unmarked", rows: [7] },
-    ...writes([8, 9], [10], [12], [11]),
+    ...writes([8, 9], [10], [12], [11], VALID),
     { of: CHANGES, text: "release curr; release pred", rows: [13, 14] },
     { of: CHANGES, text: "if not valid: start again; return", isPlain: true },
     ...READS,
@@ -138,7 +140,7 @@ export const BOOK_CODE = {
     { of: CHANGES, text: "        else start again", isPlain: true },
     { of: CHANGES, text: "    if curr.key < key: go one node on", rows: [4] },
     { of: ["add"], text: "add, if curr.key ≠ key:" },
-    { of: ["add"], text: "    node = new Node(key, next = curr)", rows: [5, 6] },
+    { of: ["add"], text: "    node = new Node(key, next: curr)", rows: [5, 6] },
     { of: ["add"], text: "    CAS pred.next: curr unmarked → node", rows: [7] },
     { of: ["add"], text: "    else start again", isPlain: true },
     { of: ["remove"], text: "remove, if curr.key == key:" },

@@ -14,7 +14,7 @@ import { saidOf } from "./said.js";
 export const NARROW = "(max-width: 760px)";
 const ROOMY = "(min-width: 1500px)"; // the window has room for the code beside the list
 export const isNarrow = () => matchMedia(NARROW).matches;
-const opensCode = ({ opensCode: isAsked }) => !isNarrow() && !isLecture() && (isAsked === true || matchMedia(ROOMY).matches);
+const opensCode = ({ opensCode: isAsked }) => !isNarrow() && (isAsked ?? (!isLecture() && matchMedia(ROOMY).matches));
 
 const CAS = "CAS x: a → b makes x point to b if x still points to a. succ is the node after curr.";
 const LETTERS = "Once a thread has begun, its letter shows its next line. Click that line to execute it, or another line to run to it.";
