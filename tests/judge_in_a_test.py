@@ -551,6 +551,20 @@ def test_java_sets_that_inherit_their_calls_are_judged_by_them(room, once, progr
     assert kind == "refused" and re.search("^not linearizable\nno order explains .*\n(?:.*\n)*.*contains.* true", said, re.M), said
 
 
+@pytest.mark.needs("go")
+def test_a_test_in_go_ends_before_go_test_stops_it(room, once, program):
+    form = Form("Go", room, [*once(built_go), "-test.timeout=20s"])
+    kind, said = form.told(program, "right", "threads=4 calls=250", LISTSET_SECONDS="600")
+    assert kind == "ok" and re.search("listset: makes runs for 1[0-9] s, not for 600 s, because go test stops in [0-9]+ s: use go test -timeout 0", said), said
+
+
+@pytest.mark.needs("node")
+def test_the_judge_in_one_file_names_an_old_node(room):
+    (room / "old.js").write_text('Object.defineProperty(process.versions, "node", { value: "12.22.12" });\n')
+    done = ran("node", "-r", room / "old.js", ENGINE, "judge", room / "none.calls")
+    assert (done.returncode, done.stdout) == (1, "") and re.fullmatch("listset.js needs Node 18 or newer, but node is v.*\n", done.stderr)
+
+
 @pytest.mark.parametrize("of", ["Served", pytest.param("OfRedis", marks=pytest.mark.needs("redis-server"))])
 def test_servers_are_judged_by_their_clients(room, program, of):
     paths = f"{FORMS / 'python'}:{FORMS / 'python/tests'}"

@@ -271,6 +271,23 @@ def in_ci(room, command, **also):
     return ran("bash", "-ec", step, cwd=room, env={**environment, "CI": "true", "GOPROXY": "off", "TMPDIR": str(room.parent), **given, **also}, seconds=600)
 
 
+@pytest.mark.needs("node")
+def test_a_project_in_gitlab_is_judged(room):
+    (room / "judge").mkdir()
+    shutil.copy(FORMS / "listset.js", room / "judge")
+    lay_python(room, lambda text, _: text.replace("return key in self.keys", "return True"))
+    text = (FORMS / "ci" / "gitlab.yml").read_text()
+    given = {name: it.replace("$CI_PROJECT_DIR", str(room)) for name, it in re.findall(r"^    (LISTSET\w*): (.*)$", text, re.M)}
+    lines = re.findall("^    - (.*)$", text.partition("\n  script:\n")[2], re.M)
+    assert lines[-1] == "cargo test" and len(lines) == 2
+    script = f"{lines[0]}; {command_of('Python')}".replace("600", "3")
+    for source in ("push", "schedule"):
+        done = ran("sh", "-ec", script, cwd=room, env={**os.environ, "CI": "true", "CI_PIPELINE_SOURCE": source, "TMPDIR": str(room.parent), **given}, seconds=600)
+        first = int(re.search("\nE? *seed ([0-9]+) ", done.stdout)[1])
+        assert done.returncode == 1 and (first > 1_700_000_000) == (source == "schedule") and "recorded in" in done.stdout, done.stdout
+    assert list((room / "recordings").glob("*.calls"))
+
+
 @pytest.mark.parametrize("language", [pytest.param(it, marks=pytest.mark.needs(*NEEDS[it])) for it in PROJECTS])
 def test_a_project_in_continuous_integration_is_judged(room, lacking, language):
     if why := {"C++": missing_google_test, "Java": missing_of_maven}.get(language, str)():
