@@ -480,6 +480,9 @@ def test_an_error_without_a_verdict_is_one_sentence(form, program):
         assert kind == "none" and due in said, said
     kind, said = form.told(program, "right", FEW, LISTSET_RECORD="/dev/null/x")
     assert kind == "none" and "the variable LISTSET_RECORD is /dev/null/x, but no file can be written there: set it to another folder" in said, said
+    if form.language in ("C++", "Rust"):
+        kind, said = form.told(program, "right", FEW, TMPDIR="/dev/null/x")
+        assert kind == "none" and "no file can be written in /dev/null/x, the folder for temporary files: set the variable TMPDIR" in said, said
     kind, said = form.told(program, "not made", FEW)
     assert kind == "none" and re.search("the set could not be created: (?:.*\n){0,2}.*no room", said), said
     for name, text in (("LISTSET_SECONDS", "soon"), ("LISTSET_SECONDS", "0"), ("LISTSET_SEED", "4294967296")):

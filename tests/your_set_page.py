@@ -271,6 +271,18 @@ def in_ci(room, command, **also):
     return ran("bash", "-ec", step, cwd=room, env={**environment, "CI": "true", "GOPROXY": "off", "TMPDIR": str(room.parent), **given, **also}, seconds=600)
 
 
+@pytest.mark.needs("cargo", "rustc")
+def test_a_workspace_in_rust_skips_the_tests_of_the_judge(room, lacking):
+    if ran("cargo", "fmt", "--version").returncode:
+        lacking("rustfmt is not installed: rustup component add rustfmt")
+    (room / "judge").mkdir()
+    lay_rust(room, lambda text, _: text)
+    (room / "Cargo.toml").write_text("[workspace]\n\n" + (room / "Cargo.toml").read_text())
+    assert "/judge/rust/" not in ran("cargo", "fmt", "--all", "--check", cwd=room).stdout
+    said = well(*QUICK_CARGO, "test", "--offline", "--workspace", "--lib", "--tests", cwd=room, env={**os.environ, "LISTSET": "skip", "CI": ""})
+    assert "test set ... ignored" in said and "skipped: LISTSET is skip" in said and "1 passed" in said
+
+
 @pytest.mark.needs("node")
 def test_a_project_in_gitlab_is_judged(room):
     (room / "judge").mkdir()

@@ -180,7 +180,7 @@ constexpr const char *IN_SET = ", in set %s of the run";
 constexpr const char *MADE_HARDER = "; with changed sizes, because few calls overlapped";
 constexpr const char *NO_FOLDER = "no file can be written in %s: set record to another folder";
 constexpr const char *NO_RECORD = "the variable LISTSET_RECORD is %s, but no file can be written there: set it to another folder";
-constexpr const char *NO_TEMPORARY = "no file can be written in %s: set the variable LISTSET_RECORD to another folder";
+constexpr const char *NO_TEMPORARY = "no file can be written in %s, the folder for temporary files: set the variable TMPDIR (in Java the property java.io.tmpdir) to another folder";
 constexpr const char *NO_MEMORY = "there is not enough memory for the calls of a run";
 constexpr const char *NO_PROCESS = "no process could be started for a run: %s";
 constexpr const char *NO_JUDGE = "no judge was found: %s cannot be run. Copy the file judge/listset.js of this judge's repository, and set LISTSET to its path (Node 18 runs it); or put the program listset in PATH. LISTSET=skip skips this test";
@@ -841,8 +841,8 @@ struct recording {
     recording(const options &how, uint64_t seed) : is_kept(!how.record.empty()) {
         static std::atomic<unsigned> files{0};
         std::error_code none;
-        const char *named = std::getenv("LISTSET_RECORD");
-        const std::string folder = is_kept ? how.record : named && *named ? named : std::filesystem::temp_directory_path(none).string();
+        const char *named = std::getenv("LISTSET_RECORD"), *temporary = std::getenv("TMPDIR");
+        const std::string folder = is_kept ? how.record : named && *named ? named : temporary && *temporary ? temporary : "/tmp";
         const std::string name = "seed-" + std::to_string(seed), others = std::to_string(getpid()) + "-" + std::to_string(++files);
         std::filesystem::create_directories(folder, none);
         path = folder + (is_kept ? "/" + name : "/listset-" + name + "-" + others) + ".calls";

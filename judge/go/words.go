@@ -43,7 +43,7 @@ const (
 	sayMadeHarder   = "; with changed sizes, because few calls overlapped"
 	sayNoFolder     = "no file can be written in %v: set record to another folder"
 	sayNoRecord     = "the variable LISTSET_RECORD is %v, but no file can be written there: set it to another folder"
-	sayNoTemporary  = "no file can be written in %v: set the variable LISTSET_RECORD to another folder"
+	sayNoTemporary  = "no file can be written in %v, the folder for temporary files: set the variable TMPDIR (in Java the property java.io.tmpdir) to another folder"
 	sayNoMemory     = "there is not enough memory for the calls of a run"
 	sayNoProcess    = "no process could be started for a run: %v"
 	sayNotAgain     = "the child process ran the test, but did not reach this judge: set own_process to false"

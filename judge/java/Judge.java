@@ -108,7 +108,7 @@ public final class Judge {
     private static final String MADE_HARDER = "; with changed sizes, because few calls overlapped";
     private static final String NO_FOLDER = "no file can be written in %s: set record to another folder";
     private static final String NO_RECORD = "the variable LISTSET_RECORD is %s, but no file can be written there: set it to another folder";
-    private static final String NO_TEMPORARY = "no file can be written in %s: set the variable LISTSET_RECORD to another folder";
+    private static final String NO_TEMPORARY = "no file can be written in %s, the folder for temporary files: set the variable TMPDIR (in Java the property java.io.tmpdir) to another folder";
     private static final String NO_JUDGE = "no judge was found: %s cannot be run. Copy the file judge/listset.js of this judge's repository, and set LISTSET to its path (Node 18 runs it); or put the program listset in PATH. LISTSET=skip skips this test";
     private static final String NO_SCRIPT = "the variable LISTSET is %s, but no file is at %s: set LISTSET to the full path of listset.js";
     private static final String NO_NODE = "no judge was found: LISTSET is %s, which needs Node 18 or newer, but no node is in PATH";

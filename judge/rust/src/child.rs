@@ -57,7 +57,7 @@ impl Runner {
         static FILES: AtomicU32 = AtomicU32::new(0);
         let path = std::env::temp_dir().join(format!("listset-{}-{}.area", std::process::id(), FILES.fetch_add(1, SeqCst)));
         let made = File::options().read(true).write(true).create_new(true).open(&path);
-        let file = made.or_else(|_| no_verdict(say(NO_FOLDER, &[&std::env::temp_dir().display()])))?;
+        let file = made.or_else(|_| no_verdict(say(NO_TEMPORARY, &[&std::env::temp_dir().display()])))?;
         let temporary = Temporary(path);
         let memory = file.set_len(4 * Area::SIZE as u64).and_then(|()| Memory::of(&file, Area::SIZE));
         let area = Area::new(memory.or_else(|_| no_verdict(NO_MEMORY.to_string()))?, options);
