@@ -114,8 +114,8 @@ const ownWords = ({ from, lacks = null }, isBroken) => {
 };
 
 function fixedWords({ lacks }, isBroken) {
-  const { without, broken } = itemOf(now.place);
-  const which = `This is ${without === undefined ? "the same run" : "a run"} of a list with one check less. ${BREAK_LEVELS[lacks].lacks}`;
+  const { broken } = itemOf(now.place);
+  const which = `This is a run of a list with one check less. ${BREAK_LEVELS[lacks].lacks}`;
   const proved = "No order of the calls explains their answers and the final list; that is proved.";
   return `<b>${isBroken ? broken : "Not broken yet."}</b> ${which} ${isBroken ? proved : "The calls so far do not show it."}`;
 }

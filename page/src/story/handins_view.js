@@ -81,7 +81,7 @@ function drawRow(row, columns) {
   const how = ({ id }) => (row.hows.has(id) ? ` <span class="small">${row.hows.get(id)}</span>` : "");
   const cells = columns.map((column) => `<td class="mark">${MARKS[markOf(row, column)]}${how(column)}</td>`).join("");
   return `<tr><th scope="row">${escaped(row.name)}</th><td>${escaped(row.number)}</td>${cells}<td class="mark"><b>${countOf(row, columns)}</b></td>
-    <td class="same" data-sort="${escaped(copiesText(row))}">${escaped(copiesText(row) || row.large)}</td><td class="notes${row.faults > 0 || row.isOdd ? " garbled" : ""}">${notesOf(row)}</td></tr>`;
+    <td class="same" title="${escaped(copiesText(row))}" data-sort="${escaped(copiesText(row))}">${escaped(copiesText(row) || row.large)}</td><td class="notes${row.faults > 0 || row.isOdd ? " garbled" : ""}">${notesOf(row)}</td></tr>`;
 }
 
 function drawResult({ rows, columns, empty, common }) {
