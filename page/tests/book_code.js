@@ -26,8 +26,8 @@ const levels = inPage("BREAK_LEVELS");
 const lacking = inPage("LACKING");
 check("each broken list is a level", Object.keys(levels).sort().join() === Object.keys(lacking).sort().join());
 const NUMBERS = [
-  "lock", "mark-in-remove", "mark", "new-slot", "second-lock", "hand-over-hand", "second-walk", "marks-in-validation", "mark-in-add", "same-node",
-  "mark-at-key", "mark-in-ceiling", "mark-in-contains",
+  "lock", "second-lock", "hand-over-hand", "second-walk", "same-node", "marks-in-validation", "mark-in-remove", "mark", "mark-in-add", "mark-at-key",
+  "new-slot", "mark-in-ceiling", "mark-in-contains",
 ]; // assignments name the levels by them
 check(`the numbers of the levels: ${Object.keys(levels)}`, Object.keys(levels).join() === NUMBERS.join());
 for (const [name, { hints, lacks, others, missing }] of Object.entries(levels)) {
