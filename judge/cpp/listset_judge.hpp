@@ -664,16 +664,18 @@ template <class Make, class K> struct maker {
     }
 };
 
-// Waits until `is_done` returns true. Returns false if no call begins or ends for `seconds` seconds.
+// Waits until `is_done` returns true. Returns false if no call begins or ends for `seconds` seconds. The time between two
+// polls counts as at most five milliseconds, so that a run that gets no processor for a long time does not count as hung.
 template <class Done> bool comes_to_end(const area &run, unsigned seconds, Done is_done) {
     using clock = std::chrono::steady_clock;
     unsigned seen = run.tickets;
-    for (auto since = clock::now(); !is_done(); std::this_thread::sleep_for(std::chrono::microseconds(300))) {
-        if (const unsigned now = run.tickets; now != seen) {
-            seen = now;
-            since = clock::now();
-        }
-        if (clock::now() - since > std::chrono::seconds(seconds)) return false;
+    clock::duration waited{};
+    for (auto last = clock::now(); !is_done(); std::this_thread::sleep_for(std::chrono::microseconds(300))) {
+        const auto now = clock::now();
+        waited = run.tickets == seen ? waited + std::min<clock::duration>(now - last, std::chrono::milliseconds(5)) : clock::duration();
+        seen = run.tickets;
+        last = now;
+        if (waited > std::chrono::seconds(seconds)) return false;
     }
     return true;
 }

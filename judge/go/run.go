@@ -155,7 +155,8 @@ func (h *here) stop() { atomic.StoreUint32(&h.isStopping, 1) }
 
 func (h *here) close() { h.stop() }
 
-// made performs the run with this seed. If the run was cut short, trouble is the reason.
+// made performs the run with this seed. If the run was cut short, trouble is the reason. The time between two polls counts
+// as at most five milliseconds, so that a run that gets no processor for a long time does not count as hung.
 func (a *area) made(seed int64, s size, file string, by caller) (trouble string, err error) {
 	for i := range a.memory {
 		a.memory[i] = 0
@@ -164,12 +165,17 @@ func (a *area) made(seed int64, s size, file string, by caller) (trouble string,
 	a.file.set(file)
 	atomic.StoreUint32(&a.at, going)
 	by.begin()
-	since, seen := time.Now(), uint32(0)
+	last, seen, waited := time.Now(), uint32(0), time.Duration(0)
 	for ; !by.hasEnded() && trouble == ""; time.Sleep(300 * time.Microsecond) {
-		if now := atomic.LoadUint32(&a.tickets); now != seen {
-			since, seen = time.Now(), now
+		passed := time.Since(last)
+		if longest := 5 * time.Millisecond; passed > longest {
+			passed = longest
 		}
-		if time.Since(since) > time.Duration(a.options.Seconds)*time.Second {
+		last, waited = time.Now(), waited+passed
+		if now := atomic.LoadUint32(&a.tickets); now != seen {
+			seen, waited = now, 0
+		}
+		if waited > time.Duration(a.options.Seconds)*time.Second {
 			trouble = fmt.Sprintf(sayHung, a.options.Seconds)
 		}
 	}

@@ -843,14 +843,20 @@ public final class Judge {
             return trouble;
         }
 
-        /** Waits until the run has ended. Returns true if the run hangs, that is, if no call begins or ends for too long. */
+        /**
+         * Waits until the run has ended. Returns true if the run hangs, that is, if no call begins or ends for too long. The
+         * time between two polls counts as at most five milliseconds, so that a run that gets no processor for a long time does
+         * not count as hung.
+         */
         private boolean isHung() {
-            long since = System.nanoTime();
+            long last = System.nanoTime(), waited = 0;
             for (int seen = -1; area.get(Area.AT) < Area.OVER && (process == null || process.isAlive()); LockSupport.parkNanos(300_000)) {
                 int now = area.get(Area.TICKETS);
-                if (now != seen) since = System.nanoTime();
+                long time = System.nanoTime();
+                waited = now == seen ? waited + Math.min(time - last, SECOND / 200) : 0;
                 seen = now;
-                if (System.nanoTime() - since > how.seconds * SECOND) return true;
+                last = time;
+                if (waited > how.seconds * SECOND) return true;
             }
             return false;
         }

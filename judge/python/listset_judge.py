@@ -485,14 +485,17 @@ class Run:
             self.there.abort()
 
     def comes_to_end(self, is_done):
-        """Waits until `is_done` returns true. Returns False if no call begins or ends for `seconds` seconds."""
-        seen, since, wait = None, time.monotonic(), 0.0005
+        """Waits until `is_done` returns true. Returns False if no call begins or ends for `seconds` seconds. A wait counts as
+        at most twice its length, so that a run that gets no processor for a long time does not count as hung.
+        """
+        seen, last, wait, waited = None, time.monotonic(), 0.0005, 0.0
         while not is_done():
             time.sleep(wait)
-            wait = min(2 * wait, 0.02)
+            waited += min(time.monotonic() - last, 2 * wait)
+            last, wait = time.monotonic(), min(2 * wait, 0.02)
             if (now := self.slots[self.AT : self.at_slots]) != seen:
-                seen, since = now, time.monotonic()
-            if time.monotonic() - since > self.how.seconds:
+                seen, waited = now, 0.0
+            if waited > self.how.seconds:
                 return False
         return True
 

@@ -244,17 +244,20 @@ impl Area {
     }
 
     /// Waits until the run is over, its process has ended, or no call has begun or ended for `seconds` seconds. Returns the
-    /// error, if any.
+    /// error, if any. The time between two polls counts as at most five milliseconds, so that a run that gets no processor for a
+    /// long time does not count as hung.
     fn end(&self, ended: &dyn Fn() -> Option<String>) -> Option<String> {
-        let (mut seen, mut since) = (self.get(At::Tickets), Instant::now());
+        let (mut seen, mut last, mut waited) = (self.get(At::Tickets), Instant::now(), Duration::ZERO);
         while self.get(At::Phase) < OVER {
             if let Some(why) = ended() {
                 return Some(why).filter(|_| self.get(At::Phase) < OVER);
             }
+            waited += last.elapsed().min(Duration::from_millis(5));
+            last = Instant::now();
             if self.get(At::Tickets) != seen {
-                (seen, since) = (self.get(At::Tickets), Instant::now());
+                (seen, waited) = (self.get(At::Tickets), Duration::ZERO);
             }
-            if since.elapsed() > Duration::from_secs(self.options.seconds.into()) {
+            if waited > Duration::from_secs(self.options.seconds.into()) {
                 return Some(say(HUNG, &[&self.options.seconds]));
             }
             std::thread::sleep(Duration::from_micros(300));
