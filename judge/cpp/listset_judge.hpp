@@ -470,13 +470,14 @@ struct stops {
 
 // Lets two threads begin calls at the same time, for races that last only nanoseconds. On a busy machine, threads are seldom
 // on two processors at once. So a thread polls for a partner before a call, and both continue only if the partner polls too.
-// Half of the calls then use two neighboring keys, which change after every MEET calls. This happens in runs with an odd seed.
+// Half of the calls then use two neighboring keys, which change after every MEET calls. This happens in runs with an
+// odd seed, unless `pauses` is 0.
 struct partners {
     area &run;
     const unsigned thread;
     const bool is_on;
     std::mt19937 draw, common;  // all threads draw the same numbers from `common`
-    unsigned tries = TRIES, blocks = 0, first_key = 0;
+    unsigned tries = TRIES, blocks = 0, first_key = 0, near = 0;
 
     partners(bool is_asked, area &of, unsigned number)
         : run(of), thread(number), is_on(is_asked && of.seed % 2 == 1 && !of.of.meets_once && of.of.threads > 1 && std::thread::hardware_concurrency() > 1),
@@ -508,6 +509,7 @@ struct partners {
 
     // Waits for a partner. At most TRIES waits of a run end without one. Returns whether two threads can now begin their calls.
     bool meet() {
+        near = is_on ? unsigned(draw() % NEAR) : 0;
         while (is_on && tries > 0 && !is_alone() && !run.is_stopping) {
             if (polls()) return true;
             tries--;
@@ -517,8 +519,8 @@ struct partners {
     }
 
     // Delays a call by up to some hundred nanoseconds, because one of two partners always continues a bit earlier.
-    void delay() {
-        for (volatile unsigned left = draw() % NEAR; left > 0; left = left - 1) {}
+    void delay() const {
+        for (volatile unsigned left = near; left > 0; left = left - 1) {}
     }
 };
 
@@ -568,8 +570,9 @@ template <class Make, class K> struct maker {
             at->thread = number;
             at->call = drawn(draw);
             at->key = round / run.parts * run.of.keys + key;
+            const unsigned pause = draw() % 100 < how.pauses ? unsigned(draw()) % LONGEST : 0;
             const bool is_met = others.meet();
-            for (unsigned pause = !is_met && draw() % 100 < how.pauses ? unsigned(draw()) % LONGEST : 0; pause > 0; pause--) run.tickets.load();
+            for (unsigned left = is_met ? 0 : pause; left > 0; left--) run.tickets.load();
             if (!is_met) own.before_call(uint64_t(run.of.sets) * run.of.calls);
             at->begin.store(++run.tickets, std::memory_order_release);
             if (is_met) others.delay();

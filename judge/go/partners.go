@@ -10,13 +10,14 @@ import (
 // partners lets two goroutines begin calls at the same time, for races that last only nanoseconds. On a busy machine,
 // goroutines are seldom on two processors at once. So a goroutine polls for a partner before a call, and both continue
 // only if the partner polls too. Half of the calls then use two neighboring keys, which change after every manyMeet
-// calls. This happens in runs with an odd seed.
+// calls. This happens in runs with an odd seed, unless Pauses is 0.
 type partners struct {
 	*area
 	thread                  int
 	isOn                    bool
 	draw, common            *rand.Rand // all goroutines draw the same numbers from common
 	tries, blocks, firstKey int
+	near                    int // the length of the delay before a call
 }
 
 func newPartners(a *area, thread int) *partners {
@@ -73,6 +74,9 @@ func (p *partners) polls() bool {
 // meet waits for a partner. At most manyTries waits of a run end without one. It returns whether two goroutines can now
 // begin their calls.
 func (p *partners) meet() bool {
+	if p.isOn {
+		p.near = p.draw.Intn(manyNear)
+	}
 	for p.isOn && p.tries > 0 && !p.isAlone() && atomic.LoadUint32(&p.isStopping) == 0 {
 		if p.polls() {
 			return true
@@ -85,7 +89,7 @@ func (p *partners) meet() bool {
 
 // delay delays a call by up to some hundred nanoseconds, because one of two partners always continues a bit earlier.
 func (p *partners) delay() {
-	for left := p.draw.Intn(manyNear); left > 0; left-- {
+	for left := p.near; left > 0; left-- {
 		atomic.LoadUint32(&p.isStopping)
 	}
 }

@@ -418,11 +418,13 @@ func (a *area) call(set Set, s *slot, ofSet int, number *uint32, draw *rand.Rand
 	} else if at < o.Adds+o.Removes {
 		s.call = 1
 	}
+	pause := 0
+	if draw.Intn(100) < o.Pauses {
+		pause = draw.Intn(manyLongest)
+	}
 	isMet := others.meet()
-	if !isMet && draw.Intn(100) < o.Pauses {
-		for looks := draw.Intn(manyLongest); looks > 0; looks-- {
-			atomic.LoadUint32(&a.tickets)
-		}
+	for ; pause > 0 && !isMet; pause-- {
+		atomic.LoadUint32(&a.tickets)
 	}
 	atomic.StoreUint32(&s.begin, atomic.AddUint32(&a.tickets, 1))
 	if isMet {

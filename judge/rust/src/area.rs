@@ -421,11 +421,12 @@ impl<S: Sync> Play<'_, S> {
                     return;
                 }
                 let slot = &area.memory[SLOTS + (thread * rows + row) as usize * SLOT..][..SLOT];
-                self.prepare(slot, number, &mut draws, &mut partners);
+                let pause = self.prepare(slot, number, &mut draws, &mut partners);
                 if partners.meet() {
                     self.call(slot, &mut number, || partners.delay());
                 } else {
-                    self.pause(&mut draws, &mut stopping, stops.as_ref());
+                    (0..pause).for_each(|_| _ = area.get(At::Tickets));
+                    self.may_stop(&mut stopping, stops.as_ref());
                     self.call(slot, &mut number, || ());
                 }
                 if row + 1 == count || (row + 1) % MEET == 0 {
@@ -454,8 +455,9 @@ impl<S: Sync> Play<'_, S> {
         are_there
     }
 
-    /// Draws a call, and writes its thread number, operation and key to the slot.
-    fn prepare(&self, slot: &[AtomicU32], number: u32, draws: &mut Draws, partners: &mut Partners) {
+    /// Draws a call, and writes its thread number, operation and key to the slot. Returns the length of the pause before the
+    /// call.
+    fn prepare(&self, slot: &[AtomicU32], number: u32, draws: &mut Draws, partners: &mut Partners) -> u32 {
         let keys = self.of.keys;
         let [adds, removes, finds] = self.area.options.shares;
         let word = match draws.below(adds + removes + finds) {
@@ -466,13 +468,15 @@ impl<S: Sync> Play<'_, S> {
         let is_hot = keys > 2 * HOT && draws.below(2) == 0;
         let key = partners.key_or(draws.below(if is_hot { HOT } else { keys }));
         [number, word, self.one * keys + key].into_iter().zip(&slot[2..]).for_each(|(it, to)| to.store(it, Relaxed));
+        if draws.below(100) < self.area.options.pauses {
+            draws.below(LONGEST)
+        } else {
+            0
+        }
     }
 
-    /// Pauses before some of the calls, and starts the timer that stops the thread before some of the calls.
-    fn pause(&self, draws: &mut Draws, stopping: &mut Draws, stops: Option<&Stops>) {
-        let options = &self.area.options;
-        let pause = if draws.below(100) < options.pauses { draws.below(LONGEST) } else { 0 };
-        (0..pause).for_each(|_| _ = self.area.get(At::Tickets));
+    /// Starts the timer that stops the thread, before some of the calls.
+    fn may_stop(&self, stopping: &mut Draws, stops: Option<&Stops>) {
         let calls = self.of.sets * self.of.calls;
         let drawn = stopping.below(calls);
         if let Some(it) = stops.filter(|it| drawn < it.starts(calls)) {

@@ -1,7 +1,7 @@
 //! Lets two threads begin calls at the same time, for races that last only nanoseconds. On a busy machine, threads are
 //! seldom on two processors at once. So a thread polls for a partner before a call, and both continue only if the partner
 //! polls too. Half of the calls then use two neighboring keys, which change after every `MEET` calls. This happens in runs
-//! with an odd seed.
+//! with an odd seed, unless `pauses` is 0.
 use std::hint::black_box;
 use std::time::{Duration, Instant};
 
@@ -21,6 +21,7 @@ pub struct Partners<'a> {
     tries: u32,
     blocks: u32,
     first_key: u32,
+    near: u32,
 }
 
 impl<'a> Partners<'a> {
@@ -38,6 +39,7 @@ impl<'a> Partners<'a> {
             tries: TRIES / of.sets + 1,
             blocks: 0,
             first_key: 0,
+            near: 0,
         }
     }
 
@@ -81,6 +83,7 @@ impl<'a> Partners<'a> {
     /// Waits for a partner. A limited number of waits end without one. Returns whether two threads can now begin their
     /// calls.
     pub fn meet(&mut self) -> bool {
+        self.near = if self.is_on { self.draws.below(NEAR) } else { 0 };
         while self.is_on && self.tries > 0 && !self.is_alone() && self.area.get(At::IsStopping) == 0 {
             if self.polls() {
                 return true;
@@ -92,8 +95,8 @@ impl<'a> Partners<'a> {
     }
 
     /// Delays a call by up to some hundred nanoseconds, because one of two partners always continues a bit earlier.
-    pub fn delay(&mut self) {
-        let mut left = self.draws.below(NEAR);
+    pub fn delay(&self) {
+        let mut left = self.near;
         while left > 0 {
             left = black_box(left - 1);
         }
