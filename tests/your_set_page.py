@@ -279,8 +279,9 @@ def test_a_workspace_in_rust_skips_the_tests_of_the_judge(room, lacking):
     lay_rust(room, lambda text, _: text)
     (room / "Cargo.toml").write_text("[workspace]\n\n" + (room / "Cargo.toml").read_text())
     assert "/judge/rust/" not in ran("cargo", "fmt", "--all", "--check", cwd=room).stdout
-    said = well(*QUICK_CARGO, "test", "--offline", "--workspace", "--lib", "--tests", cwd=room, env={**os.environ, "LISTSET": "skip", "CI": ""})
-    assert "test set ... ignored" in said and "skipped: LISTSET is skip" in said and "1 passed" in said
+    done = ran(*QUICK_CARGO, "test", "--offline", "--workspace", "--lib", "--tests", cwd=room, env={**os.environ, "LISTSET": "skip", "CI": ""}, seconds=600)
+    said = done.stdout + done.stderr
+    assert done.returncode == 0 and "test set ... ignored" in said and "skipped: LISTSET is skip" in said and "1 passed" in said
 
 
 @pytest.mark.needs("node")
