@@ -269,7 +269,7 @@ def test_a_correct_set_that_throws_repeatedly_is_not_refused(form, program):
 @each(LANGUAGES)
 def test_keys_of_a_run_are_the_keys_that_the_set_got(form, program):
     """Tests the preset with multiples of 64: the recording and the message have the keys 0, 64 .. 448."""
-    how = f"threads=4 calls=1000 seed=3 seconds=3 runs=1 record={form.room / 'kept'}"
+    how = f"threads=4 calls=1000 seed=3 seconds=10 runs=1 record={form.room / 'kept'}"
     said = form.told(program, "hangs", how)[1]
     pending = re.findall(f"\n  thread {PENDING}", said)
     assert len(pending) in range(1, 5) and {int(key) % 64 for _, _, key, _ in pending} == {0}, said
@@ -281,14 +281,14 @@ def test_keys_of_a_run_are_the_keys_that_the_set_got(form, program):
 
 @each(LANGUAGES)
 def test_a_call_that_hangs_is_named_with_its_set(form, program):
-    said = form.told(program, "hangs", "threads=4 seed=5 seconds=3 runs=1")[1]
+    said = form.told(program, "hangs", "threads=4 seed=5 seconds=10 runs=1")[1]
     assert re.search(r"\npending:(?:\n  thread [0-3]: [a-z]+ [0-9]+, in set 1 of the run, begun at moment [0-9]+)+\nbefore that: ", said), said
 
 
 @pytest.mark.needs("g++")
 def test_many_pending_calls_are_counted(room, once, program):
     form = Form("C++", room, once(built_cpp))
-    kind, said = form.told(program, "hangs", "threads=40 calls=200 keys=4 seconds=3 runs=1")
+    kind, said = form.told(program, "hangs", "threads=40 calls=200 keys=4 seconds=10 runs=1")
     pending, more = re.findall(f"\n  thread {PENDING}", said), re.search("\n  and ([0-9]+) more\nbefore that: ", said)
     assert kind == "cut short" and len(pending) == 16 and more and form.recorded(said).count(" - -\n") == 16 + int(more[1]), said
 
