@@ -128,7 +128,7 @@ function html(place) {
   const due = place.given.due === undefined ? "" : `<p class="due"><b>Due: ${escaped(place.given.due.slice(0, 40))}</b></p>`;
   const lead = `${due}<p class="lead">${counted(tasks.length, "task")}, ${done.length} done in this browser. Come back by the same link: what is done stays ticked.</p>
     <progress max="${tasks.length || 1}" value="${done.length}" aria-label="${done.length} of ${tasks.length} done"></progress>${wrong}
-    <p class="small">New to this? <a href="#story=1">Why not just one lock?</a> 18 minutes, from nothing.</p>`;
+    <p class="small">New to this? <a href="#story=1">Why not just one lock?</a> 20 minutes, from nothing.</p>`;
   const verb = done.length === 0 ? "Begin" : "Go on";
   const next = (task) => tag("a", { class: "button primary", href: task.href }, `${verb}: ${escaped(task.title)} →`);
   const bar = first === undefined ? foot(tasks.length === 0 ? "No task." : "All done.", '<button class="primary" data-do="hand">Hand in ↑</button>') : foot("", next(first));
