@@ -16,20 +16,26 @@ import { examples, openTask } from "../page/work.js";
 import { wayBack } from "../story/assignment.js";
 import { Figure, STILL } from "../story/figure.js";
 import { linesOf, ShownRun } from "../story/live_run.js";
+import { saidOf } from "../story/said.js";
 import { LIST_WORDS, titleOfScene } from "../story/scene.js";
 
 const bench = { key: "", figure: null };
+const HOW_TO_JUDGE = "Press each bar at the moment when its call takes effect. Choose each reply.";
+
+// Writes the sentence of a slide in the words of the other slides, without the reply and without what the step means for the set.
+const saidToJudge = (moment) => saidOf(moment).replace(/: <b>.*?<\/b>/, ".").replace(/ returns [^.]*\./, " returns … what?") || HOW_TO_JUDGE;
 
 function figureOfTask(run) {
   const { kind, threads } = run.trace;
-  const key = [now.task.kind, now.task.id, kind, threads].join();
+  const isSlide = now.place.slide > 0;
+  const key = [now.task.kind, now.task.id, kind, threads, isSlide].join();
   if (bench.figure !== null && bench.key === key) return bench.figure;
   bench.figure?.end();
   bench.key = key;
   const box = document.createElement("div");
   byId("run-figure").replaceChildren(box);
-  const sentence = (moment) => sentenceOf(moment, hiddenOutcomes());
-  bench.figure = new Figure(box, { ...STILL, list: kind, run, sentence, codeTitle: LIST_WORDS[kind], slots: 5 });
+  const sentence = isSlide ? saidToJudge : (moment) => sentenceOf(moment, hiddenOutcomes());
+  bench.figure = new Figure(box, { ...STILL, names: !isSlide, code: !isSlide, list: kind, run, sentence, codeTitle: LIST_WORDS[kind], slots: 5 });
   return bench.figure;
 }
 

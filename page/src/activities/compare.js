@@ -1,5 +1,6 @@
 // The activity Compare: two lists side by side run the same calls. A turn is a step of one thread in both lists; the address contains the turns.
 import { LISTS } from "../../made/rows.js";
+import { LECTURE } from "../data/lecture.js";
 import { byId, redraw } from "../page/dom.js";
 import { toggleLecture } from "../page/play.js";
 import { now } from "../page/now.js";
@@ -40,8 +41,9 @@ function begin({ given }) {
   for (const name of SIDES) sidesPart(name).onchange = () => beginSides();
   sidesPart("slider").oninput = ({ target }) => turnTo(Number(target.value));
   Object.assign(shown, { sides: null, figures: [] });
-  beginSides(turns.split(".").filter((thread) => thread !== "").map(Number));
-  if (now.place.slide > 0) turnTo(0); // a slide begins before the first turn
+  const threads = turns.split(".").filter((thread) => thread !== "").map(Number);
+  beginSides(threads);
+  if (now.place.slide > 0) turnTo(threads.lastIndexOf(threads[0]) + 1); // a slide begins when the first thread has stopped
 }
 
 function beginSides(turns = []) {
@@ -71,9 +73,10 @@ function turnOf(thread) {
 
 const turnTo = (at) => setScene({ at: Math.min(Math.max(at, 0), shown.sides.turns.length) });
 
-function draw({ at }) {
+function draw({ at, note }) {
   const { sides } = shown;
   if (sides === null) return;
+  if (now.place.slide > 0) part("h1").textContent = note || LECTURE[now.place.slide - 1][3]; // the answer or the question
   const wordsOf = (call) => (call === undefined ? "is done" : `next step <span class="roomy">of ${call}</span>`);
   const button = (_, thread) => tag("button", { "data-do": "turn", "data-thread": thread }, `${chipOf(thread)} ${wordsOf(sides.callOf(thread, at))}`);
   redraw(sidesPart("turns"), sides.program.map(button).join(" "));
@@ -90,7 +93,7 @@ function figuresOf(sides) {
   end();
   sidesPart("pictures").innerHTML = sides.map(({ run }) => tag("section", { "aria-label": LISTS[run.trace.kind].name }, PICTURE)).join("");
   const boxes = sidesPart("pictures").querySelectorAll(".pair");
-  const specOf = ({ run: { trace, state } }) => ({ ...STILL, list: trace.kind, run: new ShownRun(trace, state), code: false, names: false, slots: 4 });
+  const specOf = ({ run: { trace, state } }) => ({ ...STILL, list: trace.kind, run: new ShownRun(trace, state), code: false, names: false, slots: 4, flat: now.place.slide > 0 });
   figures.push(...sides.map((side, at) => new Figure(boxes[at], specOf(side))));
   return figures;
 }

@@ -73,7 +73,7 @@ class Judging {
     judgePart("bars").style.setProperty("--zoom", String(zoom));
     this.scale = judgeScale(this.exercise, Math.max(300, judgePart("bars").clientWidth / zoom), isSlide ? { bar: 20, grown: GROWN } : { grown: isNarrow() ? SMALL_GROWN : WIDE_GROWN });
     judgePart("of").textContent = itemOf({ id: exampleShown() })?.question ?? `Your answer is right if the replies${calls.some(({ ended }) => ended === null) ? " and the last set" : ""} are those of this run, and each reply is correct in the order of your moments.`;
-    judgePart("task").textContent = `${now.task.kind === "seed" ? `Run ${partsOfSeed(now.task.id).number}. ` : ""}${LEVELS[level].task}`;
+    judgePart("task").textContent = `${now.task.kind === "seed" && !isSlide ? `Run ${partsOfSeed(now.task.id).number}. ` : ""}${LEVELS[level].task}`;
     redraw(judgePart("bars"), drawJudged(this));
     const asked = level === "replies" ? calls.filter((call) => call.ended !== null) : [];
     redraw(judgePart("replies"), asked.map((call) => this.replyBox(call)));
@@ -103,7 +103,8 @@ class Judging {
     for (const name of ["end", "levels"]) judgePart(name).style.visibility = isAsked ? "hidden" : "";
     const answer = isLecture() ? now.scene.note : ""; // the answer, at the end of the last slide
     const link = linkTo(slideAddress(now.place.slide));
-    const where = isNarrow() || warningOf(link) !== "" ? "" : ` · ${link.replace(/^https?:..|index.html/g, "")}`; // for the class
+    const short = link.replace(/^file:.*\/|^https?:../, "").replace("/index.html", "/");
+    const where = isNarrow() ? "" : ` · ${short}${warningOf(link) === "" ? "" : " (this computer only)"}`; // for the class
     const kind = answer === "" ? ({ true: "right", false: "wrong" }[verdict?.isRight] ?? "") : "shown";
     judgePart("verdict").className = kind;
     judgePart("verdict").textContent = answer || (verdict?.says ?? (now.place.slide === 0 ? "" : `${LISTS[now.run.trace.kind].name}${where}`));

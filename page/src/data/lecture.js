@@ -15,15 +15,15 @@ export const LECTURE = [
     "false: with the mark, 5 has left the set. contains reads the mark and takes no lock."],
   [4, "In another thread’s step", "#ask=read-in-anothers-step&view=lecture", "A will return false. When is that correct?",
     "From B’s mark to B’s link, 5 is not in the set, and A’s call is pending: it takes effect in B’s marking step."],
-  [3, "Who waits?", "#sides=coarse.lazy&quota=4&calls=0.add.5,1.contains.5&turns=0.0.0.0.1.1.1&view=lecture", "A is stopped after four turns. Which list answers B?",
-    "LazyList: its contains needs no lock. In CoarseList B tries the lock again and again."],
+  [3, "Who waits?", "#sides=coarse.lazy&quota=4&calls=0.add.5,1.contains.5&turns=0.0.0.0.1.1.1&view=lecture", "A is stopped. In which list does B wait for A?",
+    "CoarseList: B waits. LazyList: contains takes no lock."],
   [4, "LockFreeList: compare-and-set", "#story=9&view=lecture", "Two removes of 5, no lock. Who comes first? Let the class decide, by A and B.",
     "The first CAS sets the mark, and its call returns true. The other CAS fails; its call walks again and returns false."],
   [4, "Helping", "#ask=snip&view=lecture", "A has marked 5 and stops. Does B have to wait?",
     "No: B unlinks 5 itself and links 7. A’s own attempt to unlink fails later, and A still returns true."],
   [3, "Everybody judges", "#seed=lock-free.2.3.1.5&judge&view=lecture",
-    "Three calls of LockFreeList in 17 events. If the page is on a web server, everybody opens the address on the slide, and states what each call returns.",
-    "In this run contains returns false, the add and the remove return true. The order: contains, add, remove. (On paper, contains true after the add is also right.)"],
+    "Three calls of LockFreeList. If the page is on a web server, everybody opens the address on the slide, and states what each call returns, and when it takes effect.",
+    "In this run contains returns false, add and remove return true. One order explains these replies: contains, add, remove."],
 ];
 
 export const slideAddress = (number) => `#lecture=${number}`;

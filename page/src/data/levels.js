@@ -37,7 +37,7 @@ export const BREAK_LEVELS = {
     hints: ["An add of 5 beside a remove of 3, its neighbour.",
       "The node that the add has found as pred can be unlinked before it is locked.",
       "Stop A before it locks pred, which is the node of 3. Let B remove 3. Then let A end."],
-    lacks: "After locking it does not walk the list again: pred may have been removed.",
+    lacks: "After locking, a call does not walk the list again: its pred may have been removed.",
     others: { "It does not lock curr.": "it locks pred and curr",
       "It does not check whether pred still points to curr.": "it checks that while it holds both locks" },
     start: [["add", 5], ["remove", 3]], shortest: [23, 2], missing: [{ row: 6, part: "walk from the head again" }, { row: 7, part: "until pred is met, else not valid" }],

@@ -39,7 +39,7 @@ export function goByHand(count) {
   goTo(count);
 }
 
-function goToTurn(step) {
+export function goToTurn(step) {
   const changes = (event) => event.put !== undefined || event.took !== undefined || event.answer !== undefined;
   let count = now.run.count + step;
   while (count > 0 && count < now.run.trace.total && !changes(now.run.trace.event(count))) count += step;

@@ -82,8 +82,8 @@ function placeTheList(figure, { state, event: made }, isNear) {
   if (wide === 0) return;
   const event = made !== null && figure.shown.includes(made.thread) ? made : null; // a step of a thread without a button is not highlighted
   const box = figure.part("list");
-  const { names = false, slots = 4, flat, strip, isPath = false } = spec;
-  const hides = HIDDEN[String(names || (spec.list === "lock-free" && !isPath))];
+  const { names = false, slots = 4, flat, strip, isPath = false, code = true } = spec;
+  const hides = HIDDEN[String(names || (spec.list === "lock-free" && !isPath && code))];
   const isSlide = isLecture();
   const least = isSlide ? Math.min(0.019 * innerWidth, 0.0335 * innerHeight) / LABEL : innerWidth >= 1900 ? 1 : 0;
   const room = { wide, high: tall, least, slots: Math.max(slots, drawn.slots), lock: lockShown(spec), flat, tight: drawn.tight, hides, names, ends: strip && isPath ? barEnds(figure) : undefined, isSlide, isWhole: isSlide || figure.box.classList.contains("judged") };

@@ -97,9 +97,9 @@ function sheetOfSides() {
 }
 
 function sheetOfSeed(seed) {
-  const exercise = exerciseOf(askNow("listset_replay", scheduleOfSeed(askNow, seed)).text, "replies");
+  const exercise = exerciseOf(askNow("listset_replay", scheduleOfSeed(askNow, seed)).text, "points");
   const drawn = drawJudged({ exercise, answer: new OwnAnswer(exercise), verdict: null, scale: judgeScale(exercise, ROOM.wide), count: 0 });
-  const ask = "Write a reply to each call, and mark the moment when it takes effect. In the order of your moments, every reply must be correct.";
+  const ask = "When does each call take effect? Mark a moment on each bar. In the order of the three moments, every reply must be correct.";
   return { prose: `Three calls on the set {${exercise.opening.join(", ")}}, each from its start to its end.`, drawn, ask };
 }
 

@@ -1,7 +1,7 @@
 // Handles a presenter's keys: through the steps of a slide, and on to the next slide. Keys pressed during an animation are handled after it.
 import { LECTURE, slideAddress } from "../data/lecture.js";
 import { isLecture, now } from "../page/now.js";
-import { goByHand } from "../page/play.js";
+import { goByHand, goToTurn } from "../page/play.js";
 import { scene, setScene } from "./scene.js";
 
 const queue = { last: Promise.resolve(), waiting: 0 };
@@ -25,29 +25,29 @@ export const pressInScene = (event) => (isLecture() ? inTurn(() => scene.view?.p
 export function toSlide(by) {
   const number = now.place.slide + by;
   if (now.place.slide === 0 || number === 0) return false;
-  if (number > LECTURE.length) return endLecture();
   const isThere = new Promise((done) => window.addEventListener("popstate", () => setTimeout(done), { once: true }));
-  location.hash = slideAddress(number);
+  location.hash = number > LECTURE.length ? "#teachers" : slideAddress(number);
   return isThere;
 }
 
-// At the end of the last slide, the first key press shows the answer, and the second leaves the lecture.
-function endLecture() {
-  if (now.scene.note === "") setScene({ note: `The answer: ${LECTURE.at(-1)[4]} One more → ends the lecture.` });
-  else location.hash = "#teachers";
+// The slides of Compare and Judge have no panel for an answer. At their end, a press shows the answer of the notes; a press back hides it.
+function goesOverAnswer(by) {
+  const isShown = now.scene.note !== "";
+  if (now.place.slide === 0 || !["judge", "compare"].includes(now.place.activity) || isShown === (by > 0)) return false;
+  setScene({ note: isShown ? "" : LECTURE[now.place.slide - 1][4] });
   return true;
 }
 
 function goesOnStage(by) {
-  if (now.scene.note !== "") return by < 0 && (setScene({ note: "" }), true); // the answer is shown
-  const count = now.run.count + by;
-  const isThere = count >= 0 && count <= now.run.trace.total;
-  if (isThere) goByHand(count);
-  return isThere;
+  const { count } = now.run;
+  if (now.place.slide > 0) goToTurn(by);
+  else goByHand(count + by);
+  return now.run.count !== count;
 }
 
 // Moves forward or back. If the last steps of the slide are still being shown, a press shows the rest of these steps and does not leave the slide.
 export function goOnSlide(by) {
   const isPlaying = scene.figure?.isBusy === true;
-  return inTurn(async () => (now.place.screen === "stage" ? goesOnStage(by) : await scene.view?.goes?.(by)) || isPlaying || toSlide(by));
+  const goes = () => (now.place.screen === "stage" ? goesOnStage(by) : scene.view?.goes?.(by));
+  return inTurn(async () => (by < 0 && goesOverAnswer(by)) || (await goes()) || isPlaying || (by > 0 && goesOverAnswer(by)) || toSlide(by));
 }
