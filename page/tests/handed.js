@@ -191,7 +191,7 @@ This is not a line of a solution.
   const { status, lines } = said(folder, text);
   const due = [
     `line 15: "This is not a line of a solution." is not a line of a solution`,
-    'line 1: the text is incomplete: the final line "end" is missing',
+    'line 1: the text that begins here has no final line "end"; its solutions are counted',
     "The one lock: the address of a schedule is missing, from # on",
     "Two at once: missing: B has an add that answers true.",
     "Two at once: Line 9 of the schedule is refused: the thread has no pending call.",

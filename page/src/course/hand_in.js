@@ -105,7 +105,7 @@ export function readHandIn({ lines, isEnded, number }) {
   }
   for (const part of parts) Object.assign(part, { line: unwrapped(part.line), shorter: part.shorter.map(unwrapped) });
   const valueOf = (word) => parts.find(({ line }) => line.startsWith(`${word} `))?.line.slice(word.length + 1) ?? null;
-  if (!isEnded) faults.push({ line: number, fault: 'the text is incomplete: the final line "end" is missing' });
+  if (!isEnded) faults.push({ line: number, fault: 'the text that begins here has no final line "end"; its solutions are counted' });
   const solutions = parts.filter(({ line }) => !/^(student|course|assignment) /.test(line));
   return { course: valueOf("course"), assignment: valueOf("assignment"), student: valueOf("student"), solutions, faults };
 }

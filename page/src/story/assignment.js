@@ -125,7 +125,7 @@ function html(place) {
   const { tasks, unknown, lines, done } = doneOf(place);
   const first = tasks.find(({ id }) => lines[id] === undefined);
   const wrong = unknown.length === 0 ? "" : `<p class="again">This page does not have ${escaped(unknown.join(", "))}. Please tell your teacher.</p>`;
-  const due = place.given.due === undefined ? "" : `<p class="due"><b>Due: ${escaped(place.given.due.slice(0, 40))}</b></p>`;
+  const due = place.given.due === undefined ? "" : `<p class="due"><b>Due: ${escaped(dueText(place.given.due))}</b></p>`;
   const lead = `${due}<p class="lead">${counted(tasks.length, "task")}, ${done.length} done in this browser. Come back by the same link: what is done stays ticked.</p>
     <progress max="${tasks.length || 1}" value="${done.length}" aria-label="${done.length} of ${tasks.length} done"></progress>${wrong}
     <p class="small">New to this? <a href="#story=1">Why not just one lock?</a> 20 minutes, from nothing.</p>`;
@@ -160,11 +160,22 @@ function isNamed() {
   return false;
 }
 
+export function inFileName(text) {
+  const letters = { ä: "ae", ö: "oe", ü: "ue", ß: "ss" };
+  const words = text.toLowerCase().replace(/[äöüß]/g, (letter) => letters[letter]);
+  return words.normalize("NFD").replace(/\p{M}/gu, "").replace(/[^\p{L}\p{N}]+/gu, "-");
+}
+
 function fileName() {
   const { student, number } = keptStory();
-  const letters = { ä: "ae", ö: "oe", ü: "ue", ß: "ss" };
-  const words = [student, number, titleOfAssignment(now.place)].join(" ").toLowerCase().replace(/[äöüß]/g, (letter) => letters[letter]);
-  return `${words.normalize("NFD").replace(/\p{M}/gu, "").replace(/[^\p{L}\p{N}]+/gu, "-")}.txt`;
+  return `${inFileName([student, number, titleOfAssignment(now.place)].join(" "))}.txt`;
+}
+
+// Returns a due day in words. Any other text in the link is returned as it is.
+function dueText(text) {
+  const day = new Date(/^\d{4}-\d\d-\d\d$/.test(text) ? `${text}T12:00` : NaN);
+  if (Number.isNaN(day.getTime())) return text.slice(0, 40);
+  return `${day.toLocaleDateString("en-GB", { weekday: "long", day: "numeric", month: "long", year: "numeric" })}, end of the day`;
 }
 
 function save() {

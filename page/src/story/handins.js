@@ -59,7 +59,7 @@ function takeText(students, text, courses, assignment) {
   const read = readHandIn(text);
   const who = studentOf(read.student, text.file);
   const key = who.number === "" ? `${text.file}\n${text.number}` : `${who.number} ${who.name.toLowerCase()}`;
-  const own = students.get(key) ?? { ...who, files: [], solved: new Map(), hows: new Map(), wrong: new Set(), notes: [], faults: 0, isOdd: false, copies: [], large: "" };
+  const own = students.get(key) ?? { ...who, files: [], solved: new Map(), hows: new Map(), wrong: new Set(), notes: [], faults: 0, isOdd: false, isCounted: false, copies: [], large: "" };
   students.set(key, own);
   if (!own.files.includes(text.file)) own.files.push(text.file);
   const isOther = assignment !== null && ![null, assignment.title].includes(read.assignment);
@@ -70,6 +70,7 @@ function takeText(students, text, courses, assignment) {
   if (course === undefined) own.notes.push(`the course “${read.course}” is not among the files`);
   own.faults += read.faults.length + (course === undefined ? 1 : 0);
   own.isOdd ||= isOther || read.solutions.length === 0;
+  own.isCounted ||= !isOther;
   const odd = { others: new Set(), answers: new Set() };
   for (const one of isOther ? [] : read.solutions) judgePart(own, course?.lessons ?? [], one, assignment?.tasks ?? null, odd);
   const [others, answers] = [odd.others, odd.answers].map((some) => [...some].map((task) => titleOf(task, courses)));
@@ -108,6 +109,7 @@ function titleOf(task, courses) {
 
 export const markOf = ({ solved, wrong }, { id }) => (solved.has(id) ? "solved" : wrong.has(id) ? "wrong" : "none");
 export const countOf = ({ solved }, columns) => columns.filter(({ id }) => solved.has(id)).length;
+export const countText = (row, columns, none) => (row.isCounted ? countOf(row, columns) : none); // a student who handed in for another assignment has not failed in this one
 
 function notesOnNames(row, rows) {
   const { name, number, files } = row;
@@ -173,7 +175,7 @@ export function csvOf({ rows, columns }, parted = ",") {
   const line = (row) => {
     const hows = columns.filter(({ id }) => row.hows.has(id)).map(({ id, title }) => `${title}: ${row.hows.get(id)}`);
     const marks = columns.map((column) => ({ solved: 1, wrong: 0, none: "" })[markOf(row, column)]);
-    return [row.name, row.number, ...marks, countOf(row, columns), columns.length, [copiesText(row, true), row.large].filter((text) => text !== "").join("; "), [...hows, ...row.notes].join(" | "), row.files.join(" ")];
+    return [row.name, row.number, ...marks, countText(row, columns, ""), columns.length, [copiesText(row, true), row.large].filter((text) => text !== "").join("; "), [...hows, ...row.notes].join(" | "), row.files.join(" ")];
   };
   return `\ufeff${[head, ...rows.map(line)].map((cells) => cells.map(cell).join(parted)).join("\r\n")}\r\n`;
 }

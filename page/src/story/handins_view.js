@@ -3,12 +3,13 @@ import { textOfBytes } from "../course/hand_in.js";
 import { saveText } from "../page/files.js";
 import { linkTo } from "../page/visit.js";
 import { counted, escaped, tag } from "../run/markup.js";
-import { assignmentOfLink, checkAll, commonText, copiesText, countOf, csvOf, fewNames, markOf, sumsOf } from "./handins.js";
+import { inFileName } from "./assignment.js";
+import { assignmentOfLink, checkAll, commonText, copiesText, countOf, countText, csvOf, fewNames, markOf, sumsOf } from "./handins.js";
 import { part } from "./scene.js";
 
 const MOST_BYTES = 2_000_000; // largest size of a file
 const MOST_NOTES = 3; // notes of a student in the table; the CSV has all notes
-const given = { files: [], tooLong: [], result: null, turn: 0 };
+const given = { files: [], tooLong: [], result: null, title: "", turn: 0 };
 const MARKS = { solved: '<b class="yes">✓</b>', wrong: '<b class="no" title="handed in, and wrong">✗</b>', none: "–" };
 const piece = (name) => part(`#in-${name}`);
 
@@ -24,7 +25,7 @@ async function check() {
   const result = await checkAll(given.files, assignment, (value, max) => isNow() && Object.assign(piece("progress"), { value, max }));
   if (!isNow()) return;
   piece("progress").hidden = true;
-  given.result = result;
+  Object.assign(given, { result, title: assignment?.title ?? "hand-ins" });
   drawResult(result);
 }
 
@@ -80,23 +81,24 @@ function notesOf({ notes }) {
 function drawRow(row, columns) {
   const how = ({ id }) => (row.hows.has(id) ? ` <span class="small">${row.hows.get(id)}</span>` : "");
   const cells = columns.map((column) => `<td class="mark">${MARKS[markOf(row, column)]}${how(column)}</td>`).join("");
-  return `<tr><th scope="row">${escaped(row.name)}</th><td>${escaped(row.number)}</td>${cells}<td class="mark"><b>${countOf(row, columns)}</b></td>
-    <td class="same" title="${escaped(copiesText(row))}" data-sort="${escaped(copiesText(row))}">${escaped(copiesText(row) || row.large)}</td><td class="notes${row.faults > 0 || row.isOdd ? " garbled" : ""}">${notesOf(row)}</td></tr>`;
+  return `<tr><th scope="row">${escaped(row.name)}</th><td>${escaped(row.number)}</td>${cells}<td class="mark"><b>${countText(row, columns, "–")}</b></td>
+    <td class="same" title="${escaped(copiesText(row) || row.large)}" data-sort="${escaped(copiesText(row))}">${escaped(copiesText(row) || row.large)}</td><td class="notes${row.faults > 0 || row.isOdd ? " garbled" : ""}">${notesOf(row)}</td></tr>`;
 }
 
 function drawResult({ rows, columns, empty, common }) {
+  const own = rows.filter(({ isCounted }) => isCounted);
   const full = rows.filter((row) => countOf(row, columns) === columns.length).length;
   const odd = [["Without a hand-in", empty], ["Too long", given.tooLong]];
   const names = common.map((one) => `${escaped(`${one.title}: ${fewNames(one.rows)}`)}.`).join("<br>");
   const wrong = odd.filter(([, names]) => names.length > 0).map(([what, names]) => tag("span", { class: "odd" }, `${what}: ${escaped(names.join(", "))}.`));
   const merged = rows.reduce((sum, { files }) => sum + files.length - 1, 0);
   const files = `${counted(given.files.length + given.tooLong.length, "file")}: <b>${counted(rows.length, "student")}</b>`;
-  piece("said").innerHTML = `${files}, ${merged} merged, ${empty.length} without a hand-in. ${full} with ${columns.length === 1 ? "the task" : `all ${columns.length} tasks`}. ${wrong.join(" ")}`;
+  piece("said").innerHTML = `${files}, ${merged} merged, ${empty.length} without a hand-in. ${full} with ${columns.length === 1 ? "the task" : `all ${columns.length} tasks`}. ${own.length === rows.length ? "" : `${rows.length - own.length} for another assignment, not counted. `}${wrong.join(" ")}`;
   piece("shared").innerHTML = common.length === 0 ? "" : `<details class="small"><summary>${escaped(commonText(common))}</summary>${names}</details>`;
   const head = (name, at) => tag("th", { scope: "col", ...(at === 0 ? { "aria-sort": "ascending" } : {}) }, tag("button", { "data-do": "sort", "data-at": at }, escaped(name)));
   const heads = ["Student", "Number", ...columns.map(({ title }) => title), "Solved", "Same schedules", "Notes"].map(head);
   const body = rows.map((row) => drawRow(row, columns)).join("");
-  const sums = sumsOf({ rows, columns }).map((sum) => `<td class="mark">${sum} of ${rows.length}</td>`).join("");
+  const sums = sumsOf({ rows, columns }).map((sum) => `<td class="mark">${sum} of ${own.length}</td>`).join("");
   piece("table").innerHTML = `<table class="class"><thead><tr>${heads.join("")}</tr></thead><tbody>${body}</tbody>
     <tfoot><tr><th scope="row">solved by</th><td></td>${sums}<td></td><td></td><td></td></tr></tfoot></table>`;
   showRows();
@@ -116,7 +118,7 @@ function clear() {
 }
 
 export const handInDeeds = {
-  csv: ({ dataset }) => saveText("hand-ins.csv", csvOf(given.result, dataset.parted), "text/csv"),
+  csv: ({ dataset }) => saveText(`${inFileName(given.title)}${dataset.parted === undefined ? "" : "-semicolons"}.csv`, csvOf(given.result, dataset.parted), "text/csv"),
   clear,
   sort({ dataset: { at } }) {
     const body = piece("table").querySelector("tbody");

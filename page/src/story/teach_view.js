@@ -62,7 +62,7 @@ function homeworkHtml() {
   const lessons = bookCourse().lessons.map(({ name, title, list }, at) => pick("learn", name, at + 1, title, LISTS[list].name));
   const levels = allLevels().map(({ name, number }) => pick("break", number, number, LISTS[LACKING[name]].name, BREAK_LEVELS[name].story));
   return `<section class="panel" id="homework"><h2>Homework, as one link</h2><p class="prose">Tick tasks. The link contains the whole assignment: it can be bookmarked
-    and forwarded, and it never changes. If the page is on a web server, every computer opens it.</p>
+    and forwarded, and it never changes. Make it on the web server where students open the page: that needs the folder <code>page/</code> only.</p>
     <div class="line"><label class="wide-label">Title <input id="hw-title" value="${escaped(work.title)}" maxlength="60"></label>
     <label class="wide-label">Due (optional; students see it) <input id="hw-due" type="date" value="${work.due}"></label></div>
     <div class="columns">${picks("learn", "Solve", lessons)}${picks("break", "Break", levels)}
