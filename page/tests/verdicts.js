@@ -822,7 +822,7 @@ const OF_WHY = [
     const differ = hit.some((key) => changed.some((other) => other !== key && Math.abs(key - other) % Number(multiple) === 0));
     return differ && Number(some) <= Number(all) && Number(all) <= tally.lost + tally["came back"] && Number(some) * 10 >= Number(all) * 9 && Number(usual) <= 60;
   }],
-  [/^(?:because|fact) a successful remove of the next smaller key known to be present ran during at least (\d+) of (\d+) checked answers that missed a key \(during sampled answers that found theirs: (\d+) of 100\)$/, (it, [some, all, usual], { told }) => {
+  [/^(?:because|fact) a successful remove of the next smaller key known to be present ran during at least (\d+) of (\d+) checked answers that missed a key \(during sampled answers that found their key: (\d+) of 100\)$/, (it, [some, all, usual], { told }) => {
     const isPresent = (key, moment) => {
       const ended = ofKey(it, key).filter((call) => call.ended !== null && call.ended < moment).sort((one, other) => one.ended - other.ended);
       return ended.length === 0 ? opens(it, key) : leaves(ended.at(-1));
@@ -835,7 +835,7 @@ const OF_WHY = [
     const missed = (told?.wrong ?? it.calls.filter((call) => call.reply === "false")).filter((call) => !needsKey(call));
     return missed.length >= Number(all) && missed.filter(isNext).length >= Number(some) && Number(some) <= Number(all) && Number(usual) <= 100;
   }],
-  [/^(?:because|fact) before (\d+) of (\d+) checked wrong answers the last change of the key was by another thread \(of sampled answers: (\d+) of 100\), and before (\d+) the thread of the answer had changed a key since$/, (it, [some, all, usual, since], { told }) => {
+  [/^(?:because|fact) the last change of the key was by another thread before (\d+) of (\d+) checked wrong answers \(before sampled answers: (\d+) of 100\); before (\d+) of these, the thread of the answer had changed a key since$/, (it, [some, all, usual, since], { told }) => {
     const wrong = (told?.wrong ?? it.calls.filter((call) => call.ended !== null && !isChange(call))).map((answer) => {
       const change = ofKey(it, answer.key).filter((call) => isChange(call) && call.ended !== null && call.ended < answer.begun).sort((one, other) => one.begun - other.begun).at(-1);
       return { answer, change };
@@ -844,12 +844,12 @@ const OF_WHY = [
     const foreign = wrong.filter(({ answer, change }) => answer.thread !== change.thread).length;
     return wrong.length >= Number(all) && foreign >= Number(some) && wrong.filter(isLater).length >= Number(since) && Number(some) <= Number(all) && Number(usual) <= 100;
   }],
-  [/^(?:because|fact) during at least (\d+) of (\d+) checked wrong answers a call of another thread returned the same \(during sampled answers the opposite: (\d+) of 100\)$/, (it, [some, all, usual], { told }) => {
+  [/^(?:because|fact) during at least (\d+) of (\d+) checked wrong answers a call of another thread returned the same reply \(during sampled answers, the opposite reply: (\d+) of 100\)$/, (it, [some, all, usual], { told }) => {
     const wrong = told?.wrong ?? it.calls.filter((call) => call.ended !== null && !isChange(call));
     const isMet = (answer) => [...it.calls, ...it.padding].some((call) => call.thread !== answer.thread && call.reply === answer.reply && inTime(call, answer.begun, answer.ended));
     return wrong.length >= Number(all) && wrong.filter(isMet).length >= Number(some) && Number(some) <= Number(all) && Number(usual) <= 100;
   }],
-  [/^(?:because|fact) (\d+) answers that began from moment (\d+) to (\d+) missed (\d+) keys; (\d+) of (\d+) checked ones began at most 50 moments from one that missed another key \(by chance: (\d+) of 100\)$/, (it, [answers, from, to, keys, some, all, usual], { told }) => {
+  [/^(?:because|fact) (\d+) answers that began from moment (\d+) to (\d+) missed (\d+) keys; (\d+) of (\d+) checked ones began at most 50 moments from one that missed another key \(expected by chance: (\d+) of 100\)$/, (it, [answers, from, to, keys, some, all, usual], { told }) => {
     const missed = (told?.wrong ?? it.calls.filter((call) => call.ended !== null && !isChange(call))).filter((call) => !needsKey(call));
     const burst = missed.filter((call) => call.begun >= Number(from) && call.begun <= Number(to));
     const near = missed.filter((call) => missed.some((one) => one.key !== call.key && Math.abs(one.begun - call.begun) <= 50));

@@ -80,30 +80,30 @@ impl Pattern {
             ),
             Pattern::Successors => writeln!(
                 out,
-                "a successful remove of the next smaller key known to be present ran during at least {count} of {of} checked answers that missed a key (during sampled answers that found theirs: {usual} of 100)"
+                "a successful remove of the next smaller key known to be present ran during at least {count} of {of} checked answers that missed a key (during sampled answers that found their key: {usual} of 100)"
             ),
             Pattern::Foreign => writeln!(
                 out,
-                "before {count} of {of} checked wrong answers the last change of the key was by another thread (of sampled answers: {usual} of 100), and before {refreshed} the thread of the answer had changed a key since"
+                "the last change of the key was by another thread before {count} of {of} checked wrong answers (before sampled answers: {usual} of 100); before {refreshed} of these, the thread of the answer had changed a key since"
             ),
             Pattern::Borrowed => writeln!(
                 out,
-                "during at least {count} of {of} checked wrong answers a call of another thread returned the same (during sampled answers the opposite: {usual} of 100)"
+                "during at least {count} of {of} checked wrong answers a call of another thread returned the same reply (during sampled answers, the opposite reply: {usual} of 100)"
             ),
             Pattern::Bursts => writeln!(
                 out,
-                "{answers} answers that began from moment {from} to {to} missed {keys} keys; {count} of {of} checked ones began at most 50 moments from one that missed another key (by chance: {usual} of 100)"
+                "{answers} answers that began from moment {from} to {to} missed {keys} keys; {count} of {of} checked ones began at most 50 moments from one that missed another key (expected by chance: {usual} of 100)"
             ),
         }
     }
 }
 
-/// Returns whether nearly all wrong replies, of both kinds, are replies of other threads' calls at the same time.
+/// Returns whether most wrong replies, of both kinds, are replies of other threads' calls at the same time.
 pub(crate) fn is_borrowed(patterns: &Patterns) -> bool {
     let some = patterns.borrowed_true;
     let others = patterns.borrowed.of.saturating_sub(some);
-    let is_nearly_each = is_least(patterns.borrowed.count, patterns.borrowed.of, 90);
-    is_nearly_each && some.min(others) >= 3 && Pattern::Borrowed.is_clear(patterns)
+    let are_most = is_least(patterns.borrowed.count, patterns.borrowed.of, 60);
+    are_most && some.min(others) >= 3 && Pattern::Borrowed.is_clear(patterns)
 }
 
 /// Returns whether at least four keys are missed at the same time, and wrong answers are mostly near each other.
