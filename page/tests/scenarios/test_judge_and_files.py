@@ -66,7 +66,7 @@ def test_a_run_to_judge_says_what_to_do_and_shows_the_bars_and_replies(visitor):
     for size, least in (((1366, 640), 16), ((1280, 720), 16), ((390, 844), 13)):
         fit(visitor, *size)
         visitor.open("#example=snip&judge")
-        assert "Press each bar" in visitor.text("#judge-note") and "Choose each reply below" in visitor.text("#judge-note") and "Does B have to wait?" in visitor.text("#judge-of")
+        assert "Press each bar" in visitor.text("#judge-note") and "Choose each reply below" in visitor.text("#judge-note") and "Does B have to wait for A?" in visitor.text("#judge-of")
         places = visitor.script("""const foot = document.querySelector("#dock").getBoundingClientRect().top;
             return ["#judge-bars", "#judge-replies", "#judge-ask"].map((it) => document.querySelector(it).getBoundingClientRect().bottom <= foot + 1)""")
         assert places == [True, True, True] or least == 13 and places[0], (size, places)
