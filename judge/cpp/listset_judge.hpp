@@ -691,7 +691,7 @@ inline bool is_alone() {
     return std::distance(begin(threads), end(threads)) <= 1;
 }
 
-// Performs a run in a child process. Returns the reason if the run was cut short, otherwise an empty text.
+// Performs a run in a child process. Returns the reason if the run was cut short, otherwise an empty string.
 template <class Maker> std::string made_in_child(Maker &by, area &run) {
     const pid_t process = fork();
     if (process < 0) throw no_verdict(say(NO_PROCESS, strerror(errno)));
@@ -818,7 +818,7 @@ inline judge_found find_judge() {
 }
 #endif
 
-// Judges a recording. Returns two values: the judge's output if no order explains the calls, otherwise an empty text;
+// Judges a recording. Returns two values: the judge's output if no order explains the calls, otherwise an empty string;
 // and the number of calls that overlapped a call that changed the same key.
 inline std::pair<std::string, uint64_t> judged(const judge_found &by, const std::string &file) {
     const auto [status, said] = by.asked_of(file);
@@ -940,7 +940,7 @@ template <class Make, class Key> struct tester {
     }
 
     // Describes the key that has this number in the recording and, if the run has several sets, the key's set. Returns an
-    // empty text if the number itself is the key, and the run has a single set.
+    // empty string if the number itself is the key, and the run has a single set.
     static std::string key_line(const std::string &number, const shape &it, const std::vector<K> &keys) {
         if (number.empty() || (it.sets == 1 && std::is_same_v<Key, listset::judging::number>)) return "";
         const unsigned long at = std::stoul(number) / it.times;

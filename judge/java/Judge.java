@@ -460,7 +460,7 @@ public final class Judge {
 
         /**
          * Describes the key that has this number in the recording and, if the run has several sets, the key's set. Returns
-         * an empty text if the number itself is the key, and the run has a single set.
+         * an empty string if the number itself is the key, and the run has a single set.
          */
         private String keyLine(int number, Shape shape) {
             if (shape.sets == 1 && calls.keys == null) return "";

@@ -331,7 +331,7 @@ class Tester:
 
     def key_line(self, number: str, shape: Shape) -> str:
         """Describes the key that has this number in the recording and, if the run has several sets, the key's set. Returns an
-        empty text if the number itself is the key, and the run has a single set.
+        empty string if the number itself is the key, and the run has a single set.
         """
         if not number or shape.sets == 1 and not self.how.key:
             return ""

@@ -102,7 +102,7 @@ function waysLeft(calls, key, isThere) {
   return [...new Set([...nodes].map((node) => (node & 1) === 1))];
 }
 
-// Returns the nodes that the pending calls reach from some nodes.
+// Returns the nodes of the search that can be reached from `nodes` if pending calls take effect.
 function settled(nodes, pending) {
   const [todo, found] = [[...nodes], new Set()];
   while (todo.length > 0) {

@@ -74,7 +74,7 @@ impl<'a> Recording<'a> {
     }
 
     /// Describes the key that has this number in the recording and, if the run has several sets, the key's set. Returns
-    /// an empty text if the number itself is the key, and the run has a single set.
+    /// an empty string if the number itself is the key, and the run has a single set.
     fn key_line<S>(&self, number: u32, source: &Source<S>) -> String {
         let key = number / self.shape.times;
         if self.shape.sets == 1 && !source.has_keys {

@@ -70,7 +70,7 @@ export function showStrip(figure) {
   setHtml(figure.part("strip"), tag("div", { class: "calls" }, drawCalls(run.trace, scale)) + drawContents(run.trace, scale) + legendOf(figure.spec));
 }
 const isLow = ({ spec }) => (isLecture() ? spec.prompt !== false : innerHeight < 760 && !spec.isPath); // (the narrow bars of two lists have no room for labels)
-// The path draws its bars larger, and aligns the list with them.
+// On the guided path, the bars of calls are larger, and the list is aligned with them.
 const zoomOf = ({ spec, stripWide }) => (isLecture() ? innerHeight / 450 : !spec.isPath ? 1 : stripWide < 600 ? 1.34 : stripWide < 1500 ? 1.35 : 1.55);
 export const barEnds = (figure) => [(HISTORY_LEFT - 6) * zoomOf(figure), 16 * zoomOf(figure)];
 const legendOf = ({ isTimed }) => `<p class="small legend">● the call changes the set · ○ ${isTimed ? "a" : "earliest"} moment when its answer is correct</p>`;

@@ -69,7 +69,7 @@ class Learning {
   }
 }
 
-// The panel is created on first use, since checking its lessons needs some time.
+// The panel is created on first use, since checking its lessons takes a while.
 export const learning = {
   get panel() {
     return (made.panel ??= new Learning());
