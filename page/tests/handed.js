@@ -157,7 +157,7 @@ function checkOwn(ask, course, folder) {
   for (const [name, words] of files) fs.writeFileSync(path.join(folder, name), words);
   told("--csv", table, ...files.map(([name]) => path.join(folder, name)));
   const rows = fs.readFileSync(table, "utf8").split("\r\n").slice(1);
-  check(`the group of a schedule is named: ${rows[0]}`, rows[0].includes("Break 2: LockFreeList: as Bo, Cy and 2 more"));
+  check(`the group of a schedule is named: ${rows[0]}`, rows[0].includes("Break 7: LockFreeList: as Bo, Cy and 2 more"));
   check(`how a task was solved: ${rows}`, rows[0].includes("check named") && rows[1].includes("check not named") && rows[0].includes("replies and moments") && rows[2].includes("moments alone"));
   const example = ask("listset_example", "stale-pred").text;
   const trace = new (inPage("Trace"))(ask("listset_lacking", "second-walk", example, "trace").text, inPage("versionOf")(example));
