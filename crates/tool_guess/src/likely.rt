@@ -46,8 +46,11 @@ fn cause_of_effects(evidence: &Evidence) -> Option<Cause> {
     let (gone, lost) = (tally.gone(), tally.lost);
     // (if a key has few calls, a single unseen change is already a large share)
     let calls = evidence.calls.checked_div(evidence.keys).unwrap_or(0);
-    let is_late = is_share(tally.unseen_adds, tally.followed_adds, 25)
-        || is_share(tally.unseen_removes, tally.followed_removes, 25);
+    // (a change that no call sees never takes effect)
+    let is_never = tally.unseen_adds == tally.followed_adds && tally.unseen_removes == 0;
+    let is_late = !is_never
+        && (is_share(tally.unseen_adds, tally.followed_adds, 25)
+            || is_share(tally.unseen_removes, tally.followed_removes, 25));
     let many_unseen = tally.unseen_adds.max(tally.unseen_removes) >= 8 * ENOUGH;
     let is_pair = is_least(tally.swapped, tally.undone, 75)
         && is_share(tally.swapped_adds, tally.unadded, 55);
@@ -242,23 +245,31 @@ const LEAST_REFUSED: u64 = 8;
 /// Returns whether each of a few contradictions is of two calls on a key that overlapped as if each ran alone: two
 /// calls of the same operation both returned true, or a change was undone that overlapped a call that found the state
 /// before the change. At least 100 times as many pairs of calls on a key must overlap. Not all contradictions can be
-/// pairs of adds: a check in `add` explains these.
+/// pairs of one operation: a check in this operation explains these.
 fn is_rarely_inside(evidence: &Evidence, further: &Further) -> bool {
     let tally = &evidence.tally;
     let inside = tally.both().saturating_add(further.few.restored);
     tally.places >= 2
         && inside == tally.places
-        && tally.both_adds < tally.places
+        && tally.both_adds.max(tally.both_removes) < tally.places
         && further.few.pairs >= tally.places.saturating_mul(100)
         && !is_first_use(evidence)
 }
 
-/// Returns whether few of many added keys are affected, and most of at least three contradictions are losses or returns of
+/// Before this moment, a set has not grown yet.
+const GROWN: u64 = 200;
+
+/// Returns whether at most one in ten of many added keys is in use when the first contradiction ends, as in sets that
+/// grow one after another, few keys are affected, and most of at least three contradictions are losses or returns of
 /// keys, or pairs of calls that both returned true.
 fn is_outgrown(evidence: &Evidence, further: &Further) -> bool {
+    let Some(growth) = further.growth else {
+        return false;
+    };
     let tally = &evidence.tally;
     let plain = tally.gone().saturating_add(tally.both());
-    further.growth.is_some()
+    growth.moment >= GROWN
+        && growth.active.saturating_mul(10) <= evidence.keys
         && tally.places >= 3
         && tally.gone() > 0
         && is_least(plain, tally.places, 60)
@@ -329,55 +340,61 @@ pub fn likely_cause(evidence: &Evidence, further: &Further) -> Option<Cause> {
             Cause::TwoPlaces
         });
     }
+    let cause = match cause_of_replies(evidence, further) {
+        Some(cause) => Some(cause),
+        None => cause_of_changes(evidence, further),
+    };
+    match cause {
+        None if further.swap.is_some() => Some(Cause::OtherReply),
+        None if is_old_copy_at_once(evidence) => Some(Cause::OldCopyAtOnce),
+        cause => cause,
+    }
+}
+
+/// Returns the likely cause if replies are those of other calls, if calls act as if each ran alone, or if changes take
+/// effect at other times than during their calls.
+fn cause_of_replies(evidence: &Evidence, further: &Further) -> Option<Cause> {
     let tally = &evidence.tally;
-    if is_borrowed(&evidence.patterns) {
-        return Some(Cause::Borrowed);
-    }
-    if is_rarely_inside(evidence, further) {
-        return Some(Cause::Inside);
-    }
     let effect = cause_of_effects(evidence);
-    if effect.is_some() {
-        return effect;
-    }
-    if evidence.bound.is_some() && is_least(tally.gone(), tally.places, 30) {
-        return Some(Cause::SharedWord);
-    }
-    if is_inserted_twice(tally) {
-        return Some(Cause::InsertedTwice);
-    }
-    if is_check_then_act(tally) {
-        return Some(check_then_act(tally));
-    }
-    if is_missed_beside(tally) {
-        return Some(if is_in_bursts(&evidence.patterns) {
+    if is_borrowed(&evidence.patterns) {
+        Some(Cause::Borrowed)
+    } else if is_rarely_inside(evidence, further) {
+        Some(Cause::Inside)
+    } else if effect.is_some() {
+        effect
+    } else if evidence.bound.is_some() && is_least(tally.gone(), tally.places, 30) {
+        Some(Cause::SharedWord)
+    } else if is_inserted_twice(tally) {
+        Some(Cause::InsertedTwice)
+    } else if is_check_then_act(tally) {
+        Some(check_then_act(tally))
+    } else if is_missed_beside(tally) {
+        Some(if is_in_bursts(&evidence.patterns) {
             Cause::InTransit
         } else {
             Cause::MovedKeys
-        });
+        })
+    } else {
+        cause_of_refusals(tally)
     }
-    let refusals = cause_of_refusals(tally);
-    if refusals.is_some() {
-        return refusals;
-    }
+}
+
+/// Returns the likely cause if changes undo each other, or if a single thread is enough for a contradiction.
+fn cause_of_changes(evidence: &Evidence, further: &Further) -> Option<Cause> {
     if Pattern::Strides.is_clear(&evidence.patterns) {
         return Some(Cause::Stripes);
     }
     if is_unlinked(evidence) {
         return Some(Cause::Unlinked);
     }
-    if is_made_again(tally) {
+    if is_made_again(&evidence.tally) {
         return Some(Cause::MadeAgain);
     }
     let cause = match cause_in_one_thread(evidence) {
         Some(cause) => Some(cause),
         None => cause_of_races(evidence),
     };
-    match or_outgrown(evidence, further, cause) {
-        None if further.swap.is_some() => Some(Cause::OtherReply),
-        None if is_old_copy_at_once(evidence) => Some(Cause::OldCopyAtOnce),
-        cause => cause,
-    }
+    or_outgrown(evidence, further, cause)
 }
 
 /// Returns the cause `Outgrown` in place of no cause, or in place of a table that is replaced, if many keys are added
