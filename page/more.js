@@ -374,9 +374,9 @@ pub fn lazy_change_within<P: Pause, N: Rounds>(
 /// Executes a whole \`contains\` of \`key\`: walks to the first key that is not smaller than \`key\`, and replies according
 /// to the mark of its node. This is Herlihy and Shavit's wait-free \`contains\`.
 ///
-/// \`place\` is an idle seat (the right to call the set as one thread) on the words \`table\`, and \`slots\` are the slots of
-/// its thread (nodes for keys that it adds). Returns the slots and the reply. \`pause\` is called after each step that
-/// does not end the call. Does not block, and always returns.
+/// \`place\` is an idle seat (per-thread handle) on the words \`table\`, and \`slots\` are the slots of its thread (nodes for
+/// keys that it adds). Returns the slots and the reply. \`pause\` is called after each step that does not end the call.
+/// Does not block, and always returns.
 pub fn contains_on<M: ReadsByRows, P: Pause>(
     table: &Words<M>,
     place: &mut TableSeat,
