@@ -2,7 +2,7 @@
 //! seldom on two processors at once. So a thread polls for a partner before a call, and both continue only if the partner
 //! polls too. Half of the calls then use two neighboring keys, which change after every `MEET` calls. This happens in runs
 //! with an odd seed, unless `pauses` is 0.
-use std::hint::black_box;
+use std::sync::atomic::{AtomicU32, Ordering};
 use std::time::{Duration, Instant};
 
 use crate::area::{Area, At, Draws};
@@ -96,9 +96,10 @@ impl<'a> Partners<'a> {
 
     /// Delays a call by up to some hundred nanoseconds, because one of two partners always continues a bit earlier.
     pub fn delay(&self) {
-        let mut left = self.near;
-        while left > 0 {
-            left = black_box(left - 1);
+        // (a compiler keeps the operations of an atomic)
+        let left = AtomicU32::new(self.near);
+        while left.load(Ordering::Relaxed) > 0 {
+            left.fetch_sub(1, Ordering::Relaxed);
         }
     }
 }
