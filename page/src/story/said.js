@@ -141,7 +141,7 @@ function writeSaid(moment, owner, who) {
   const isDone = event.deed === "store" || event.saw === event.from;
   if (event.to.endsWith("*") && event.call.operation === "remove") {
     if (isDone) return `marks ${who}${who === String(key) ? `: ${bold(`${key} is removed.`)}` : `. ${bold(`Its key is not ${key} any more.`)}`}`;
-    return event.saw.endsWith("*") ? `wants to mark ${who}, but it is marked already. ${bold("It was too late")}, and walks again.` : `tries to mark ${who}, but its arrow has changed. It walks again.`;
+    return event.saw.endsWith("*") ? `wants to mark ${who}, but the CAS finds it marked already. ${bold("It was too late")}, and walks again.` : `tries to mark ${who}, but the CAS finds another arrow. It walks again.`;
   }
   if (event.put !== undefined) {
     const isIn = state.chain().includes(linkTarget(event.to));
@@ -150,7 +150,7 @@ function writeSaid(moment, owner, who) {
   if (!isDone) {
     const rest = event.answer !== undefined ? "That does not matter: the mark counts." : "It walks again.";
     const isMarked = event.saw.endsWith("*") && !event.from.endsWith("*");
-    return `tries to change the arrow of ${who}, but ${isMarked ? `${who} has been marked` : "the arrow has changed"}. ${rest}`;
+    return `tries to change the arrow of ${who}, but the CAS finds ${isMarked ? "it marked" : "another arrow"}. ${rest}`;
   }
   const chain = state.chain();
   const curr = nodeName(state, before.curr);
