@@ -423,7 +423,7 @@ export const BOOK = [
   "  Lock-free: among a bounded number of steps of add and remove, by whichever threads, one ends its",
   "  call. This is proved here, with the number (Read, the tables, Progress). Each failed exchange of this add is caused",
   "  by another thread, which has changed the link. Wait-free would say that every call ends after",
-  "  finitely many of its own steps. An add of this list is not: others can change the link each time.",
+  "  finitely many of its own steps. An add of this list is not, but for quotas: others can change the link each time.",
   "hint",
   "  Each time thread 0 is about to exchange the link of pred, let thread 1 change that link first.",
   "answer",
