@@ -231,7 +231,7 @@ def test_programs_in_rust_use_sets_and_judge(installed):
     installed.first_set(made / "first_set")
     well(made / "judged")
     how["env"] |= {"SET": "right", "HOW": "runs=2"}
-    first = ["--test", "sets", "--", "set", "--exact", "--nocapture"]
+    first = ["--test", "sets", "--", "set", "--exact", "--nocapture", "--include-ignored"]
     is_judged(well(*cargo, "test", "--locked", *target, "--manifest-path", FORMS / "rust" / "Cargo.toml", *first, **how), installed.proof())
 
 
