@@ -16,7 +16,7 @@ const [verdictOnCalls, verdictOnLacking, verdictOn] = ["verdictOnCalls", "verdic
 const [OwnAnswer, exerciseOf, readReport, LACKING] = ["OwnAnswer", "exerciseOf", "readReport", "LACKING"].map(inPage);
 const LAST = Infinity;
 const LONG = ["inside", "growing", "unlinked", "outlasted", "ownCopies", "transit", "successors", "borrowed", "stripes"]; // kinds with long recordings
-const OF_FACTS = ["inside", "unlinked", "outlasted", "ownCopies", "transit", "successors", "borrowed", "stripes"]; // kinds of which only the facts are checked
+const OF_FACTS = ["inside", "unlinked", "outlasted", "ownCopies", "transit", "successors", "borrowed", "stripes"]; // only the facts of these kinds are checked
 
 // ---- Random numbers, which are the same each time this script runs with the same seed.
 
