@@ -46,7 +46,7 @@ history_begun threads calls x h may = record {
   pairs = all_pairs_push Follows calls x h.pairs may.follows;
 }
 
--- ---- Lemmas about a pending call that ends after all other moments of the history
+-- ---- Lemmas about ending a pending call after all earlier starts and ends
 later_than : (o : Option (ℕ × Reply)) (at : ℕ) → IfSome o (λ (e : ℕ × Reply). e.0 < at) → IfSome o (λ (e : ℕ × Reply). at ≢ e.0)
 later_than None at h = tt
 later_than (Some e) at h = λ same. omega arith

@@ -1,5 +1,5 @@
--- Properties of the calls in the log of a run at each moment, if each event is a valid start of a call or a valid
--- step. Moment k is after the first k entries of the log.
+-- Properties of the calls of a run after each event, if each event is a valid start of a call or a valid step. Moment
+-- k is the state after the first k events.
 use Rattle.std.proofs.Common.{rules, ◌≡◌, ◌≢◌, ℕ, zero, suc, ◌<◌, ◌≤◌, ◌⊎◌, Bool, true, false, ◌||◌, ◌&&◌, inl, inr, List, [], ◌∷◌, ◌++◌, map, length}
 use Rattle.std.proofs.Common.{sym, refl, ap, subst, ◌∙◌, arith}
 use Rattle.std.specs.Prelude.{slice_index_or, Option, Some, None, is_some, is_none, IfSome, IsSomeAnd, All, AllPairs, if◌then◌else◌}
@@ -19,7 +19,8 @@ use Rattle.lset_words.specs.Words.{Opening}
 use Rattle.lset_words.proofs.Numbers.{equal_test, same_or_not}
 use Rattle.lset_words.proofs.LastCalls.{last_own, last_other}
 
--- A run: its log and, at each moment, the keys of the set and each thread's number of successful adds.
+-- A run: its log of events and, at each moment (after each number of events), the keys of the set and each thread's
+-- number of successful adds.
 pub record Run : Type 1 where
   pub threads : ℕ
   pub quota : ℕ
@@ -31,14 +32,14 @@ abbrev pub run_of : ℕ → ℕ → Log → Contents → Counts → Run
 run_of threads quota log contents counts =
     record { threads = threads; quota = quota; log = log; contents = contents; counts = counts }
 
--- Holds if the log entry just before the moment `begun` is the start of this call.
+-- Holds if event number `begun` of the run, counted from 1, is the start of this call.
 pub record Beginning (r : Run) (thread : ℕ) (call : Call) (begun : ℕ) : Type 0 where
   pub before : ℕ
   pub is : begun ≡ suc before
   pub entry : r.log before ≡ began thread call
 
--- Holds if this call changes the set in the log entry just before the moment `changed`, and is allowed to make this
--- change.
+-- Holds if event number `changed` of the run, counted from 1, is a step of this call that changes the set, and the
+-- call is allowed to make this change.
 pub record ChangeAt (r : Run) (thread : ℕ) (call : Call) (begun changed : ℕ) : Type 0 where
   pub before : ℕ
   pub is : changed ≡ suc before
@@ -48,8 +49,8 @@ pub record ChangeAt (r : Run) (thread : ℕ) (call : Call) (begun changed : ℕ)
   pub entry : r.log before ≡ stepped thread (Some change) reply
   pub may : MayChange r.quota (r.counts before thread) call false (Some change)
 
--- Holds if this call ends with a correct reply in the log entry just before the moment `end`. If the call makes a
--- change, it makes the change in this entry or earlier.
+-- Holds if event number `end` of the run, counted from 1, ends this call with a correct reply. If the call changes the
+-- set, it does so in this event or earlier.
 pub record EndAt (r : Run) (thread : ℕ) (call : Call) (begun : ℕ) (changed : Option ℕ) (end : ℕ) (reply : Reply) : Type 0 where
   pub before : ℕ
   pub is : end ≡ suc before
@@ -59,15 +60,15 @@ pub record EndAt (r : Run) (thread : ℕ) (call : Call) (begun : ℕ) (changed :
   pub after_change : (m : ℕ) → changed ≡ Some m → m ≤ end
   pub right : RightReply (is_some changed) r.quota r.contents r.counts begun end thread call (Some reply)
 
--- Holds if this is the last call of a thread, and it has been pending since `begun`. The call has made a change if and
--- only if `changed` is not `None`.
+-- Holds if `last` is this call, which began with event number `begun` and is still pending. The call has changed the
+-- set if and only if `changed` is not `None`.
 pub record OpenAt (last : LastCall) (call : Call) (begun : ℕ) (changed : Option ℕ) : Type 0 where
   pub is : last.pending ≡ true
   pub call_is : last.call ≡ call
   pub begun_is : last.begun ≡ begun
   pub changed_is : last.changed ≡ is_some changed
 
--- Holds if the call `x`, in its state at moment `k`, agrees with the log: its start and, if any, its change and its
+-- Holds if the call `x`, in its state after `k` events, agrees with the log: its start and, if any, its change and its
 -- end are entries of the log.
 pub record Traced (r : Run) (k : ℕ) (x : TracedCall) : Type 0 where
   pub of_a_thread : x.thread < r.threads
@@ -94,8 +95,8 @@ pub if_some : {A : Type 0} (o : Option A) (P : A → Type 0) → ((x : A) → o 
 if_some None P f = tt
 if_some (Some x) P f = f x refl
 
--- Holds if the list of calls at moment `k` is right: each call agrees with the log, and the list has each pending call
--- and each call with a change.
+-- Holds if `xs` are the calls of the run after `k` events. Each call agrees with the log. The list lacks no pending
+-- call, and no call that has changed the set.
 pub record Calls (r : Run) (k : ℕ) (xs : List TracedCall) : Type 0 where
   pub each : All (Traced r k) xs
   pub pairs : AllPairs Later xs
@@ -336,8 +337,8 @@ module _ {r : Run} {k t : ℕ} {change : Option Change} {reply : Option Reply} (
         | inr y ↦ (sym (ap (λ (x : LastCall). x.pending) (last_other r.log u k entry y)) ∙ o, λ z. absurd (y z))
       ]
 
--- At each moment of a run, the list of the run's calls has the properties in `Calls`. Proof by induction on the
--- moments.
+-- After each event of a run, the list of the run's calls has the properties in `Calls`. Proof by induction on the
+-- number of events.
 pub calls_of : (op : Opening) (last : ℕ) (log : Log) (contents : Contents) (counts : Counts)
     → Account op last log contents counts
     → (k : ℕ) → k ≤ last → Calls (run_of op.threads op.quota log contents counts) k (calls_at log k)

@@ -120,7 +120,7 @@ module _ (changes : ℕ → List ℕ) (key : ℕ) (found : Option ℕ) where
 
 -- ---- Lemmas about the search after the last change
 
--- A key from `key` to just below the found key is a counterexample to the result if and only if the key is present.
+-- A key from `key` to just below the found key refutes the result if and only if the key is present.
 against_below : (changes : ℕ → List ℕ) (key : ℕ) (o : Option ℕ) (j m : ℕ) → key ≤ j → IsBelow j o
     → is_against changes key o j m ≡ is_present changes j m
 against_below changes key None j m l u = if_not_below j key l false (is_present changes j m)
@@ -213,8 +213,8 @@ abbrev pub IsFrom : ℕ → Option ℕ → Type 0
 IsFrom key None = Unit {0}
 IsFrom key (Some k) = key ≤ k
 
--- Each key from `key` to just below both `next` and `end` that is present after the last change was absent at
--- `moment`.
+-- Holds if each key from `key` to just below both `next` and `end` was absent at `moment` or is absent after the last
+-- change.
 abbrev pub CameUpTo : (ℕ → List ℕ) → ℕ → Option ℕ → Option ℕ → ℕ → Type 0
 CameUpTo changes key next end moment =
     (j : ℕ) → key ≤ j → IsBelow j next → IsBelow j end → is_present_now changes j ≡ true → is_present changes j moment ≡ false

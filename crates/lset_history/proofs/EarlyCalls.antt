@@ -1,5 +1,5 @@
--- The loop of the checker, from the end of an order to its start. It keeps the smallest end seen so far: a call that
--- begins after this end is too early in the order.
+-- The loop of the checker goes through an order from its last call to its first. The loop keeps the earliest moment
+-- when one of these calls ended. A call that begins after this moment is too early in the order.
 use Rattle.std.proofs.Common.{rules, ◌≡◌, ℕ, ◌<◌, ◌≤◌, List, length, Option, Some, None, refl, subst, inl, inr, ◌⊎◌}
 use Rattle.std.proofs.Common.{suc, arith}
 use Rattle.std.proofs.lemmas.Bool.{cases_order, cases_lt}
@@ -19,8 +19,8 @@ abbrev pub EndsFrom : List CallRecord → List Placed → ℕ → ℕ → Type 0
 EndsFrom calls order i moment =
     (later : ℕ) × (i ≤ later) × (later < length order) × EndsBefore moment (placed_call calls order later).ended
 
--- Holds if `smallest` is the smallest end of the calls at index `i` and later, or `None` if none of these calls has
--- ended.
+-- Holds if `smallest` is the earliest moment when one of the calls at index `i` and later ended, or `None` if none of
+-- these calls has ended.
 pub record EndsSmallest (calls : List CallRecord) (order : List Placed) (i : ℕ) (smallest : Option ℕ) : Type 0 where
   pub below : (moment : ℕ) → IsSomeAnd smallest (λ end. end < moment) → EndsFrom calls order i moment
   pub ends : (moment : ℕ) → EndsFrom calls order i moment → IsSomeAnd smallest (λ end. end < moment)

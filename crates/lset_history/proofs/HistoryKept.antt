@@ -20,7 +20,7 @@ use Rattle.lset_history.specs.History.{MayBegin, MayEnd, IsKept, with_begun, wit
 use Rattle.lset_history.proofs.CallByCall.{empty_history, history_begun, history_ended, never_ended}
 use Rattle.lset_history.proofs.Pairs.{read_written, read_other}
 
--- ---- Lemmas about the latest moment
+-- ---- Lemmas about the latest start or end of a call in a history
 ends_below : (o : Option (ℕ × Reply)) (at : ℕ) → moment_of o < at → IfSome o (λ (e : ℕ × Reply). e.0 < at)
 ends_below None at h = tt
 ends_below (Some e) at h = h

@@ -40,7 +40,7 @@ use Rattle.lset_history.proofs.Standings.{has_place}
 abbrev pub answered_of : Standing → Answered
 answered_of s = record { thread = s.traced.thread; call = s.traced.call; reply = reply_by s.traced.changed s.traced.ended }
 
--- Holds if a set in state `s` returns the replies of these calls, applied one after another, and is then in state `t`.
+-- Holds if a set in state `s`, called in this order, returns the replies of these calls and is then in state `t`.
 abbrev Leads : ℕ → SetState → SetState → List Standing → Type 0
 Leads quota s t xs = IsLegal quota s (map answered_of xs) × (set_left s (map answered_of xs) ≡ t)
 
@@ -220,13 +220,14 @@ module _ (op : Opening) (last : ℕ) (log : Log) (contents : Contents) (counts :
   none_due m i (q ∷ xs) late l (inl s) = let b : m < q.moment = late.0.1 s.0 in omega (arith, s.1)
   none_due m i (q ∷ xs) late l (inr s) = none_due m i xs late.1 l s
 
-  -- Holds if each change after moment `j` was made by one of these calls.
+  -- Holds if each change of the set after the first `j` events was made by one of these calls.
   abbrev Due : ℕ → List Standing → Type 0
   Due j xs = (i t : ℕ) (change : Change) (reply : Option Reply) → j ≤ i → i < last → log i ≡ stepped t (Some change) reply
       → SomeOf (ChangesIn (suc i)) xs
 
-  -- If all calls after moment `j` are applied in sorted order to the sequential set in its state of moment `j`, the set
-  -- returns their replies. Proof by induction on the calls: the set does not change between two changes.
+  -- If all calls after moment `j` (the first `j` events) are applied in sorted order to the sequential set in its
+  -- state of moment `j`, the set returns their replies. Proof by induction on the calls: the set does not change
+  -- between two changes.
   leads : (xs : List Standing) (j : ℕ) → j ≤ last → AllByRecursion Stands xs → Pairs ComesBefore xs → Late j xs → Due j xs
       → Leads op.quota (set_at op log j) (set_at op log last) xs
   leads [] j l s b late due = (tt, sym (quiet j last l due))

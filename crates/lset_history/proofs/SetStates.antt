@@ -31,7 +31,7 @@ abbrev pub set_after : Entry → SetState → SetState
 set_after (began t call) s = s
 set_after (stepped t change reply) s = record { keys = keys_after change s.keys; counts = counts_after t change s.counts }
 
--- Returns the sequential set at moment k, after the changes of the first k events.
+-- Returns the sequential set after the changes of the first k events.
 abbrev pub set_at : Opening → Log → ℕ → SetState
 set_at op log zero = opening_set op
 set_at op log (suc k) = set_after (log k) (set_at op log k)

@@ -1,5 +1,5 @@
--- The result of checking a whole order, derived from the single checks: either one of them finds the first error, or
--- the order explains the history.
+-- The result of checking a whole order, derived from the single checks: either one of the checks finds the first
+-- error, or the order explains the history.
 use Rattle.std.proofs.Common.{rules, ◌≡◌, ◌≢◌, ℕ, ◌<◌, ◌==◌, Bool, true, false, List, [], length, get_or, Option, Some, None}
 use Rattle.std.proofs.Common.{refl, sym, ap, ◌∙◌, subst, inl, inr, ◌⊎◌, arith}
 use Rattle.std.proofs.lemmas.Grind.{common_steps}

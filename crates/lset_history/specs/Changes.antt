@@ -10,8 +10,8 @@ use Rattle.std.specs.BTreeMap.{BTreeMap, get, is_at}
 use Rattle.std.specs.BTreeSet.{BTreeSet, contains}
 use Rattle.lset_words.specs.SequentialSet.{has_key}
 
--- The opening keys and, for each key, the increasing moments of its changes, from 1 on. The changes add and remove the
--- key in turn.
+-- The opening keys (the keys in the set before all events) and, for each key, the moments when it was later added or
+-- removed in turn. These moments increase, and are 1 or above.
 pub record ChangesValue : Type 0 where
   pub opening : List ℕ
   pub entries : List (ℕ × List ℕ)
@@ -19,7 +19,8 @@ pub record ChangesValue : Type 0 where
 abbrev pub no_changes : ChangesValue
 no_changes = record { opening = []; entries = [] }
 
--- Returns the moments when a key was added by opening the set: moment 0 if it is an opening key, else none.
+-- Returns the list of moment 0 alone if the key is an opening key (in the set before all events). Otherwise returns
+-- the empty list.
 abbrev pub opened_moments : List ℕ → ℕ → List ℕ
 opened_moments keys key = if has_key key keys then 0 ∷ [] else []
 
@@ -97,7 +98,7 @@ changes_in opening kept = record { opening = opening; entries = map (λ (e : ℕ
 abbrev pub Increase : ChangesValue → Type 0
 Increase c = (key : ℕ) → IsStrictlyIncreasing (moments_of c key)
 
--- Holds if no number from 2^32 up ever changes. Such numbers are not keys.
+-- Holds if `changes` lists no change of any number from 2^32 up. Such numbers are not keys.
 abbrev pub IsBounded : (ℕ → List ℕ) → Type 0
 IsBounded changes = (key : ℕ) → 2 ^ 32 ≤ key → changes key ≡ []
 

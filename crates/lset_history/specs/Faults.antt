@@ -1,5 +1,5 @@
--- The definition of an order of calls that explains a history and its final keys, and the error to report for any
--- other order.
+-- Defines when an order of calls explains a history and its final keys, and which error is reported for any other
+-- order.
 use Rattle.std.specs.Prelude.{◌≡◌, ◌≢◌, ℕ, ◌<◌, ◌≤◌, ◌⊎◌, List, map, take, length, All, IsSome, IsSomeAnd, slice_index_or}
 use Rattle.std.specs.List.Sorted.{IsStrictlyIncreasing}
 use Rattle.lset_words.specs.declared.Reply.{Reply}

@@ -62,7 +62,7 @@ CannotEnd h number at NoThread = ⊥
 CannotEnd h number at Busy = ⊥
 CannotEnd h number at Memory = ⊥
 
--- Returns the call, completed with this moment and reply.
+-- Returns the call `x`, completed with the moment and the reply in `end`.
 abbrev pub ended_with : CallRecord → ℕ × Reply → CallRecord
 ended_with x end = record x { ended = Some end }
 

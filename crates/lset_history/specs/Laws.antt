@@ -14,7 +14,7 @@ use Rattle.lset_history.specs.Placement.{IsPlacement}
 use Rattle.lset_words.specs.Words.{Opening}
 
 -- Converts a list of keys to a predicate that holds for exactly these keys. `contents_of_lists` converts the list of
--- each moment.
+-- keys at each moment.
 abbrev pub content_of : List ℕ → Content
 content_of keys j = Contains keys j
 
@@ -50,13 +50,13 @@ EveryCallHasAPlace = (op : Opening) (last : ℕ) (log : Log) (lists : ℕ → Li
     → Account op last log (contents_of_lists lists) counts
     → (order : List Placed) × IsPlacement op.quota (calls_at log last) (contents_of_lists lists) counts order
 
--- At each moment of a run with an account (each event is a valid start of a call or a valid step), the calls so far
--- form a history.
+-- After each event of a run, the calls that have begun form a history. Each event of the run must be a valid start of
+-- a call or a valid step (the run has an `Account`).
 abbrev pub LogsTellHistories : Type 0
 LogsTellHistories = (op : Opening) (last : ℕ) (log : Log) (lists : ℕ → List ℕ) (counts : Counts)
     → Account op last log (contents_of_lists lists) counts → (k : ℕ) → k ≤ last → IsHistory op.threads (history_at log k)
 
--- If the call is a `Ceiling`, the keys increase strictly. Nothing is required of other calls.
+-- Holds if the keys increase strictly, or the call is not a `Ceiling`.
 abbrev pub IncreasesFor : Call → List ℕ → Type 0
 IncreasesFor (call.Add k) keys = Unit {0}
 IncreasesFor (call.Remove k) keys = Unit {0}

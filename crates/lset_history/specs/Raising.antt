@@ -1,11 +1,11 @@
--- Definitions for the search for the first moment when a key is the smallest present key at or above another key. Only
+-- Definitions for the search for the first moment when a key is the smallest present key at or above a given key. Only
 -- private functions use them.
 use Rattle.std.specs.Prelude.{◌≡◌, ℕ, ◌<◌, ◌≤◌, ◌==◌, nat_lt, Bool, true, false, not, if◌then◌else◌, List, All, Option, Some}
 use Rattle.std.specs.Prelude.{None}
 use Rattle.lset_history.specs.Changes.{is_present, is_present_now}
 
--- Holds if the result is the next change after `moment`: no key changes before the result's moment, and only the
--- result's key can change at that moment. If the result is `None`, no key changes after `moment`.
+-- Holds if the result is the next change of the set after `moment`: the moment of the change, and the key that
+-- changes. No key changes between `moment` and the change. If the result is `None`, no key changes after `moment`.
 abbrev pub IsNextNote : (ℕ → List ℕ) → ℕ → Option (ℕ × ℕ) → Type 0
 IsNextNote changes moment None = (j : ℕ) → All (λ m. m ≤ moment) (changes j)
 IsNextNote changes moment (Some n) = (moment < n.0)
@@ -25,9 +25,10 @@ is_against changes key (Some x) j moment =
     if nat_lt j key then false else if nat_lt x j then false else if x == j then not (is_present changes j moment)
     else is_present changes j moment
 
--- An intermediate result of the search for the first moment when `found` is the smallest present key at or above `key`.
--- The search has read the changes up to `last`. Each moment from `from` to just before `moment` has a counterexample
--- (see `is_against`). A counterexample at `moment` is also one at all later moments up to `last`.
+-- An intermediate result of the search for the first moment when `found` is the smallest present key at or above
+-- `key`. The search has read the changes up to `last`. At each moment from `from` to just before `moment`, some key
+-- refutes this claim (see `is_against`). A key that refutes the claim at `moment` also refutes it at all later moments
+-- up to `last`.
 pub record IsCandidateUpTo (changes : ℕ → List ℕ) (key : ℕ) (found : Option ℕ) (from moment last : ℕ) : Type 0 where
   pub low : from ≤ moment
   pub before : (m : ℕ) → from ≤ m → m < moment → (j : ℕ) × (is_against changes key found j m ≡ true)

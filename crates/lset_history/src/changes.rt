@@ -37,9 +37,11 @@ use std::ops::Bound;
 #[derive(Drop)]
 pub struct Changes {
     alloc: Global,
-    /// The keys in the set at moment 0, in increasing order. `moments` and `keys_at` cover only the later changes.
+    /// The opening keys (in the set before all events), in increasing order. `moments` and `keys_at` cover only the
+    /// later changes.
     opening: Vec<u32>,
-    /// For each key that changed, the moments of its changes above 0. A key is alternately added and removed.
+    /// Maps each key that was added or removed after the start to the moments of these changes, in increasing order. A
+    /// key is alternately added and removed.
     moments: BTreeMap<u32, Vec<u32>>,
     /// Maps the moment of each change to the key that changed. If an allocation fails in `note`, this map and
     /// `keys_now` can keep an extra entry, for a change that was not recorded.
@@ -90,8 +92,8 @@ fn is_past(end: Option<u32>, key: u32) -> bool
     }
 }
 
-/// Appends a moment to the moments when `key` changed. If an allocation fails, returns `AllocError` and changes
-/// nothing.
+/// Records that `key` was added or removed at the moment `at`. If an allocation fails, returns `AllocError` and
+/// changes nothing.
 fn push_moment(
     moments: &mut BTreeMap<u32, Vec<u32>>,
     alloc: Global,
@@ -113,8 +115,8 @@ fn push_moment(
 }
 
 impl Changes {
-    /// Returns a record without changes, for a set that is empty at moment 0. Does not allocate; later calls use
-    /// `alloc`.
+    /// Returns a record without changes, for a set that is empty before the first event. Does not allocate; later
+    /// calls use `alloc`.
     pub fn new(alloc: Global) -> Changes
         ensures { result ≡ no_changes }
     {
@@ -127,8 +129,8 @@ impl Changes {
         }
     }
 
-    /// Returns a record without changes, for a set that has exactly `keys` at moment 0. `keys` must increase strictly.
-    /// Allocates a copy of the keys; returns `AllocError` if that fails.
+    /// Returns a record without changes, for a set that has exactly `keys` before the first event. `keys` must
+    /// increase strictly. Allocates a copy of the keys; returns `AllocError` if that fails.
     pub fn opened(alloc: Global, keys: &[u32]) -> Result<Changes, AllocError>
         requires { IsStrictlyIncreasing keys.now }
         ensures { IfOk result (λ c. (k : ℕ) → moments_of c k ≡ opened_moments keys.now k) }
@@ -197,7 +199,7 @@ impl Changes {
         upto > 0 && self.opening[upto - 1] == key
     }
 
-    /// Returns the moments above 0 when `key` was added or removed, in increasing order.
+    /// Returns the moments when `key` was added or removed after the start, in increasing order.
     fn noted(&self, key: u32) -> &[u32]
         ensures value { result.now ≡ noted_of self.now key }
         ensures increases { IsStrictlyIncreasing result.now }
@@ -253,16 +255,16 @@ impl Changes {
     }
 
     /// Returns the only moment, from `from` on, that can be the first moment when `found` is the smallest key at or
-    /// above `key`. Each earlier moment has a counterexample (see `is_against`). A key that is a counterexample at the
-    /// returned moment is also one at all later moments.
+    /// above `key`. At each earlier moment, some key refutes this claim (see `is_against`). A key that refutes the
+    /// claim at the returned moment also refutes it at all later moments.
     fn candidate(&self, key: u32, found: Option<u32>, from: u32) -> u32
         ensures { IsCandidate (moments_of self.now) key found from result }
     {
         let mut moment = from;
         let mut last = from;
         while let Some((at, noted)) = self.note_after(last) {
-            // A counterexample at `moment` remains one until its key changes. The key `noted` changes at the moment
-            // `at`.
+            // A key that refutes the claim at `moment` refutes it until the key is added or removed. The key `noted`
+            // changes at the moment `at`.
             if self.is_against(key, found, noted, moment) {
                 moment = at;
             }

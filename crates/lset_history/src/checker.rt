@@ -62,8 +62,8 @@ fn first_missing(calls: &[CallRecord], placed: &[bool]) -> Option<u32>
     None
 }
 
-/// Applies the call to `oracle`, the sequential set. Returns whether the set returns `reply` and, if the call is
-/// completed, whether `reply` is also the call's reply in the history.
+/// Returns whether `reply` is right: the history does not record a different reply for the call, and `oracle`, the
+/// sequential set, returns `reply` to the call. If the result is `true`, `oracle` is the set after the call.
 fn has_reply(oracle: &mut Oracle, call_record: CallRecord, reply: Reply) -> Result<bool, AllocError>
     requires { call_record.thread < oracle.old.threads }
     ensures answers { IfOk result (λ right. MatchBool right
@@ -80,7 +80,8 @@ fn has_reply(oracle: &mut Oracle, call_record: CallRecord, reply: Reply) -> Resu
 }
 
 /// Applies the calls to `oracle`, the sequential set, in the given order. Returns the number of the first call with a
-/// wrong reply: a reply that differs from the reply in the history, or from the set's reply after the earlier calls.
+/// wrong reply, or `None`. A reply is wrong if it differs from the reply in the history, or from the set's reply after
+/// the earlier calls.
 pub(crate) fn first_wrong_reply(
     oracle: &mut Oracle,
     calls: &[CallRecord],
@@ -119,8 +120,8 @@ fn lesser(smallest: Option<u32>, ended: Option<(u32, Reply)>) -> Option<u32>
     }
 }
 
-/// Returns the number of the first call that is too early in the order: it began after the end of a call that follows
-/// it.
+/// Returns the number of the first call that is too early in the order, or `None`. A call is too early if it began
+/// after the end of a call that follows it in the order.
 fn first_too_early(calls: &[CallRecord], order: &[Placed]) -> Option<u32>
     requires { HasKnownCalls calls.now order.now }
     ensures { MatchOption result

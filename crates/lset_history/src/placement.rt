@@ -14,8 +14,8 @@ pub fn every_call_has_a_place()
     ensures { EveryCallHasAPlace }
 {}
 
-/// Lemma: at each moment of a run with an account (each event is a valid start of a call or a valid step), the calls
-/// that have begun form a history.
+/// Lemma: after each event of a run, the calls that have begun form a history. Each event of the run must be a valid
+/// start of a call or a valid step.
 pub fn logs_tell_histories()
     ensures { LogsTellHistories }
 {}

@@ -37,8 +37,8 @@ BoundedReads T = (op : Opening) (last k t : ℕ) (es : ℕ → Event) → Run T 
     → (local_of (state_at T op es k) t).pc ≢ 0 → IsContains (local_of (state_at T op es k) t).call
     → ReadsNext T op es k t
 
--- [Walk was in the chain]: holds if the last call of thread t at moment k, pending or completed, has loaded the link
--- word of node a and seen the value l. The load is the event just after the moment `at`.
+-- [Walk was in the chain]: holds if thread t's last call, pending or completed, has loaded the link word of node a and
+-- seen the value l. The load is event number `at`, counted from 0, of the first k events.
 pub record HasPassed (T : Table) (op : Opening) (es : ℕ → Event) (k t a l : ℕ) : Type 0 where
   pub at : ℕ
   pub from : begun_at (log_of T op es) t k ≤ at

@@ -78,7 +78,7 @@ abbrev pub UnmarkedInChain : Bool → View → Type 0
 UnmarkedInChain true v = (b : ℕ) → v.published b → v.link b % 2 ≡ 0 → InChain v b
 UnmarkedInChain false v = (b : ℕ) → v.published b → v.link b % 2 ≡ 0
 
--- [Content] at two moments: the change of the set's keys from `v` to `w` is exactly `change`.
+-- [Content] at two moments, `v` and `w`: holds if the set's keys change from `v` to `w` by exactly `change`.
 abbrev pub Changed : Option (Key × Bool) → View → View → Type 0
 Changed change v w = Changes change (InContent v) (InContent w)
 

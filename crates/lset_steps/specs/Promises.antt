@@ -108,9 +108,8 @@ NoLinkIsMarked T = (op : Opening) (last k i : ℕ) (es : ℕ → Event) → Run 
     i < node_count (sizes op)
     → (views T op es k).link i % 2 ≡ 0
 
--- [Named change]: how entry k of a log (the event between moments k and k + 1) changes the keys of the set and each
--- thread's number of successful adds. Only a step of a pending call can make a change, and each call makes at most
--- one.
+-- [Named change]: how event k of a run, counted from 0, changes the keys of the set and each thread's number of
+-- successful adds. Only a step of a pending call can make a change, and each call makes at most one.
 abbrev pub ChangeIsNamed : ℕ → ℕ → Log → Contents → Counts → ℕ → Entry → Type 0
 ChangeIsNamed threads quota log contents counts k (began t call) =
     Same (contents k) (contents (suc k))
@@ -126,7 +125,7 @@ NamedChange T = (op : Opening) (last k : ℕ) (es : ℕ → Event) → Run T op 
     → ChangeIsNamed op.threads op.quota (log_of T op es) (contents_of (views T op es)) (counts_of (views T op es)) k
     (log_of T op es k)
 
--- [Replies fit]: if a call ends in the step between moments k and k + 1, its reply is correct: `True` if the call has
+-- [Replies fit]: if event k of a run, counted from 0, ends a call, the call's reply is correct: `True` if the call has
 -- changed the set, else a reply that is correct for the keys of the set at some moment of the call.
 abbrev pub RepliesFit : Table → Type 0
 RepliesFit T = (op : Opening) (last k t : ℕ) (es : ℕ → Event) (change : Option Change) (reply : Reply) → Run T op es last →
@@ -157,8 +156,8 @@ abbrev pub HasAccount : Table → Type 0
 HasAccount T = (op : Opening) (last : ℕ) (es : ℕ → Event) → Run T op es last
     → Account op last (log_of T op es) (contents_of (views T op es)) (counts_of (views T op es))
 
--- Holds if the keys of the set are one list of numbers below 2^32, in strictly increasing order: the keys of the
--- unmarked nodes along the chain.
+-- Holds if some list has exactly the keys of the set, in strictly increasing order: the keys of the unmarked nodes
+-- along the chain. All of them are below 2^32.
 pub record ContentIsListed (v : View) : Type 0 where
   pub keys : List ℕ
   pub increasing : IsContent v keys

@@ -1,4 +1,4 @@
--- The behaviour of single rows of a step table, stated without unfolding the whole table.
+-- The behavior of single rows of a step table. Proofs use these laws in place of the whole table.
 use Rattle.std.specs.Prelude.{◌≡◌, ℕ, ◌/◌, Bool, Option, None}
 use Rattle.lset_words.specs.declared.Key.{Key}
 use Rattle.lset_words.specs.declared.Call.{Call}

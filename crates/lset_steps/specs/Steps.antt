@@ -1,5 +1,5 @@
 -- [Machine] and [Run]: the algorithms of list-based sets as tables of steps, the states of a list, and runs. In a run,
--- several threads take single steps.
+-- threads take steps one at a time, in any order.
 use Rattle.std.specs.Prelude.{◌≡◌, ◌≢◌, ℕ, ◌<◌, ◌*◌, ◌+◌, ◌-◌, ◌/◌, ◌%◌, nat_lt, Bool, if◌then◌else◌, List, map, length, Option}
 use Rattle.std.specs.Prelude.{None, ◌==◌, slice_index, slice_index_or, slice_set, zero, suc}
 use Rattle.std.specs.List.{range_with_len}
@@ -121,7 +121,7 @@ abbrev pub Enabled : State → Event → Type 0
 Enabled s (Begin t call) = (t < length s.locals) × ((local_of s t).pc ≡ 0) × (target call < tail_word)
 Enabled s (Go t) = (t < length s.locals) × ((local_of s t).pc ≢ 0)
 
--- Returns the state of a run after its first k events. `es k` is the event between moments k and k + 1.
+-- Returns the state of a run after its first k events. `es k` is event number k, counted from 0.
 abbrev pub state_at : Table → Opening → (ℕ → Event) → ℕ → State
 state_at T op es zero = opening op
 state_at T op es (suc k) = after T (state_at T op es k) (es k)
@@ -132,7 +132,7 @@ pub record Run (T : Table) (op : Opening) (es : ℕ → Event) (last : ℕ) : Ty
   pub opens : Opens op
   pub enabled : (k : ℕ) → k < last → Enabled (state_at T op es k) (es k)
 
--- Converts a list of events to a function that returns the event after each moment.
+-- Converts a list of events to a function from an event's number, counted from 0, to the event.
 abbrev pub event_at : List Event → ℕ → Event
 event_at es k = slice_index_or es k (Go 0)
 

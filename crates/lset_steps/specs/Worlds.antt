@@ -51,7 +51,7 @@ abbrev pub keys_in : View → List ℕ → List ℕ
 keys_in v [] = []
 keys_in v (b ∷ bs) = if nat_lt 1 b && v.link b % 2 == 0 then (v.key b - 1) ∷ keys_in v bs else keys_in v bs
 
--- [Content] as a list. Holds if `keys` are the keys of the unmarked nodes along the chain, and they increase strictly.
+-- [Content] as a list: holds if `keys` are the keys of the unmarked nodes along the chain, and they increase strictly.
 abbrev pub IsContent : View → List ℕ → Type 0
 IsContent v keys = ((ns : List ℕ) × IsChain v ns × (keys ≡ keys_in v ns)) × IsStrictlyIncreasing keys
 

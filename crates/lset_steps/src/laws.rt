@@ -77,9 +77,10 @@ pub fn no_link_is_marked<M: Machine>()
     ensures { NoLinkIsMarked M.table }
 {}
 
-/// Lemma: the keys of the set change only in a step with a key as its effect, and only this key changes. Only an `Add`
-/// of the key can add it, and only while its thread is below its quota. Only a `Remove` of the key can remove it. A
-/// call changes the set at most once. (Herlihy and Shavit's linearization points of calls that change the set.)
+/// Lemma: the keys of the set change only in a step for which the step table names a key, and only this key changes.
+/// Only an `Add` of the key can add it, and only while its thread is below its quota. Only a `Remove` of the key can
+/// remove it. A call changes the set at most once. (Herlihy and Shavit's linearization points of calls that change the
+/// set.)
 pub fn named_change<M: Machine>()
     ensures { NamedChange M.table }
 {}

@@ -1,5 +1,5 @@
-//! Step machines: the algorithms of list-based sets as tables of atomic steps, one row for each step. A world runs a
-//! machine event by event.
+//! Step machines: the algorithms of list-based sets as tables of atomic steps, one row for each step. A world (a list
+//! with its threads) executes the steps one event at a time.
 #![tactic(auto)]
 
 ghost use Rattle.std.specs.Prelude.{◌≡◌, ◌+◌, ◌*◌, ◌<◌};
@@ -119,14 +119,14 @@ pub trait Machine {
         requires { Occurs table local.now }
         ensures { result ≡ table.next local.now };
 
-    /// Returns the private state of a thread after its next step, and the reply if the step ends the call. `local` and
-    /// `seen` must occur at some moment of a run.
+    /// Returns the private state of a thread after its next step, and the reply if the step ends the call. Some run
+    /// must have a thread in the state `local` whose next step sees the value `seen`.
     fn feed(local: &Local, seen: u64) -> Fed
         requires { Sees table local.now seen }
         ensures { result ≡ table.feed local.now seen };
 
     /// Returns the key that the thread's next step adds (`true`) or removes (`false`), or `None` if the step does not
-    /// change the set. `local` and `seen` must occur at some moment of a run.
+    /// change the set. Some run must have a thread in the state `local` whose next step sees the value `seen`.
     fn effect(local: &Local, seen: u64) -> Option<(Key, bool)>
         requires { Sees table local.now seen }
         ensures { result ≡ table.effect local.now seen };

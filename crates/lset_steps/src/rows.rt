@@ -1,4 +1,5 @@
-//! Steps that the step tables of several lists share: locks, slots, and the decision after a walk.
+//! Steps that several lists share: taking locks, using slots (nodes for adds), and choosing how a call continues after
+//! it has walked to its key.
 
 ghost use Rattle.std.specs.Prelude.{◌≡◌, ◌+◌, ◌^◌, ◌<◌, ◌≤◌};
 ghost use Rattle.lset_words.specs.Words.{lock_index};

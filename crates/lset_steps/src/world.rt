@@ -68,7 +68,7 @@ impl<M: Machine> Model for World<M> {
     }) };
 }
 
-/// Returns the number of the first node after all slots: the node of the first opening key, if any.
+/// Returns the number of the first node after all slots (nodes for adds): the node of the first opening key, if any.
 fn first_opening_node(layout: &Layout) -> u64
     ensures node { result ≡ opening_node layout.now 0 }
     ensures few { result + layout.now.opening ≤ MOST_NODES }
@@ -271,8 +271,8 @@ impl<M: Machine> World<M> {
         }
     }
 
-    /// Returns the next access of thread `t` and the value that the access will see, or `None` if no thread has this
-    /// number or the thread has no pending call.
+    /// Returns the next access of thread `t` and the value that the access will see. Returns `None` if no thread has
+    /// this number, or if the thread has no pending call.
     pub fn next(&self, t: u32) -> Option<(Action, u64)>
         ensures { MatchOption result (Enabled self.now.state (Event.Go t) → ⊥) (λ s. Enabled self.now.state (Event.Go t)
             × (s.0 ≡ M.table.next (local_of self.now.state t)) × (s.1 ≡ seen_next M.table self.now.state t)) }
@@ -405,9 +405,9 @@ impl<M: Machine> World<M> {
         }
     }
 
-    /// Executes the next step of a thread at row `PC` of the step table. Since `PC` is a constant, the compiler keeps
-    /// only this row of the machine's functions, and the step writes only the fields of the thread's state that this
-    /// row changes.
+    /// Executes the next step of a thread that is at row `PC` of the step table. Since `PC` is a constant, the
+    /// compiler keeps only this row of the machine's functions, and the step writes only the fields of the thread's
+    /// state that this row changes.
     #[inline(always)]
     fn go_at<const PC: u8>(&mut self, t: u32) -> Told
         requires call { Enabled self.old.state (Event.Go t) }

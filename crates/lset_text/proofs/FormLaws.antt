@@ -1,5 +1,5 @@
--- Proof that reading inverts writing for every form of line: reading a line returns values if and only if the line is
--- the spelling of these values.
+-- Proof that reading inverts writing for every form of line (a list of fields). Reading a line returns values if and
+-- only if the line is the spelling of these values.
 use Rattle.std.proofs.Common.{◌≡◌, ℕ, ◌<◌, true, false, List, [], ◌∷◌, Option, Some, None, refl, ap, ◌∙◌, arith, codes, length}
 use Rattle.std.proofs.lemmas.Bool.{and_parts, and_left}
 use Rattle.std.specs.List.{AllByRecursion}
@@ -51,7 +51,7 @@ piece_lacks v byte kind k low is fits = kind_lacks byte k low
 piece_lacks v byte call w low is fits = call_word_lacks byte w low
 piece_lacks v byte reply r low is fits = reply_lacks byte v r fits low
 
--- ---- Lemmas about a whole form
+-- ---- Lemmas about all fields of a line
 
 some_is : {A : Type 0} (a b : A) → Some a ≡ Some b → a ≡ b
 some_is a b e = cc

@@ -17,8 +17,9 @@ pub made_ok : {X Y : Type 0} (f : X → Y) (r : Result X Cause) (y : Y) → made
 made_ok f (Ok x) y e = (x, refl, ok_is (f x) y e)
 made_ok f (Err d) y e = absurd cc
 
--- Holds if a kind of line has two properties. Its form can be read back. Each value made from fields that the version
--- can spell has the property `Good`, and the value's spelling consists of these fields.
+-- Holds if a kind of line has two properties. First, its form (the list of its fields) can be read back. Second, each
+-- value made from fields that the version can spell has the property `Good`, and the value's spelling consists of
+-- these fields.
 abbrev pub Knows : {X : Type 0} → Version → (X → List (List ℕ)) → (X → Type 0) → LineKind X → Type 0
 Knows v pieces Good k = IsForm k.0 × ((t : Told k.0) → AllFit v k.0 t → (spell k.0 t ≡ pieces (k.1 t)) × Good (k.1 t))
 
@@ -124,7 +125,7 @@ pub first_many : {X : Type 0} (v : Version) (none : Cause) (ks : List (LineKind 
 first_many v none [] ps below = refl
 first_many v none (k ∷ ks) ps below = rw (too_many v k.0 ps below.0) (first_many v none ks ps below.1)
 
--- ---- Lemmas about kinds of lines, after a function is applied to their values
+-- ---- Lemmas about applying a function to the values of kinds of lines
 
 kind_seen : {X Y T : Type 0} (f : X → Y) (g : T → X) (c : Cause) (b : Bool) (o : Option T) (r : Result Y Cause) (s : Result X Cause)
     → r ≡ made f s → cond b (made (λ t. f (g t)) (or_fail c o)) r ≡ made f (cond b (made g (or_fail c o)) s)

@@ -1,4 +1,5 @@
--- Proof that reading inverts writing for names and replies: reading returns a value only for this value's own text.
+-- Proof that reading inverts writing for names and replies: reading returns a value only for the exact spelling of
+-- this value.
 use Rattle.std.proofs.Common.{◌≡◌, ℕ, ◌<◌, ◌≤◌, ◌^◌, ◌||◌, Bool, true, List, [], ◌∷◌, ◌++◌, take, drop, Option, Some, None, is_some}
 use Rattle.std.proofs.Common.{refl, sym, ap, subst, ◌∙◌, inl, inr, codes, arith, option_map, take-append-drop}
 use Rattle.std.specs.List.{AllByRecursion}

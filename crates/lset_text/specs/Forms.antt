@@ -23,7 +23,7 @@ pub data Piece : Type 0 where
 abbrev pub any : Piece
 any = number 0 max_number
 
--- A field with a moment: a number from 1 to 4,294,967,295.
+-- A field with a moment (a logical time): a number from 1 to 4,294,967,295.
 abbrev pub moment : Piece
 moment = number 1 max_number
 
@@ -52,7 +52,7 @@ Fits v call w = HasWord v w
 Fits v reply r = HasReply v r
 
 -- Returns whether the text `x` looks like this field. A fixed word must match exactly, and a name must be a known one.
--- A number accepts any text, since a wrong number has an error of its own.
+-- Any text looks like a number: a malformed number is reported as an error of its own.
 abbrev pub has_form : Version → Piece → List ℕ → Bool
 has_form v (word w) x = bytes_eq x w
 has_form v (number low high) x = true
@@ -126,8 +126,8 @@ abbrev pub IsForm : Form → Type 0
 IsForm [] = ⊥
 IsForm (p ∷ f) = IsPiece p × ArePieces f
 
--- Reading inverts writing for every form of line: reading a line returns values if and only if the version can spell
--- these values and the line is their spelling.
+-- Reading inverts writing for every form of line (a list of fields). Reading a line returns values if and only if the
+-- version can spell these values and the line is their spelling.
 abbrev pub FormsReadBack : Type 0
 FormsReadBack = (v : Version) (f : Form) (line : List ℕ) (t : Told f) → IsForm f
     → (AllFit v f t → told_in v f (cut_at 32 (line_with f t)) ≡ Some t)

@@ -1,5 +1,5 @@
--- The header of a file, its first four lines: title, kind of list, number of threads, and quota (the most successful
--- adds of a thread).
+-- The header of a file, its first four lines: title, kind of list, number of threads, and quota (the maximum number of
+-- successful adds of each thread).
 use Rattle.std.specs.Prelude.{◌≡◌, ℕ, ◌==◌, List, [], ◌∷◌, ◌++◌, length, codes, Option, Some, None, Result, Ok, Err}
 use Rattle.std.specs.Prelude.{if◌then◌else◌, option_map}
 use Rattle.std.specs.Fmt.{decimal}

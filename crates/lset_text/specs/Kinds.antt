@@ -11,7 +11,7 @@ use Rattle.lset_text.specs.Results.{or_fail}
 abbrev pub LineKind : Type 0 → Type 0
 LineKind X = (f : Form) × (Told f → X)
 
--- Applies `f` to the values of a kind of line: if `k` makes `x`, the result makes `f x`.
+-- Returns a kind of line that accepts the same lines as `k`, and applies `f` to each value that `k` makes.
 abbrev pub kind_as : {X Y : Type 0} → (X → Y) → LineKind X → LineKind Y
 kind_as f k = (k.0, λ t. f (k.1 t))
 

@@ -17,7 +17,7 @@ unfoldable pub number_in : ℕ → ℕ → List ℕ → Option ℕ
 number_in low high piece =
     if is_number piece && is_between low high (digits_value 10 piece) then Some (digits_value 10 piece) else None
 
--- The largest number of a thread, key, call or moment in a file.
+-- The largest number of a thread, key, call or moment (a logical time) in a file.
 abbrev pub max_number : ℕ
 max_number = 4294967295
 

@@ -84,7 +84,7 @@ reply_text reply.Full = codes "full"
 reply_text (reply.At k) = codes "at-" ++ decimal k.0
 reply_text reply.Nothing = codes "nothing"
 
--- Returns the replies of this version that contain no number. (In version 2 `at-K` is a reply as well.)
+-- Returns the replies of this version that contain no number. (In version 2, `at-K` is also a reply.)
 abbrev pub plain_in : Version → List Reply
 plain_in One = reply.True ∷ reply.False ∷ reply.Full ∷ []
 plain_in Two = reply.True ∷ reply.False ∷ reply.Full ∷ reply.Nothing ∷ []

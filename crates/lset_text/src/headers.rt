@@ -18,8 +18,8 @@ use crate::words::{Version, kind_word, read_kind};
 use lset_words::{Kind, MOST_QUOTA, MOST_THREADS};
 use std::alloc::AllocError;
 
-/// The header of a file: the kind of list, the number of threads (1 to 64) and the quota (the most successful adds of
-/// a thread, 0 to 16,384).
+/// The header of a file: the kind of list, the number of threads (1 to 64) and the quota (the maximum number of
+/// successful adds of each thread, 0 to 16,384).
 #[derive(Clone, Copy, Debug, PartialEq, Eq)]
 pub struct Header {
     pub kind: Kind,

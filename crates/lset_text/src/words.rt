@@ -140,8 +140,8 @@ pub fn reply_word(reply: Reply) -> ReplyWord
     ReplyWord(reply)
 }
 
-/// Returns the reply that a field spells in this version, if the reply contains no number (all but `at-K`). Returns
-/// `None` for any other field.
+/// Returns the reply that a field spells in this version, if the reply contains no number. (Only `at-K` contains one.)
+/// Returns `None` for any other field.
 #[tactic(auto, unfolding(crate::specs::Spellings::reply_of))]
 fn read_plain_reply(version: Version, piece: &[u8]) -> Option<Reply>
     ensures { result ≡ reply_of (plain_in version) piece.now }

@@ -1,5 +1,5 @@
--- The account of a run: the keys in the set at each moment, and the effect of each event on these keys. An account
--- mentions calls, replies and changes of keys, but no nodes and no locks.
+-- The account of a run: the keys in the set at each moment (the state after a number of events), and the effect of
+-- each event on these keys. An account mentions calls, replies and changes of keys, but no nodes and no locks.
 use Rattle.std.specs.Prelude.{◌≡◌, ◌≢◌, ℕ, suc, ◌+◌, ◌<◌, ◌≤◌, Bool, true, false, Option, Some, None, Contains as InList}
 use Rattle.std.specs.List.Sorted.{IsStrictlyIncreasing}
 use Rattle.lset_words.specs.Words.{Opening}
@@ -59,7 +59,8 @@ Fits quota content count (Ceiling k) (At x) = IsCeiling content k.0 (Some x.0)
 Fits quota content count (Ceiling k) Nothing = IsCeiling content k.0 None
 Fits quota content count call reply = ⊥
 
--- The keys of the set at each moment. `Counts` is the number of successful adds of each thread at each moment.
+-- The keys of the set at each moment: `contents k` has the keys after the first k events. `Counts` is the number of
+-- successful adds of each thread at each moment.
 abbrev pub Contents : Type 1
 Contents = ℕ → Content
 
@@ -67,7 +68,7 @@ abbrev pub Counts : Type 0
 Counts = ℕ → ℕ → ℕ
 
 -- Holds if the reply is correct at some moment from `first` to `last`: a sequential set with the keys of that moment
--- returns this reply.
+-- returns this reply. A moment is a number of events.
 pub record FitsSometime (quota : ℕ) (contents : Contents) (counts : Counts) (first last thread : ℕ) (call : Call)
     (reply : Reply) : Type 0 where
   pub moment : ℕ
@@ -75,24 +76,24 @@ pub record FitsSometime (quota : ℕ) (contents : Contents) (counts : Counts) (f
   pub upto : moment ≤ last
   pub fits : Fits quota (contents moment) (counts moment thread) call reply
 
--- The reply, if there is one, is correct. A call that has changed the set replies `True`. The reply of a call that has
--- not changed the set fits at some moment from `first` to `last`.
+-- The reply, if there is one, is correct. A call that has changed the set replies `True`. The reply of any other call
+-- is correct for the keys at some moment from `first` to `last`. A moment is a number of events.
 abbrev pub RightReply : Bool → ℕ → Contents → Counts → ℕ → ℕ → ℕ → Call → Option Reply → Type 0
 RightReply changed quota contents counts first last thread call None = Unit {0}
 RightReply true quota contents counts first last thread call (Some reply) = reply ≡ True
 RightReply false quota contents counts first last thread call (Some reply) =
     FitsSometime quota contents counts first last thread call reply
 
--- Holds if thread `t` begins a call between moments `k` and `k + 1`. At moment `k`, the thread has no pending call.
--- The set's keys and the counts of successful adds do not change.
+-- Holds if event `k` (counted from 0) can be the start of a call by thread `t`. Before the event, the thread has no
+-- pending call. The event changes neither the set's keys nor the counts of successful adds.
 pub record Begins (threads : ℕ) (log : Log) (contents : Contents) (counts : Counts) (k t : ℕ) : Type 0 where
   pub of_a_thread : t < threads
   pub idle : is_open log t k ≡ false
   pub content : Same (contents k) (contents (suc k))
   pub same_counts : (u : ℕ) → u < threads → counts (suc k) u ≡ counts k u
 
--- Holds if thread `t` takes a step between moments `k` and `k + 1`. `change` and `reply` are `None` if the step makes
--- no change or returns no reply.
+-- Holds if event `k` (counted from 0) can be a step of thread `t` with this change and this reply. `change` is `None`
+-- if the step does not change the set. `reply` is `None` if the step does not end the call.
 pub record Steps (threads quota : ℕ) (log : Log) (contents : Contents) (counts : Counts) (k t : ℕ) (change : Option Change)
     (reply : Option Reply) : Type 0 where
   -- Thread `t` exists and has a pending call.
@@ -108,8 +109,7 @@ pub record Steps (threads quota : ℕ) (log : Log) (contents : Contents) (counts
   -- The reply, if any, is correct.
   pub right : RightReply (has_changed log t (suc k)) quota contents counts (begun_at log t k) (suc k) t (last_call log t k) reply
 
--- Holds if entry `k` of the log is a valid start of a call or a valid step. Entry `k` is the event between moments `k`
--- and `k + 1`.
+-- Holds if entry `k` of the log (event number `k`, counted from 0) is a valid start of a call or a valid step.
 abbrev pub Enters : ℕ → ℕ → Log → Contents → Counts → ℕ → Entry → Type 0
 Enters threads quota log contents counts k (began t call) = Begins threads log contents counts k t
 Enters threads quota log contents counts k (stepped t change reply) = Steps threads quota log contents counts k t change reply
@@ -117,10 +117,10 @@ Enters threads quota log contents counts k (stepped t change reply) = Steps thre
 -- Holds if `contents` and `counts` are the account of a run's first `last` events: they agree with the opening keys
 -- and with each entry of the log.
 pub record Account (o : Opening) (last : ℕ) (log : Log) (contents : Contents) (counts : Counts) : Type 0 where
-  -- The content at moment 0 consists of the opening keys. The opening keys increase strictly.
+  -- Before the first event, the content consists of the opening keys. The opening keys increase strictly.
   pub increasing : IsStrictlyIncreasing o.keys
   pub opens : (k : ℕ) → (contents 0 k → InList o.keys k) × (InList o.keys k → contents 0 k)
-  -- At moment 0, no thread has added a key.
+  -- Before the first event, no thread has added a key.
   pub none_yet : (t : ℕ) → t < o.threads → counts 0 t ≡ 0
-  -- Each of the first `last` entries of the log is a valid start of a call or a valid step.
+  -- Each of the first `last` events is a valid start of a call or a valid step.
   pub enters : (k : ℕ) → k < last → Enters o.threads o.quota log contents counts k (log k)

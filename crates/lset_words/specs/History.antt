@@ -1,5 +1,5 @@
--- Histories of calls, and the definition of an order of calls that linearizes a history (Herlihy and Wing). Pending
--- calls can be completed by a reply or left out.
+-- Histories of calls, and the definition of a linearization of a history: an order of its calls (Herlihy and Wing).
+-- Pending calls can be completed by a reply or left out.
 use Rattle.std.specs.Prelude.{◌≡◌, ◌≢◌, ℕ, ◌<◌, List, map, length, Some, None, Contains, All, AllPairs, IfSome}
 use Rattle.std.specs.Prelude.{IsSomeAnd, slice_index_or}
 use Rattle.lset_words.specs.declared.Call.TheVariants as call
@@ -29,7 +29,7 @@ pub record Follows (y x : CallRecord) : Type 0 where
   -- The two calls begin and end at different moments.
   pub begins_alone : IfSome y.ended (λ (e : ℕ × Reply). e.0 ≢ x.begun)
   pub ends_alone : IfSome x.ended (λ (e : ℕ × Reply). (e.0 ≢ y.begun) × IfSome y.ended (λ (d : ℕ × Reply). e.0 ≢ d.0))
-  -- If both calls are made by one thread, `y` ends before `x` begins.
+  -- If one thread makes both calls, `y` ends before `x` begins.
   pub none_open : y.thread ≡ x.thread → IsSomeAnd y.ended (λ (e : ℕ × Reply). e.0 < x.begun)
 
 -- The conditions for appending call `x` to the calls `earlier` of a history.
@@ -37,7 +37,7 @@ pub record MayFollow (threads : ℕ) (earlier : List CallRecord) (x : CallRecord
   pub call : IsCall threads x
   pub follows : All (λ y. Follows y x) earlier
 
--- [History]: a list of calls, numbered in the order of their starts. All starts and ends are at different moments.
+-- [History]: a list of calls, numbered in the order of their starts. No two starts or ends happen at the same moment.
 pub record IsHistory (threads : ℕ) (calls : List CallRecord) : Type 0 where
   pub each : All (IsCall threads) calls
   pub pairs : AllPairs Follows calls

@@ -1,6 +1,6 @@
--- The log of a run, and the calls in the log. Entry k of a log is the event between moments k and k + 1. Moment k is
--- the state after the first k events. An entry records the part of an event that a user of the set can see: the start
--- of a call, the change of a key, or a reply. An entry mentions no nodes and no locks.
+-- The log of a run, and the calls in the log. Entry k of a log (counted from 0) is event number k. Moment k is the
+-- state after the first k events. An entry records the part of an event that a user of the set can see: the start of a
+-- call, the change of a key, or a reply. An entry mentions no nodes and no locks.
 use Rattle.std.specs.Prelude.{ℕ, zero, suc, ◌+◌, ◌==◌, ◌||◌, ◌&&◌, Bool, true, false, if◌then◌else◌, List, [], ◌∷◌, ◌++◌, map, Option}
 use Rattle.std.specs.Prelude.{Some, None, is_none}
 use Rattle.lset_words.specs.declared.Key.{Key}
@@ -21,8 +21,9 @@ pub data Entry : Type 0 where
 abbrev pub Log : Type 0
 Log = ℕ → Entry
 
--- A call of a run, with the moments just after it began, changed the set, and ended. `changed` is `None` until the
--- call changes the set. `ended` is `None` until the call ends.
+-- A call of a run. `begun`, `changed` and `ended` are numbers of events: how many events had happened just after the
+-- call began, changed the set, and ended. `changed` is `None` until the call changes the set. `ended` is `None` until
+-- the call ends.
 pub record TracedCall : Type 0 where
   pub thread : ℕ
   pub call : Call
@@ -42,7 +43,7 @@ abbrev pub ended_by : ℕ → Option Reply → Option (ℕ × Reply)
 ended_by moment None = None
 ended_by moment (Some reply) = Some (moment, reply)
 
--- Returns the call `x` after a step of its thread. `moment` is the moment just after the step.
+-- Returns the call `x` after a step of its thread. `moment` is the number of events up to this step, including it.
 abbrev pub traced_on : ℕ → Option Change → Option Reply → TracedCall → TracedCall
 traced_on moment change reply x = record x { changed = changed_by moment change x.changed; ended = ended_by moment reply }
 
@@ -50,7 +51,7 @@ abbrev pub calls_after : ℕ → Entry → List TracedCall → List TracedCall
 calls_after moment (began t call) xs = xs ++ record { thread = t; call = call; begun = moment; changed = None; ended = None } ∷ []
 calls_after moment (stepped t change reply) xs = map (λ x. if is_under_way t x then traced_on moment change reply x else x) xs
 
--- Returns the calls that have begun by moment k, ordered by start, each in its state at moment k.
+-- Returns the calls that begin in the first k events, ordered by start. Each is in its state after these events.
 abbrev pub calls_at : Log → ℕ → List TracedCall
 calls_at log zero = []
 calls_at log (suc k) = calls_after (suc k) (log k) (calls_at log k)
@@ -67,8 +68,8 @@ abbrev pub is_change : Option Change → Bool
 is_change None = false
 is_change (Some change) = true
 
--- The last call of a thread, pending or completed: the call, the moment just after it began, whether it has changed the
--- set, whether it is pending, and the number of its steps.
+-- The last call of a thread, pending or completed. `begun` is the number of events up to the call's start, including
+-- it. `changed` is true if the call has changed the set. `steps` is the number of its steps.
 pub record LastCall : Type 0 where
   pub call : Call
   pub begun : ℕ
@@ -81,14 +82,15 @@ abbrev pub maker : Entry → ℕ
 maker (began t call) = t
 maker (stepped t change reply) = t
 
--- Returns the last call of a thread after an entry of the log by this thread. `moment` is the moment just after the
--- entry.
+-- Returns the last call of a thread after an entry of the log by this thread. `moment` is the number of entries up to
+-- this one, including it.
 abbrev pub last_after : ℕ → Entry → LastCall → LastCall
 last_after moment (began t call) x = record { call = call; begun = moment; changed = false; pending = true; steps = 0 }
 last_after moment (stepped t change reply) x =
     record x { changed = x.changed || is_change change; pending = x.pending && is_none reply; steps = x.steps + 1 }
 
--- Returns the last call of thread `t` at moment k. Before its first call, nothing is pending.
+-- Returns the last call of thread `t` after the first k events. Before the thread's first call, returns a placeholder
+-- that is not pending.
 abbrev pub last_at : Log → ℕ → ℕ → LastCall
 last_at log t zero = record { call = Contains (record { 0 = 0 }); begun = 0; changed = false; pending = false; steps = 0 }
 last_at log t (suc k) = if maker (log k) == t then last_after (suc k) (log k) (last_at log t k) else last_at log t k

@@ -1,6 +1,6 @@
 -- The layout of a list's table of 64-bit words. Word 0 is the lock of the whole list, word 1 the number of threads,
--- word 2 the number of slots per thread. Three words for each node follow: key, link and lock. A slot is a node that
--- one successful add uses up.
+-- and word 2 the number of slots of each thread. A slot is a node that one successful add uses up. Then each node has
+-- three words: key, link and lock.
 use Rattle.std.specs.Prelude.{◌≡◌, ◌≢◌, ℕ, ◌+◌, ◌*◌, ◌<◌, ◌≤◌, ◌^◌, ◌⊎◌, All, Bool, if◌then◌else◌, List, [], length}
 use Rattle.std.specs.List.Sorted.{IsStrictlyIncreasing}
 use Rattle.lset_words.specs.declared.TheConstants.{MOST_THREADS, MOST_QUOTA, MOST_OPENING}

@@ -3,7 +3,7 @@
 use crate::{Call, Reply};
 
 /// A call of a history (Herlihy and Wing): its thread, the call, the moment when it begins, and the moment when it
-/// ends with its reply. Moments are numbered from 1. A call without an end is pending.
+/// ends with its reply. A moment is a logical time, counted from 1. A call without an end is pending.
 #[derive(Clone, Copy, Debug, PartialEq, Eq)]
 pub struct CallRecord {
     pub thread: u32,

@@ -16,8 +16,8 @@ pub trait SetCalls {
     /// Returns the record of a seat (per-thread handle): its calls with their replies.
     ghost record_of: { Self.Seat → Record };
 
-    /// Returns the number of seats (per-thread handles) that this seat contains: itself, and the seats that were merged
-    /// into it.
+    /// Returns the number of seats that this seat (per-thread handle) contains: 1 for itself, and 1 for each seat that
+    /// was merged into it.
     ghost held_by: { Self.Seat → ℕ };
 
     /// Executes `call` for the thread of `seat`, which must belong to this set, and returns the reply. Appends the call
