@@ -58,7 +58,7 @@ impl Oracle {
     }
 
     /// Returns a set that contains `keys`, which must be in strictly increasing order. These opening keys do not count
-    /// towards a thread's quota. Accepts any `threads` and `quota`. Allocates. If that fails, returns `AllocError`.
+    /// toward a thread's quota. Accepts any `threads` and `quota`. Allocates. If that fails, returns `AllocError`.
     pub fn opened(
         alloc: Global,
         threads: u32,

@@ -232,7 +232,7 @@ clash_refutes h keys k there left was first second history opens leaves c order 
     by_last : (o : Option CallRecord) (x : CallRecord) (e : ℕ × Reply) → IsOf h.calls k x → o ≡ Some x → x.ended ≡ Some e → e.0 ≤ latest_moment h.calls
     by_last o x e is same ended = end_below h.calls is.known.0 x e is.known.1 (ap (λ (z : CallRecord). z.ended) is.known.2 ∙ ended)
 
--- If two calls on a key clash, no order explains the key's calls, with any quota.
+-- If two calls on a key contradict each other, no order explains the key's calls, with any quota.
 pub clash_has_none : (threads key : ℕ) (there : Presence) (left : Option Presence) (was : Presence) (first second : Option CallRecord) (calls : List CallRecord)
     → IsHistory threads calls → IsClash calls key there left was first second → HaveNone threads key there left calls
 clash_has_none threads key there left was first second calls history c quota keys leaves =

@@ -103,9 +103,10 @@ turns_or_not false s (changes false) h = inr (let a = against_so false false ref
 turns_or_not b s (sees w) h = inr (omega arith)
 turns_or_not b s nothing h = inr (omega arith)
 
--- `Earlier`: another counted act (the effect of a call) starts before act t ends, or the opening state counts as an act
--- (None). `Later`: another counted act ends after act a starts, or the final state counts as an act (None). `us` are
--- the ends of the counted acts.
+-- An act is the effect of a call, and `us` are the ends of the counted acts. `Earlier` holds if a counted act other
+-- than t starts before t ends. `Later` holds if a counted act other than a ends after a starts. If `o` is None, the
+-- opening state counts as an act, and `Earlier` holds. If `c` is None, the final state counts as an act, and `Later`
+-- holds.
 abbrev Earlier : Option ℕ → List ℕ → List Act → Act → Type 0
 Earlier o us ys t = ((a : Act) × In a ys × (has_key a.until us ≡ true) × (a.until ≢ t.until) × (a.begun < t.until)) ⊎ (o ≡ None)
 
@@ -194,7 +195,7 @@ module _ (b left : Bool) (c : Option ℕ) where
         ])
       ]
 
-  -- Bounds the number of counted acts by the number of changes back plus one. Between any two counted acts, the key
+  -- The number of counted acts is at most the number of changes back plus one. Between any two counted acts, the key
   -- must change back. (An act is the effect of a call. The final state counts as an act if c is None.)
   count_from : (s : Bool) (o : Option ℕ) (us zs : List ℕ) (ys : List Act) → TakeTurns left s ys → Pairs Apart ys → Due b left o c us zs ys
       → length us + also c ≤ suc (length zs)
@@ -345,7 +346,7 @@ module _ (threads : ℕ) (calls : List CallRecord) (history : IsHistory threads 
       let t : x.begun ≡ y.begun = ap (λ (z : CallRecord). z.begun) s in let l = n.later in omega (arith, t, l))
       (ap (until last) (numbered x p) ∙ q ∙ sym (ap (until last) (numbered y r)))
 
-  -- Holds if act a is the effect of the counted call x: it has the start, the end and the effect of x.
+  -- Holds if act a is the effect of some counted call x: both have the same start, end and effect.
   record IsDue (a : Act) : Type 0 where
     x : CallRecord
     counts : In x counted

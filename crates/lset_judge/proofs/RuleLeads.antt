@@ -107,9 +107,9 @@ IsFurther g s = length (changes_to (not g.there) s) < length (options g)
 abbrev NoFewer : List ℕ → List ℕ → Type 0
 NoFewer ss gs = (d : ℕ) → not_before d ss ≤ not_before d gs
 
--- Compares two states of a key after the event at moment m: the state g that the judge's test of a key computes, and
--- the state s of a correct timeline (a choice of when each change takes effect). Holds if g has at least as many
--- pending changes left as s, and these changes end at least as late.
+-- Compares two states of a key after the event at moment m: the state g that the judge's test computes, and the state
+-- s of a correct timeline (a choice of when each change takes effect). Holds if g has at least as many pending changes
+-- left as s, and these changes end at least as late.
 pub record Leads (m : ℕ) (g s : State) : Type 0 where
   pub lists : (w : Bool) → NoFewer (changes_to w s) (changes_to w g)
   pub balance : length g.puts + once g.there + length s.takes ≡ length s.puts + once s.there + length g.takes

@@ -32,10 +32,10 @@ use Rattle.lset_judge.specs.Stream.{States, behind_all, record_of, IsStreamOf}
 use Rattle.lset_judge.specs.Clash.{record_if, other, leaves_if, needs_if, since_of, EndsBefore, HasNoClash, IsOf, WasSo, Clashes, IsClash}
 
 -- The facts that the judge stores about the calls on a key. The judge stores one completed call, the kept call, which
--- left the key in the state `was`. `kept` is the kind of the kept call; `thread`, `begun` and `ended` are its thread,
+-- left the key in the state `was`. `kept` is the kind of this call; `thread`, `begun` and `ended` are its thread,
 -- start and end. If `kept` is `Opening`, no call is stored, and the set opened with the key in the state `was`. All
--- changes that make the key present end by `puts_until`, and all changes that make the key absent end by `takes_until`.
--- A pending change counts as ending after all moments.
+-- changes that make the key present end by `puts_until`, and all changes that make the key absent end by
+-- `takes_until`. A pending change counts as ending after all moments.
 pub record Facts : Type 0 where
   pub was : Presence
   pub kept : Kept
@@ -141,8 +141,8 @@ pub record IsUnchanged (call : StreamCall) (old new : Facts) : Type 0 where
   pub same : new ≡ old
   pub serves : ServesAsWell call old
 
--- Describes how the stored facts about the key change when a call on the key ends: they stay the same, or the call
--- replaces the call that they contain.
+-- Holds if the end of `call` changes the stored facts about its key correctly. Either the facts stay the same, or the
+-- call replaces the call that they contain.
 abbrev pub IsEnded : StreamCall → Facts → Facts → Type 0
 IsEnded call old new = IsUnchanged call old new ⊎ IsKept call old new
 
@@ -161,14 +161,14 @@ pub record AreFacts (opening : List ℕ) (calls : List CallRecord) (key : ℕ) (
   pub was : WasSo calls key (presence (has_key key opening)) f.was (record_if (first_of key f))
   pub over : (there : Presence) → AreOverBy calls key there (until_of there f)
 
--- Holds if c is a clash on the key: its two calls contradict each other, whatever calls start after the moment.
+-- Holds if c is a clash on the key: its two calls contradict each other, whatever other calls start after `moment`.
 abbrev pub IsClashBy : List ℕ → List CallRecord → ℕ → ℕ → Clash → Type 0
 IsClashBy opening calls moment key c = (later : List CallRecord) → All (λ (z : CallRecord). moment < z.begun) later
     → IsClash (calls ++ later) key (presence (has_key key opening)) None c.was (record_if c.first) (record_if c.second)
 
--- Holds if the facts that the judge stores about each key are correct. After a key has failed the judge's test, this is
--- required only of the facts about this key. After two contradicting calls have been found, it is only required that
--- both are on this key and contradict each other.
+-- Holds if the facts that the judge stores about each key are correct. After the judge has found a key with calls that
+-- no order explains, this is required only of the facts about this key. After two contradicting calls have been found,
+-- it is only required that both are on this key and contradict each other.
 abbrev pub AreKnownBy : List ℕ → List CallRecord → ℕ → States → Option Failed → Option Clash → Type 0
 AreKnownBy opening calls moment states None clash = (k : ℕ) → AreFacts opening calls k (facts_for states k)
 AreKnownBy opening calls moment states (Some f) None = AreFacts opening calls f.key.0 (facts_for states f.key.0)
@@ -271,9 +271,10 @@ pub record IsFoundLeft (key : ℕ) (f : Facts) (left : Presence) (c : Clash) : T
   pub is_other : left ≡ other f.was
   pub standing : IsStanding key f
 
--- Describes how the start of a call changes the facts that the judge stores about the keys: as `begun_by` describes for
--- the key of the call, and not at all for any other key. After a key has failed the judge's test, this is required only
--- of the facts about this key. After a contradiction has been found, nothing is required.
+-- Holds if the start of a call changes the facts that the judge stores about the keys correctly: as `begun_by`
+-- describes for the key of the call, and not at all for any other key. After the judge has found a key with calls that
+-- no order explains, this is required only of the facts about this key. After a contradiction has been found, nothing
+-- is required.
 abbrev pub BeginIsKnown : States → ℕ → Event → States → Option Failed → Option Clash → Type 0
 BeginIsKnown before key event after None clash = (facts_for after key ≡ begun_by event (facts_for before key))
     × ((k : ℕ) → k ≢ key → facts_for after k ≡ facts_for before k)
@@ -298,14 +299,14 @@ abbrev pub clash_met : Option Failed → Option Clash → Option Clash
 clash_met None clash = None
 clash_met (Some f) clash = clash
 
--- Holds if c is a clash: its two calls contradict each other, whatever calls the stream has judged. Both calls are on
--- the key that `refusal`, the reason of the verdict, names.
+-- Holds if c is a clash (two calls that contradict each other) in every list of calls that can have led to the state s
+-- of the stream. Both calls are on the key that `refusal`, the reason of the verdict, names.
 abbrev pub ClashesStream : List ℕ → Refusal → Option Presence → Stream → Clash → Type 0
 ClashesStream opening refusal left s c = (threads : ℕ) (calls : List CallRecord) → IsStreamKept threads opening calls s
     → IsClash calls refusal.key.0 (presence (has_key refusal.key.0 opening)) left c.was (record_if c.first) (record_if c.second)
 
--- Holds if, once all ends have been processed, no two calls on the key that the reason names contradict each other (see
--- `HasNoClash`).
+-- Holds if, once the ends of all calls have been processed, no call on the key that the reason names contradicts a
+-- later call (see `HasNoClash`).
 abbrev pub HasNone : List ℕ → Refusal → Option Presence → Stream → Type 0
 HasNone opening refusal left s = (threads : ℕ) (calls : List CallRecord) → IsStreamKept threads opening calls s
     → All (λ (p : Pending). behind_all ≤ p.end) s.pending → HasNoClash calls refusal.key.0 (presence (has_key refusal.key.0 opening)) left

@@ -1,5 +1,5 @@
--- The judge's test of the calls on one key: the events of the key, and the pending change that takes effect at each of
--- them.
+-- The judge's test of the calls on one key. The test processes the starts and ends of the calls in order, and makes
+-- pending changes take effect when an event needs them.
 use Rattle.std.specs.Prelude.{ℕ, zero, suc, ◌+◌, ◌==◌, ◌||◌, min, nat_lt, Bool, true, false, not, if◌then◌else◌, List, [], ◌∷◌}
 use Rattle.std.specs.Prelude.{length, Option, Some, None, is_some}
 
@@ -84,8 +84,8 @@ turned_by m e s = record {
 }
 
 -- `nearest` returns the earliest of the moments. `turned_if` returns the key's state after the pending change with the
--- earliest end has taken effect, or None if no change is pending. In the judge's test, a change takes effect only when
--- an event needs it.
+-- earliest end has taken effect. It returns None if no change is pending. In the judge's test, a change takes effect
+-- only when an event needs it.
 abbrev pub nearest : ℕ → List ℕ → ℕ
 nearest x [] = x
 nearest x (y ∷ ys) = min x (nearest y ys)

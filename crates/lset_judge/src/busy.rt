@@ -6,7 +6,7 @@ ghost use Rattle.lset_judge.specs.Pending.{last_end};
 use std::alloc::{AllocError, Global};
 use std::collections::HashMap;
 
-/// The last ends of threads below `LOW` are stored in a vector, those of all other threads in a hash table.
+/// Threads with a smaller number than `LOW` have an item in a vector, all others an entry in a hash table.
 const LOW: u32 = 65_536;
 
 /// For each thread that has made a call, the end of its last call.

@@ -241,7 +241,7 @@ fn is_count(calls: &[StreamCall], there: Presence, left: Option<Presence>, count
     need_turns(counted, was) && count.backs.len() < count.turns()
 }
 
-/// Returns the calls in `stretch`, ordered by start. (A stretch of time can contain too many calls for any order.)
+/// Returns the calls of `stretch` (a period of time with too many calls for any order), ordered by start.
 fn counted_in(
     alloc: Global,
     calls: &[StreamCall],

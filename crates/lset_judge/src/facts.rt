@@ -75,8 +75,8 @@ impl KeyState {
         }
     }
 
-    /// Returns the kept call on `key`, which left the key in the state `was`. Returns `None` if no call is stored,
-    /// since the set opened with the key in this state.
+    /// Returns the stored call on `key`, a completed call that left the key in the state `was`. Returns `None` if no
+    /// call is stored. In this case, the set opened with the key in the state `was`.
     fn first(&self, key: Key) -> Option<StreamCall>
         ensures { result ≡ first_of key.0 (facts_of self.now) }
     {
@@ -116,8 +116,8 @@ impl KeyState {
         }
     }
 
-    /// Returns whether `second` starts after `first` has ended, or the stored facts show that the two calls contradict
-    /// each other in the opposite order too. Returns true if `first` is `None`.
+    /// Returns whether `second` starts after `first` has ended. Also returns true if the stored facts about the key
+    /// show that the two calls contradict each other in the opposite order too, or if `first` is `None`.
     fn comes_after(&self, first: Option<StreamCall>, second: StreamCall) -> bool
         ensures { IsTrue result ↔ ComesAfter (facts_of self.now) first second }
     {
@@ -138,9 +138,9 @@ impl KeyState {
             && ends_by(first, second)
     }
 
-    /// Returns the contradiction between the kept call on the key and the call `second`, which ends now. If no call is
-    /// kept, the key's opening state takes its place. Returns `None` if and only if the stored facts show no
-    /// contradiction.
+    /// Returns the contradiction between the stored call on the key and the call `second`, which ends now: no order
+    /// can contain both. If no call is stored, the key's opening state takes its place. Returns `None` if and only if
+    /// the stored facts show no contradiction.
     pub(crate) fn clash_of(&self, second: StreamCall) -> Option<Clash>
         ensures { MatchOption result (IsClashing (facts_of self.now) second → ⊥) (IsFound (facts_of self.now) second) }
     {
@@ -159,17 +159,17 @@ impl KeyState {
         })
     }
 
-    /// Stores the result of `clash_of` in `clash`. This is a separate function so that other ends need no stack space
-    /// for a `Clash`.
+    /// Stores the result of `clash_of` in `clash`. This is a separate function so that its caller needs no stack space
+    /// for another `Clash`.
     pub(crate) fn store_clash(&self, second: StreamCall, clash: &mut Option<Clash>)
         ensures { MatchOption clash.new (IsClashing (facts_of self.now) second → ⊥) (IsFound (facts_of self.now) second) }
     {
         *clash = self.clash_of(second);
     }
 
-    /// Returns the contradiction between the kept call on the key and the key's final state `left`: no order contains
-    /// the call and leaves this state. If no call is kept, the key's opening state takes its place. Returns `None` if
-    /// and only if the stored facts show no contradiction.
+    /// Returns the contradiction between the stored call on the key and the key's final state `left`: no order
+    /// contains the call and leaves this state. If no call is stored, the key's opening state takes its place. Returns
+    /// `None` if and only if the stored facts show no contradiction.
     pub(crate) fn clash_left(&self, key: Key, left: Presence) -> Option<Clash>
         ensures { MatchOption result (left ≡ other self.now.was → IsStanding key.0 (facts_of self.now) → ⊥) (IsFoundLeft key.0 (facts_of self.now) left) }
     {

@@ -168,9 +168,9 @@ impl KeyChanges {
         }
     }
 
-    /// Returns whether a change of the key to the state `to`, from moment `before` + 1 to `end`, can be stored without
-    /// a heap. This is the case if the change has an end, each earlier change has ended by `before`, and the last
-    /// earlier change, if any, was to the other state.
+    /// Returns whether a change of the key to the state `to`, which starts at moment `before` + 1 and ends at `end`,
+    /// can be stored without a heap. This is the case if the change has an end, each earlier change has ended by
+    /// `before`, and the last earlier change, if any, was to the other state.
     fn is_alone(&self, to: Presence, before: u64, end: u64) -> bool
         ensures alone { IsTrue result → is_many self.now.held ≡ false }
         ensures puts { IsTrue result → (puts_in self.now ≡ []) × (takes_in self.now ≡ []) }

@@ -17,7 +17,7 @@ use crate::stream::StreamCall;
 use lset_words::Presence;
 use std::alloc::{AllocError, Global};
 
-/// The kind of the kept call, the completed call that the judge stores for a key. The kept call left the key in the
+/// The kind of a key's kept call: the completed call that the judge stores for the key. The call left the key in the
 /// state `was`.
 #[derive(Clone, Copy)]
 pub(crate) enum Kept {
@@ -130,8 +130,8 @@ impl KeyState {
         }
     }
 
-    /// Lets pending changes take effect just after the moment `before`, one by one, until the key's state allows
-    /// `event`, which is at the next moment. Returns whether the key has reached a state that allows `event`.
+    /// Makes pending changes take effect just after the moment `before`, one by one, until the key's state allows
+    /// `event`, which happens at the next moment. Returns `false` if the key has reached no state that allows `event`.
     pub(crate) fn settle(&mut self, before: u64, event: Event) -> bool
         ensures found { found before (event_as event) (state_of self.old) ≡ (if result then Some (state_of self.new) else None) }
         ensures facts { facts_of self.new ≡ facts_of self.old }
@@ -144,8 +144,8 @@ impl KeyState {
         true
     }
 
-    /// Processes `event` of the key, which is at moment `before` + 1. Returns whether the key still passes the judge's
-    /// test.
+    /// Processes `event` of the key, which happens at moment `before` + 1. Returns `false` if the event is impossible.
+    /// In this case, no order explains the calls on the key.
     pub(crate) fn meet(
         &mut self,
         alloc: Global,
@@ -167,8 +167,9 @@ impl KeyState {
         Ok(true)
     }
 
-    /// Processes the end of a call on the key, at moment `before` + 1. Returns whether the key still passes the judge's
-    /// test. If it does not, searches for a call that contradicts this one.
+    /// Processes the end of a call on the key, at moment `before` + 1. Returns `false` if this end is impossible. In
+    /// this case, no order explains the calls on the key, and the function searches for a call that contradicts this
+    /// one.
     pub(crate) fn meet_end(
         &mut self,
         alloc: Global,

@@ -101,7 +101,7 @@ pub struct Refusal {
     pub moment: Option<u64>,
 }
 
-/// The first key that fails the judge's test, and the moment when it fails.
+/// The first key with calls that no order explains, and the moment when the judge found this.
 #[derive(Clone, Copy)]
 pub(crate) struct Failed {
     pub(crate) key: Key,
@@ -195,8 +195,9 @@ impl Pending {
     }
 }
 
-/// Processes `event` at moment `before` + 1. Its key must have no stored state yet. Returns whether the key still
-/// passes the judge's test. This is a separate function so that other events need no stack space for a new state.
+/// Processes `event` of a key at moment `before` + 1. The key must have no stored state yet. Returns `false` if the
+/// event is impossible: no order then explains the calls on the key. This is a separate function so that other events
+/// need no stack space for a new state.
 fn meet_new_key(
     states: &mut HashMap<u32, KeyState>,
     alloc: Global,
@@ -217,7 +218,8 @@ fn meet_new_key(
     Ok(goes_on)
 }
 
-/// Processes `event` of a key at moment `before` + 1. Returns whether the key still passes the judge's test.
+/// Processes `event` of a key at moment `before` + 1. Returns `false` if the event is impossible: no order then
+/// explains the calls on the key.
 fn meet_key(
     states: &mut HashMap<u32, KeyState>,
     alloc: Global,
@@ -239,7 +241,7 @@ fn meet_key(
     Ok(goes_on)
 }
 
-/// Records the start of a call on a key that has failed the judge's test.
+/// Records the start of a call on a key, after the judge has found that no order explains the calls on this key.
 fn note_begin(
     states: &mut HashMap<u32, KeyState>,
     alloc: Global,
@@ -258,8 +260,8 @@ fn note_begin(
     Ok(())
 }
 
-/// Records the end of a call on a key that has failed the judge's test. Returns a contradiction between this call and
-/// an earlier one, if the stored facts show one.
+/// Records the end of a call on a key, after the judge has found that no order explains the calls on this key. Returns
+/// a contradiction between this call and an earlier one, if the stored facts show one.
 fn note_end(
     states: &mut HashMap<u32, KeyState>,
     alloc: Global,
@@ -284,14 +286,14 @@ fn note_end(
 /// The result of processing the end of a call.
 #[derive(Clone, Copy)]
 struct EndMet {
-    /// Whether the key still passes the judge's test after the end of the call.
+    /// `false` if the end of the call is impossible. In this case, no order explains the calls on the key.
     goes_on: bool,
     /// Whether the call overlaps another call that changes the same key.
     overlaps: bool,
 }
 
-/// Processes the end of a call at moment `before` + 1. The call's key must have no stored state yet. If the key fails
-/// the judge's test, searches for a call that contradicts this one.
+/// Processes the end of a call at moment `before` + 1. The call's key must have no stored state yet. If this end is
+/// impossible (no order explains the calls on the key), searches for a call that contradicts this one.
 fn meet_new_key_end(
     states: &mut HashMap<u32, KeyState>,
     alloc: Global,
@@ -321,8 +323,8 @@ fn meet_new_key_end(
     })
 }
 
-/// Processes the end of a call at moment `before` + 1. If the key fails the judge's test, searches for a call that
-/// contradicts this one.
+/// Processes the end of a call at moment `before` + 1. If this end is impossible (no order explains the calls on the
+/// key), searches for a call that contradicts this one.
 fn meet_key_end(
     states: &mut HashMap<u32, KeyState>,
     alloc: Global,
@@ -385,8 +387,8 @@ fn smallest(key: u32, other: Option<u32>) -> u32
     }
 }
 
-/// Returns the verdict on a recording: `NotLinearizable` if `key` is a key with an impossible final state, and
-/// `Linearizable` if `key` is `None` because every final state is possible.
+/// Returns the verdict on a recording. `key` is a key with an impossible final state: the verdict is then
+/// `NotLinearizable`. If `key` is `None`, every final state is possible, and the verdict is `Linearizable`.
 fn verdict_of_key(key: Option<u32>) -> StreamVerdict
     ensures { result ≡ verdict_of_key key }
 {
@@ -494,7 +496,7 @@ impl Stream {
         self.clash = None;
     }
 
-    /// Processes the end of a pending call. No key may have failed the judge's test.
+    /// Processes the end of a pending call. The judge must not have found any key with calls that no order explains.
     fn meet_end_going(&mut self, next: Pending) -> Result<(), AllocError>
         requires { self.old.failed ≡ None }
         ensures pending { OnOk result (self.new.pending ≡ self.old.pending) }
@@ -524,7 +526,7 @@ impl Stream {
         Ok(())
     }
 
-    /// Processes the end of a pending call after a key has failed the judge's test.
+    /// Processes the end of a pending call, after the judge has found a key with calls that no order explains.
     fn end_after_failure(&mut self, next: Pending, failed: Failed) -> Result<(), AllocError>
         requires { self.old.failed ≡ Some failed }
         ensures met { OnOk result (IsMet self.old (key_in next) next.end (event_of next) self.new) }
@@ -542,8 +544,8 @@ impl Stream {
     fn end(&mut self, next: Pending) -> Result<(), AllocError>
         ensures met { OnOk result (IsMet self.old (key_in next) next.end (event_of next) self.new) }
         ensures known { OnOk result (EndIsKnown self.old.states next.call self.new.states self.old.failed self.old.clash self.new.clash) }
-        // Suppose that the call's key has failed the judge's test and that no contradiction has been found. Then the
-        // stored facts show no contradiction between this call and an earlier one.
+        // Suppose that no order explains the calls on this key, and that no contradiction between two of them has been
+        // found. Then the stored facts show no contradiction between this call and an earlier one.
         ensures missed { OnOk result (IfSome self.new.failed (λ f. f.key.0 ≡ key_in next → self.new.clash ≡ None
             → IsClashing (facts_for self.old.states (key_in next)) next.call → ⊥)) }
     {
@@ -662,7 +664,7 @@ impl Stream {
     }
 
     /// Returns how many calls overlap another call on the same key that is a completed change. The number can be wrong
-    /// if a key has failed the judge's test.
+    /// if no order explains the calls.
     pub(crate) fn overlapped(&self) -> u64 {
         self.overlapped
             .saturating_add(self.pending.overlapping(&self.states, self.moment))
@@ -706,8 +708,8 @@ impl Stream {
         }
     }
 
-    /// Returns two calls that contradict each other, if the judge found them. They are on the key that failed the
-    /// judge's test.
+    /// Returns two calls that contradict each other, if the judge found them. Both are on the first key with calls
+    /// that no order explains.
     pub(crate) fn clash_met(&self) -> Option<Clash>
         ensures { result ≡ clash_met self.now.failed self.now.clash }
     {
@@ -717,8 +719,9 @@ impl Stream {
         }
     }
 
-    /// Returns a call on `key` that contradicts the key's final state `left` (no order contains the call and leaves
-    /// this state), if the stored facts show one. Returns `None` if any key has failed the judge's test.
+    /// Returns a contradiction between a call on `key` and the key's final state `left` (no order contains the call
+    /// and leaves this state), if the stored facts show one. Returns `None` if the judge has already found a key with
+    /// calls that no order explains.
     pub(crate) fn clash_left(&self, key: u32, left: Presence) -> Option<Clash>
         ensures found { IfSome result (λ c. (self.now.failed ≡ None) × IsFoundLeft key (facts_for self.now.states key) left c) }
         ensures missed { result ≡ None → self.now.failed ≡ None → left ≡ other (facts_for self.now.states key).was

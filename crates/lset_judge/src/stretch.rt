@@ -28,7 +28,7 @@ pub(crate) struct Stretch {
     pub(crate) until: Option<u64>,
 }
 
-/// The smallest stretch of time found, if any. `size` is the number of its counted calls plus the number of calls that
+/// The smallest stretch of time found so far, if any. `size` is the number of its calls plus the number of calls that
 /// can change the key back.
 #[derive(Clone, Copy)]
 struct Best {
@@ -56,8 +56,8 @@ struct Timed {
     step: Step,
 }
 
-/// A call that saw the key in the state other than `was` (the state after each change in the stretch), and the number
-/// of changes to `was` that had ended when this call started.
+/// A call that saw the key in the state other than `was` (the state after each change in the stretch of time).
+/// `changes` is the number of changes to `was` that had ended when this call started.
 #[derive(Clone, Copy)]
 struct Look {
     call: StreamCall,

@@ -30,8 +30,8 @@ IsJudgeKept opening calls None = calls ≡ []
 IsJudgeKept opening calls (Some j) =
     IsJudgeOf all_threads opening calls j × IsLatest calls (moment_of j.stream) × (length calls ≤ moment_of j.stream)
 
--- Holds if the keys increase strictly. Their number is at most 2^32, and at most each key k that can be appended to
--- them.
+-- Holds if the keys increase strictly. Their number is at most 2^32. It is also at most k, for each key k that can be
+-- appended to them.
 pub record AreKeys (keys : List ℕ) : Type 0 where
   pub increase : IsStrictlyIncreasing keys
   pub below : (k : ℕ) → is_above keys k ≡ true → length keys ≤ k

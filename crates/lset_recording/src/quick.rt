@@ -116,8 +116,8 @@ fn behind_call(line: &[u8]) -> Option<&[u8]>
 }
 
 /// Reads a completed call from the start of a text. Returns the call and the bytes after its reply. Returns `None` for
-/// any other text, which can still start with a valid line. The reader must be in a section of the recording that
-/// allows calls.
+/// any other text; the text can still be valid, and must then be read in the general way. The reader must be in a
+/// section of the recording that allows calls.
 #[inline(always)]
 pub(crate) fn quick_call(text: &[u8]) -> Option<(StreamCall, &[u8])>
     ensures { IfSome result (λ p. (line : List ℕ) × (text.now ≡ line ++ p.1.now)
@@ -140,8 +140,8 @@ pub(crate) fn quick_call(text: &[u8]) -> Option<(StreamCall, &[u8])>
 }
 
 /// Reads the line of a completed call from the start of a text. Returns the call and the bytes after the newline.
-/// Returns `None` for any other text, which can still start with a valid line. The reader must be in a section of the
-/// recording that allows calls.
+/// Returns `None` for any other text; the text can still be valid, and must then be read in the general way. The
+/// reader must be in a section of the recording that allows calls.
 pub(crate) fn quick_line(text: &[u8]) -> Option<(StreamCall, &[u8])>
     ensures { IfSome result (λ p. (line : List ℕ) × (text.now ≡ line ++ 10 ∷ p.1.now)
         × ((section : Section) → takes_calls section ≡ true → line_told section line ≡ Ok (Call p.0))) }

@@ -236,14 +236,9 @@ impl RecordingReader {
         self.judging.finish()
     }
 
-    /// Ends the text and returns the verdict: whether some order of the calls explains their replies and leaves the
-    /// final keys. If the recording was cut off, its final keys are unknown, and the order can leave any keys.
-    /// Allocates; does not block.
-    ///
-    /// # Errors
-    ///
-    /// Returns the error of the text if it is not complete, `Cause::Memory` if an allocation fails, and the error of
-    /// `feed` if `feed` has returned one.
+    /// Ends the text and returns the verdict: whether some order explains the calls (returns the same replies) and
+    /// leaves the final keys. If the recording was cut off, its final keys are unknown, and the order can leave any
+    /// keys. Allocates; does not block.
     #[tactic(auto, using(crate::proofs::ReadLaws::none_failed, crate::proofs::ReadLaws::one_failed))]
     pub fn finish(self) -> Result<RecordingAnswer, LineFault>
         ensures said { IfOk result (λ answer. (bytes : List ℕ) → IsRead bytes self

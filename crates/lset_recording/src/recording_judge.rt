@@ -107,7 +107,8 @@ fn create_judge(alloc: Global, opening: &[u32], place: &mut Option<Judge>) -> Re
     Ok(())
 }
 
-/// Appends a call to the calls that are kept, if calls are kept. If an allocation fails, returns `AllocError`.
+/// Appends a call to the calls that `take_calls` will return. Does nothing if `take_calls` has never been called. If
+/// an allocation fails, returns `AllocError`.
 #[inline(always)]
 fn store_untaken(
     untaken: &mut Option<Vec<StreamCall>>,

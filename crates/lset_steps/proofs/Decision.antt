@@ -1,6 +1,6 @@
--- Lemmas about the end of a walk at two neighbours in the chain: the key of pred is smaller than the call's, and the
--- key of curr, the next node, is not. The call now has a reply or will change the set. The proofs of all lists with
--- such walks use these lemmas.
+-- Lemmas about the end of a walk along the chain at two neighboring nodes: pred has a smaller key than the call's, and
+-- curr, the next node, does not. The call now has a reply or will change the set. The proofs of all lists with such
+-- walks use these lemmas.
 use Rattle.std.specs.Prelude.{◌≡◌, ◌≢◌, ℕ, ◌*◌, ◌/◌, ◌%◌, ◌<◌, ◌≤◌, ◌⊎◌, Bool, true, false, Some, None, List, [], ◌==◌, nat_lt, refl}
 use Rattle.std.proofs.Common.{arith, inl, inr, sym, ◌∙◌, ap}
 use Rattle.lset_words.proofs.Numbers.{same_number, other_number, lower_number, not_lower_number}

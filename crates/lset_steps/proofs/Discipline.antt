@@ -1,5 +1,5 @@
 -- Proof that a machine satisfies its law in every run, if each of its steps is one of a few allowed changes of the
--- words. Moment k of a run is after its first k events.
+-- words. Moment k of a run is the state after the first k events.
 use Rattle.std.specs.Prelude.{◌≡◌, ◌≢◌, ℕ, ◌+◌, ◌%◌, ◌<◌, ◌≤◌, ◌⊎◌, ◌-◌, Bool, true, false, Option, Some, None, List}
 use Rattle.std.specs.Prelude.{slice_set, slice_index_or, length, refl, if◌then◌else◌, ◌==◌, ◌||◌}
 use Rattle.std.proofs.Common.{arith, inl, inr, sym, ◌∙◌, ap, subst, zero, suc, get_or-set_other, get_or-set_same, length-set}

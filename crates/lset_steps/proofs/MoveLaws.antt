@@ -112,8 +112,8 @@ pub marked_after : (marks : Bool) (v w : View) → IsOrdered v → (ch : Option 
 marked_after true v w ord ch m h = live_stays v w ord ch m h
 marked_after false v w ord ch m h = plain_stays v w ord ch m h
 
--- `UnlinkedStays` holds between a moment and itself. If it holds from one moment to another, it also holds after one
--- move from there. Therefore it holds after any number of moves.
+-- `UnlinkedStays` (an unlinked node stays out of the chain) holds between a moment and itself. If it holds from one
+-- moment to another, it also holds after one more move. Therefore it holds after any number of moves.
 pub later_same : (marks : Bool) (v : View) (i : ℕ) → v.published i → UnlinkedStays marks v v i
 later_same marks v i m = record { published = m; key = refl; unlinked = λ c. (refl, c); marked = λ e o. refl }
 

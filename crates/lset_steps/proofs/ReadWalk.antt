@@ -72,7 +72,7 @@ loads_seen T At d rows shows op last k t a es r l th busy reads next =
     (local_of (state_at T op es k) t)
     (read_row T (lawful_of T At d) rows op last k t es r l th busy reads) (i.threads t th).at)
 
--- At the moments `at` and `k`, the last call of thread `t` is the same, and so is the moment when it began.
+-- Holds if the last call of thread `t`, and the moment when this call began, are the same at the moments `at` and `k`.
 record SameCall (log : Log) (t at k : ℕ) : Type 0 where
   begun : begun_at log t k ≡ begun_at log t at
   call : last_call log t k ≡ last_call log t at

@@ -98,8 +98,8 @@ abbrev pub Stands : {marks : Bool} → Protocol marks → Outline → Type 1
 Stands P At = (q t : ℕ) (vs : ℕ → View) (first now : ℕ) (v w : View) (done : Bool) (l : Local) → vs now ≡ v → P.rely v w q t
     → At q t vs first now v done l → At q t vs first (suc now) w done l
 
--- In a step that does not end its call, a thread keeps its call and its number of successful adds. Its registers stay
--- in range.
+-- Holds if a thread keeps its call and its number of successful adds in a step from state `l` to `l'`. The call does
+-- not end, and the registers stay in range.
 abbrev pub Onward : Sizes → ℕ → Local → Local → Type 0
 Onward sz t l l' = Registers sz t l' × (l'.call ≡ l.call) × (l'.used ≡ l.used) × (l'.pc ≢ 0)
 
@@ -128,7 +128,7 @@ pub data Turn (T : Table) (P : Protocol T.marks) (At : Outline) (sz : Sizes) (t 
       → Registers sz t l' → l'.call ≡ l.call → l'.used ≡ used' t → l'.pc ≡ 0
       → At sz.quota t vs first (suc now) (view sz ws' used') true l' → Turn T P At sz t vs first now ws used done l
 
--- The protocol (the steps that a thread may take) allows a thread to try to take the lock of any node.
+-- Holds if the protocol (the steps that a thread may take) allows each thread to try to take the lock of any node.
 abbrev pub Locks : {marks : Bool} → Protocol marks → Type 0
 Locks P = (sz : Sizes) (t : ℕ) (ws : List ℕ) (used : ℕ → ℕ) (a : ℕ) → a < node_count sz
     → (node_lock ws a ≡ 0 → P.step sz t ws used (Exchange (lock_index a) 0 (t + 1)) (slice_set ws (lock_index a) (t + 1)) used None)

@@ -111,7 +111,7 @@ all_told v (p ∷ f) (x ∷ xs) = both (told v p x) (all_told v f xs)
 abbrev pub told_in : Version → (f : Form) → List (List ℕ) → Option (Told f)
 told_in v f xs = if have_form v f xs then all_told v f xs else None
 
--- Holds if the field can be separated from its neighbours and read back. A fixed word has only bytes from 45 up
+-- Holds if the field can be separated from its neighbors and read back. A fixed word has only bytes from 45 up
 -- (letters, digits and dashes, but no space and no newline). The largest number is below 2^64.
 abbrev pub IsPiece : Piece → Type 0
 IsPiece (word w) = all_from 45 w ≡ true

@@ -125,7 +125,7 @@ pub fn layout(threads: u32, quota: u32) -> Result<Layout, LayoutFault>
 
 /// Returns the layout of the words of a list that opens with `opening` keys (0 to 1,048,576). The list has `threads`
 /// threads (1 to 64), with a quota of `quota` successful adds each (0 to 16,384). Each opening key has a node of its
-/// own, which does not count towards a thread's quota.
+/// own, which does not count toward a thread's quota.
 ///
 /// # Errors
 ///
