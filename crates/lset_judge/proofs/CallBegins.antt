@@ -30,7 +30,7 @@ use Rattle.lset_judge.proofs.StreamSteps.{quiet_before, ends_next, without_next,
 some_and : (P : ℕ × Reply → Type 0) (o : Option (ℕ × Reply)) (e : ℕ × Reply) → o ≡ Some e → P e → IsSomeAnd o P
 some_and P o e s h = subst (λ q. IsSomeAnd q P) (sym s) h
 
--- ---- Lemmas about the earliest end of a pending call
+-- ---- Lemmas about the next moment when a pending call ends
 
 pub end_met : (threads : ℕ) (opening : List ℕ) (calls : List CallRecord) (s t : Stream) (moment : ℕ) (p : Pending) (rest : List Pending)
     → moment ≤ behind_all → IsNext moment s.pending p rest → t.pending ≡ rest → t.moment ≡ p.end

@@ -1,5 +1,5 @@
--- Proofs about the ends of pending changes. The code stores these moments in a heap, and contracts describe them as a
--- list in increasing order.
+-- Proofs about the moments when pending changes end. The code stores these moments in a heap, and contracts describe
+-- them as a list in increasing order.
 use Rattle.std.proofs.Common.{◌≡◌, ℕ, suc, ◌+◌, ◌-◌, ◌<◌, ◌≤◌, List, [], ◌∷◌, Bool, true, false, inl, inr, refl, sym, ap, ◌∙◌, arith, subst, length}
 use Rattle.std.specs.Prelude.{◌==◌, nat_lt, slice_index_or, slice_get, if◌then◌else◌, Option, Some, None, All, MatchOption}
 use Rattle.std.specs.BinaryHeap.{IsUpperBound}
@@ -72,7 +72,7 @@ same_increasing (x ∷ xs) (y ∷ ys) up high h =
       | inr l ↦ l
     ]
 
--- ---- Lemmas about the ends in a heap
+-- ---- Lemmas about the moments in a heap
 
 increasing : (xs : List (Reverse ℕ)) → IsIncreasing (increasing_of xs)
 increasing [] = tt
@@ -124,7 +124,7 @@ pub none_held : (xs : List (Reverse ℕ)) → length xs ≡ 0 → increasing_of 
 none_held [] e = refl
 none_held (x ∷ xs) e = absurd (omega (arith, e))
 
--- ---- Lemmas about the earliest end
+-- ---- Lemmas about the earliest moment in a list
 
 each_from : (d : ℕ) (xs : List ℕ) → NoneBefore d xs → AllByRecursion (λ (e : ℕ). d ≤ e) xs
 each_from d [] h = tt

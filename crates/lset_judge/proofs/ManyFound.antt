@@ -1,4 +1,5 @@
--- Proofs about finding a pending call, by its end or its thread, in a hash table that is indexed by the ends of calls.
+-- Proofs about finding a pending call by its thread or by the moment when it ends. The calls are in a hash table that
+-- is indexed by these moments.
 use Rattle.std.proofs.Common.{◌≡◌, ◌≢◌, ℕ, ◌<◌, ◌≤◌, Bool, true, false, List, [], ◌∷◌, refl, sym, ap, ◌∙◌, arith, subst, inl, inr, length, get_or, map, cond}
 use Rattle.std.specs.Prelude.{◌==◌, nat_lt, if◌then◌else◌, All, Contains, Option, Some, None, IfSome, MatchOption, is_some, not}
 use Rattle.std.specs.Bool.{nat_eq}

@@ -1,5 +1,5 @@
 -- Proofs about the events of the recorded calls from the start of a call to the start of the next. They treat three
--- periods: the moments before the next end of a pending call, this end, and the next start.
+-- periods: the moments before the next pending call ends, the moment when it ends, and the next start.
 use Rattle.std.proofs.Common.{◌≡◌, ◌≢◌, ℕ, suc, ◌+◌, ◌-◌, ◌<◌, ◌≤◌, List, [], ◌∷◌, ◌++◌, refl, sym, ap, ◌∙◌, arith, subst}
 use Rattle.std.proofs.Common.{◌⊎◌, Bool, zero, inl, inr, length, get_or}
 use Rattle.std.specs.Prelude.{◌==◌, if◌then◌else◌, Option, Some, None, IfSome, All, AllPairs, Contains}
@@ -112,7 +112,7 @@ module _ (opening : List ℕ) (calls : List CallRecord) where
     goes_to j e before after was failed met so = subst (λ (i : ℕ). IsJudgedTo opening calls i after failed) (sym e)
         (goes before after was failed (subst (λ (i : ℕ). IsMetBy before key i v after was failed) e met) so)
 
--- ---- Lemmas about the ends of pending calls when their list is reordered or extended
+-- ---- Lemmas about the moments when pending calls end, if the list of these calls is reordered or extended
 
 abbrev same : Pending → Pending → Bool
 same p q = p.end == q.end

@@ -132,8 +132,8 @@ abbrev pub TakeTurns : Bool → Bool → List Act → Type 0
 TakeTurns left b [] = b ≡ left
 TakeTurns left b (a ∷ ys) = suits b a.does × TakeTurns left (becomes b a.does) ys
 
--- Holds if act p (the effect of a call) can be before act r in an order: r ends after p starts. The two acts have
--- different ends.
+-- Holds if act p (the effect of a call) can be before act r in an order: r ends after p starts. The two acts end at
+-- different moments.
 pub record Apart (p r : Act) : Type 0 where
   pub in_time : p.begun < r.until
   pub other : p.until ≢ r.until
@@ -144,8 +144,8 @@ pub record IsAct (ev : ℕ → Event) (last : ℕ) (a : Act) : Type 0 where
   pub ends_later : a.begun < a.until
   pub told : (w : Bool) → a.does ≡ changes w → ev a.begun ≡ begins w a.until
 
--- Holds if changes with different starts have different ends, and no event of the key is `leaves`, which stands for
--- the final state.
+-- Holds if changes that start at different moments also end at different moments, and no event of the key is `leaves`,
+-- which stands for the final state.
 pub record AreEvents (ev : ℕ → Event) : Type 0 where
   pub once : (i j : ℕ) (v w : Bool) (u : ℕ) → ev i ≡ begins v u → ev j ≡ begins w u → i ≡ j
   pub not_left : (i : ℕ) (w : Bool) → ev i ≡ leaves w → ⊥
@@ -168,8 +168,8 @@ same_self true b e = e
 same_self false b e = rw e refl
 
 module _ (ev : ℕ → Event) (last : ℕ) (left : Bool) (are : AreEvents ev) where
-  -- Relates xs, the ends of the pending changes to the state w, with the events up to moment m and with the acts ys
-  -- that have not taken effect yet. (An act is the effect of a call.)
+  -- Relates xs, the moments when the pending changes to the state w end, with the events up to moment m and with the
+  -- acts ys that have not taken effect yet. (An act is the effect of a call.)
   pub record Lists (w : Bool) (m : ℕ) (xs : List ℕ) (ys : List Act) : Type 0 where
     pub from_event : (u : ℕ) → has_key u xs ≡ true → (i : ℕ) × (i ≤ m) × (ev i ≡ begins w u)
     pub needed : (u : ℕ) → has_key u xs ≡ true → u ≤ last → (i : ℕ) × In (act i u (changes w)) ys

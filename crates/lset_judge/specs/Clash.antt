@@ -119,8 +119,8 @@ abbrev pub ComesFirst : Option CallRecord → Option CallRecord → Type 0
 ComesFirst first None = Unit {0}
 ComesFirst first (Some y) = EndsBefore first y.begun
 
--- Holds if no call on the key contradicts a call that starts after its end, the key's opening state, or its final
--- state.
+-- Holds if no call on the key contradicts a later call (one that starts after the first has ended), the key's opening
+-- state, or the key's final state.
 abbrev pub HasNoClash : List CallRecord → ℕ → Presence → Option Presence → Type 0
 HasNoClash calls key there left = (was : Presence) (first second : Option CallRecord) → ComesFirst first second
     → IsClash calls key there left was first second → ⊥

@@ -9,8 +9,8 @@ use Rattle.lset_judge.specs.declared.event.Event.{Event as MomentEvent}
 use Rattle.lset_judge.specs.declared.event.Event.TheVariants.{Begins, Ends, Looks, Idle}
 use Rattle.lset_judge.specs.Rule.{State, Event, begins, ends, looks, idle}
 
--- `puts_held` and `takes_held` return the ends of the pending `add`s and `remove`s that have not taken effect. If the
--- ends are not in heaps, there is at most one such change, and `until` is its end.
+-- `puts_held` and `takes_held` return the moments when the pending `add`s and `remove`s that have not taken effect
+-- end. Without heaps, there is at most one such change, and it ends at `until`.
 abbrev pub puts_held : ℕ → Held → List ℕ
 puts_held until Nothing = []
 puts_held until Put = until ∷ []
@@ -29,15 +29,14 @@ puts_in c = puts_held c.puts_until c.held
 abbrev pub takes_in : KeyChanges → List ℕ
 takes_in c = takes_held c.takes_until c.held
 
--- Returns whether the ends of the pending changes are stored in heaps.
+-- Returns whether the pending changes are stored in heaps.
 abbrev pub is_many : Held → Bool
 is_many Nothing = false
 is_many Put = false
 is_many Take = false
 is_many (Many many) = true
 
--- Holds if `old` and `new` have the same pending changes, the same latest end of an `add` and the same latest end of a
--- `remove`.
+-- Holds if `old` and `new` have the same pending changes, and the same last moments when an `add` and a `remove` end.
 pub record AreSame (old new : KeyChanges) : Type 0 where
   pub puts : puts_in new ≡ puts_in old
   pub takes : takes_in new ≡ takes_in old

@@ -39,8 +39,8 @@ abbrev pub kind_if : Call → Option (ℕ × Reply) → Kind
 kind_if c None = open_kind c
 kind_if c (Some e) = kind_of c e.1
 
--- Returns the end of a call. For a pending call, returns `last` plus the start of the call, so that the pending calls
--- have different ends, after all moments.
+-- Returns the moment when a call ends. For a pending call, returns `last` plus the moment when the call starts.
+-- Therefore pending calls end at different moments, after all others.
 abbrev pub until_if : ℕ → ℕ → Option (ℕ × Reply) → ℕ
 until_if last begun None = last + begun
 until_if last begun (Some e) = e.0

@@ -116,10 +116,10 @@ begun_by (looks w since) f = f
 begun_by (leaves w) f = f
 begun_by idle f = f
 
--- Holds if the stored facts `new` about the key store the completed call `call` in place of the call that `old` stores.
--- `call` left the key in the state `new.was`, and all changes to the other state end by its start. The call in `old` is
--- less useful: it left the key in the other state, or started before these changes had ended. The latest ends of
--- changes stay the same.
+-- Holds if the stored facts `new` about the key store the completed call `call` in place of the call that `old`
+-- stores. `call` left the key in the state `new.was`, and all changes to the other state end by its start. The call in
+-- `old` is less useful: it left the key in the other state, or started before these changes had ended. `puts_until`
+-- and `takes_until` stay the same.
 pub record IsKept (call : StreamCall) (old new : Facts) : Type 0 where
   pub first : first_of (key_of call.call).0 new ≡ Some call
   pub leaves : leaves_if call.call call.ended ≡ Some new.was
@@ -176,7 +176,7 @@ AreKnownBy opening calls moment states (Some f) (Some c) = IsClashBy opening cal
 
 -- ---- The facts that the judge stores suffice to find two calls that contradict each other
 
--- Holds if the moment is 0, or the end of a call that changes the key to the state `there`.
+-- Holds if the moment is 0, or a call that changes the key to the state `there` ends at this moment.
 abbrev pub IsLatest : List CallRecord → ℕ → Presence → ℕ → Type 0
 IsLatest calls key there moment = (moment ≡ 0)
     ⊎ ((x : CallRecord) × IsOf calls key x × (turns_to there (kind_if x.call x.ended) ≡ true) × (moment ≡ until_if behind_all x.begun x.ended))

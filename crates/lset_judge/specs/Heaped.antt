@@ -9,6 +9,6 @@ abbrev pub increasing_of : List (Reverse ℕ) → List ℕ
 increasing_of [] = []
 increasing_of (x ∷ xs) = put_in x.0 (increasing_of xs)
 
--- Compares two ends of calls in reverse, so that the greatest item of a heap is the earliest end.
+-- Compares two moments in reverse, so that the greatest item of a heap is the earliest moment.
 abbrev pub later_first : Reverse ℕ → Reverse ℕ → Ordering
 later_first x y = nat_cmp y.0 x.0

@@ -31,8 +31,8 @@ abbrev pub ClashesIn : List ℕ → List CallRecord → ℕ → Option Presence 
 ClashesIn opening calls key left c =
     IsClash calls key (presence (has_key key opening)) left c.was (record_if c.first) (record_if c.second)
 
--- Holds if no call on the key contradicts a call that starts after its end, the key's opening state, or its final
--- state.
+-- Holds if no call on the key contradicts a later call (one that starts after the first has ended), the key's opening
+-- state, or the key's final state.
 abbrev pub HasNoClashIn : List ℕ → List CallRecord → ℕ → Option Presence → Type 0
 HasNoClashIn opening calls key left = HasNoClash calls key (presence (has_key key opening)) left
 

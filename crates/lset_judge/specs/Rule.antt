@@ -15,7 +15,7 @@ pub data Event : Type 0 where
   idle : Event
 
 -- The state of a key as the judge tracks it. `there`: whether the key is present. `turned`: the moment of its last
--- change. `puts` and `takes`: the ends of the pending `add`s and `remove`s that have not taken effect.
+-- change. `puts` and `takes`: the moments when the pending `add`s and `remove`s that have not taken effect end.
 pub record State : Type 0 where
   pub there : Bool
   pub turned : ℕ
@@ -33,8 +33,8 @@ same false b = not b
 abbrev pub changes_to : Bool → State → List ℕ
 changes_to w s = if w then s.puts else s.takes
 
--- Returns the ends of the pending changes that would change the key now: the `remove`s if the key is present, else the
--- `add`s.
+-- Returns the moments when those pending changes end that would change the key now: the `remove`s if the key is
+-- present, else the `add`s.
 abbrev pub options : State → List ℕ
 options s = changes_to (not s.there) s
 
@@ -58,8 +58,8 @@ abbrev pub put_in : ℕ → List ℕ → List ℕ
 put_in e [] = e ∷ []
 put_in e (x ∷ xs) = if nat_lt e x then e ∷ x ∷ xs else x ∷ put_in e xs
 
--- Returns the ends of the pending changes to the state w after an event. The argument xs contains these ends before the
--- event.
+-- Returns the moments when the pending changes to the state w end, after an event. The argument xs contains these
+-- moments before the event.
 abbrev pub entering : Bool → Event → List ℕ → List ℕ
 entering w (begins v end) xs = if same w v then put_in end xs else xs
 entering w (ends v) xs = xs
@@ -83,8 +83,8 @@ turned_by m e s = record {
   takes = if s.there then take_out e s.takes else s.takes;
 }
 
--- `nearest` returns the earliest of the moments. `turned_if` returns the key's state after the pending change with the
--- earliest end has taken effect. It returns None if no change is pending. In the judge's test, a change takes effect
+-- `nearest` returns the earliest of the moments. `turned_if` returns the key's state after the pending change that
+-- ends first has taken effect. It returns None if no change is pending. In the judge's test, a change takes effect
 -- only when an event needs it.
 abbrev pub nearest : ℕ → List ℕ → ℕ
 nearest x [] = x

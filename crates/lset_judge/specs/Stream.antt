@@ -60,7 +60,8 @@ state_or (Some s) = state_of s
 abbrev pub state_for : States → ℕ → State
 state_for states k = state_or (get nat_eq states k)
 
--- Converts a call to a pending call, with the end of the call (after all moments if the call has no end).
+-- Converts a call to a pending call. The field `end` is the moment when the call ends (after all moments if it never
+-- ends).
 abbrev pub pending_of : CallRecord → Pending
 pending_of x = record {
   end = until_if behind_all x.begun x.ended;
@@ -82,7 +83,8 @@ IsOver moment x = (end : ℕ × Reply) × (x.ended ≡ Some end) × (end.0 ≤ m
 abbrev pub IsBefore : CallRecord → Type 0
 IsBefore x = (x.begun < behind_all) × IfSome x.ended (λ (end : ℕ × Reply). end.0 < behind_all)
 
--- Holds if `pending` lists the calls that have not ended by the moment `moment`. No two of them have the same end.
+-- Holds if `pending` lists the calls that have not ended by the moment `moment`. No two of them end at the same
+-- moment.
 pub record ArePending (calls : List CallRecord) (moment : ℕ) (pending : List Pending) : Type 0 where
   pub known : All (λ (p : Pending). (n : ℕ) × (n < length calls) × (p ≡ pending_of (call_numbered calls n))) pending
   pub kept : (n : ℕ) → n < length calls → IsOver moment (call_numbered calls n) ⊎ Contains pending (pending_of (call_numbered calls n))
@@ -165,8 +167,8 @@ IsStreamVerdictCutOff h (NotLinearizable refusal) = (keys : List ℕ) → IsStre
 abbrev pub no_pending : Pending
 no_pending = record { end = 0; call = call_of no_call }
 
--- Holds if an event of a key at a moment changes the stored states of the keys correctly, and if a failure (an
--- impossible event of the key) is reported. After a failure, nothing is required of the stored states.
+-- Holds if an event of a key at a moment changes the stored states of the keys correctly, or if the event is
+-- impossible and this failure is recorded. After a failure, nothing is required of the stored states.
 abbrev pub IsMetBy : States → ℕ → ℕ → Event → States → Option Failed → Option Failed → Type 0
 IsMetBy before key moment event after (Some f) failed = failed ≡ Some f
 IsMetBy before key moment event after None None =

@@ -9,12 +9,12 @@ use std::collections::HashMap;
 /// Threads with a smaller number than `LOW` have an item in a vector, all others an entry in a hash table.
 const LOW: u32 = 65_536;
 
-/// For each thread that has made a call, the end of its last call.
+/// For each thread that has made a call, the moment when its last call ends.
 #[derive(Drop)]
 pub(crate) struct Busy {
-    /// For each thread below `LOW`, the end of its last call, or 0 if it has made no call.
+    /// For each thread below `LOW`, the moment when its last call ends, or 0 if the thread has made no call.
     pub(crate) low: Vec<u64>,
-    /// For each thread with number `LOW` or higher that has made a call, the end of its last call.
+    /// For each thread with number `LOW` or higher that has made a call, the moment when its last call ends.
     pub(crate) high: HashMap<u32, u64>,
 }
 
@@ -49,7 +49,7 @@ impl Busy {
         }
     }
 
-    /// Returns the end of a thread's last call, or 0 for a thread without calls.
+    /// Returns the moment when a thread's last call ends, or 0 for a thread without calls.
     pub(crate) fn last_end(&self, thread: u32) -> u64
         ensures { result ≡ last_end self.now thread }
     {
@@ -66,7 +66,7 @@ impl Busy {
         }
     }
 
-    /// Stores the end of a thread's last call. If an allocation fails, nothing changes.
+    /// Stores the moment when a thread's last call ends. If an allocation fails, nothing changes.
     pub(crate) fn store(&mut self, thread: u32, end: u64) -> Result<(), AllocError>
         ensures stored { OnOk result ((t : ℕ) → last_end self.new t ≡ (if thread == t then end else last_end self.old t)) }
         ensures same { OnErr result ((t : ℕ) → last_end self.new t ≡ last_end self.old t) }

@@ -19,10 +19,11 @@ use lset_words::{Effect, Key, Presence};
 pub struct Clash {
     /// The key's state (present or absent) after the first call.
     pub was: Presence,
-    /// The first call. `None` if the set opened with the key in the state `was`: the opening state then replaces the
-    /// first call.
+    /// The first of the two calls. `None` if the set opened with the key in the state `was`: the opening state then
+    /// takes the place of this call.
     pub first: Option<StreamCall>,
-    /// The second call. `None` if the key's final state is not `was`: the final state then replaces the second call.
+    /// The second of the two calls. `None` if the key's final state is not `was`: the final state then takes the place
+    /// of this call.
     pub second: Option<StreamCall>,
 }
 

@@ -1,5 +1,5 @@
-//! A heap of the moments when calls end. Reading the earliest end needs constant time. Inserting or removing an end
-//! needs logarithmic time.
+//! A heap of the moments when calls end. Reading the earliest moment needs constant time. Inserting or removing a
+//! moment needs logarithmic time.
 
 ghost use Rattle.std.specs.Prelude.{◌≡◌, ◌==◌, ◌<◌, ◌≤◌, ◌∷◌, [], suc, length, slice_get, All, IsTrue, MatchOption, Some, OnOk, OnErr};
 ghost use Rattle.lset_judge.specs.Rule.{nearest, not_before, put_in};
@@ -43,7 +43,7 @@ impl Ends {
         self.heap.is_empty()
     }
 
-    /// Returns whether all ends are later than the moment `before` + 1.
+    /// Returns whether all moments in the heap are later than `before` + 1.
     pub(crate) fn none_due(&self, before: u64) -> bool
         ensures { result ≡ (not_before (suc (suc before)) self.now == length self.now) }
     {
@@ -53,7 +53,7 @@ impl Ends {
         }
     }
 
-    /// Returns the earliest end, or `None` if the heap is empty.
+    /// Returns the earliest moment, or `None` if the heap is empty.
     fn first(&self) -> Option<u64>
         ensures { MatchOption result (self.now ≡ []) (λ end. (slice_get self.now 0 ≡ Some end) × All (λ other. end ≤ other) self.now) }
     {
@@ -63,7 +63,7 @@ impl Ends {
         }
     }
 
-    /// Returns whether all ends are later than `moment`.
+    /// Returns whether all moments in the heap are later than `moment`.
     pub(crate) fn are_after(&self, moment: u64) -> bool
         ensures { IsTrue result → All (λ end. moment < end) self.now }
     {
@@ -73,7 +73,7 @@ impl Ends {
         }
     }
 
-    /// Adds the end of a call. If an allocation fails, nothing changes.
+    /// Adds the moment when a call ends. If an allocation fails, nothing changes.
     pub(crate) fn push(&mut self, end: u64) -> Result<(), AllocError>
         ensures more { OnOk result (self.new ≡ put_in end self.old) }
         ensures same { OnErr result (self.new ≡ self.old) }
@@ -82,7 +82,7 @@ impl Ends {
         Ok(())
     }
 
-    /// Removes and returns the earliest end, or returns `None` if the heap is empty.
+    /// Removes and returns the earliest moment. Returns `None` if the heap is empty.
     pub(crate) fn pop(&mut self) -> Option<u64>
         ensures { MatchOption result (self.old ≡ []) (λ end. (self.old ≡ end ∷ self.new) × (nearest end self.new ≡ end)) }
     {
@@ -92,7 +92,7 @@ impl Ends {
         Some(end.0)
     }
 
-    /// Removes and returns the earliest end if it is before `moment`. Otherwise returns `None`.
+    /// Removes and returns the earliest moment if it is before `moment`. Otherwise returns `None`.
     pub(crate) fn pop_before(&mut self, moment: u64) -> Option<u64>
         ensures { MatchOption result ((self.new ≡ self.old) × All (λ end. moment ≤ end) self.old)
             (λ end. (self.old ≡ end ∷ self.new) × (end < moment) × All (λ other. end ≤ other) self.old) }

@@ -10,8 +10,8 @@ use lset_words::{Call, Effect, Presence};
 /// pending.
 #[derive(Clone, Copy, Debug, PartialEq, Eq)]
 pub(crate) enum Event {
-    /// A change starts. The fields are the new state of the key, and the end of the change (a moment after all others
-    /// if the change has no end).
+    /// A change starts. The fields are the new state of the key, and the moment when the change ends (a moment after
+    /// all others if the change never ends).
     Begins(Presence, u64),
     /// A change ends. The field is the new state of the key.
     Ends(Presence),
@@ -32,8 +32,8 @@ pub(crate) fn open_effect(call: Call) -> Effect
     }
 }
 
-/// Returns the event for the start of a call with this effect. `until` is the end of the call, or a moment after all
-/// others if the call has no end.
+/// Returns the event for the start of a call with this effect. `until` is the moment when the call ends, or a moment
+/// after all others if the call never ends.
 pub(crate) fn begin_event(effect: Effect, until: u64) -> Event
     ensures { event_as result ≡ begin_event (kind_as effect) until }
 {

@@ -92,7 +92,7 @@ impl KeyState {
     }
 
     /// Records the start of a call after the judge has found that no order exists. Only raises `puts_until` and
-    /// `takes_until`, the latest ends of the key's adds and removes.
+    /// `takes_until`, the last moments when an `add` and a `remove` of the key end.
     pub(crate) fn note_begin(&mut self, event: Event)
         ensures { facts_of self.new ≡ begun_by (event_as event) (facts_of self.old) }
     {

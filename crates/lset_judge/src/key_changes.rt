@@ -10,8 +10,8 @@ use crate::stream::BEHIND_ALL;
 use lset_words::Presence;
 use std::alloc::{AllocError, Global};
 
-/// The pending changes of a key that have not taken effect, in two heaps: the ends of the `add`s and the ends of the
-/// `remove`s. Also stores how many changes are pending.
+/// The pending changes of a key that have not taken effect. One heap has the moments when the `add`s end, the other
+/// heap the moments when the `remove`s end. Also stores how many changes are pending.
 #[derive(Drop)]
 pub(crate) struct ManyChanges {
     puts: Ends,
@@ -21,8 +21,8 @@ pub(crate) struct ManyChanges {
 
 /// The pending changes of a key that have not taken effect.
 ///
-/// A key needs a heap, and an allocation, only if its changes overlap, if its `add`s and `remove`s do not alternate, or
-/// if a change has no end.
+/// A key needs a heap, and an allocation, only if its changes overlap, if its `add`s and `remove`s do not alternate,
+/// or if a change never ends.
 #[derive(Drop)]
 pub(crate) enum Held {
     /// Every pending change has taken effect.
@@ -35,14 +35,15 @@ pub(crate) enum Held {
     Many(Box<ManyChanges>),
 }
 
-/// The changes of a key that have started: the latest ends of the changes, and the ends of the changes that have not
-/// taken effect. A change without an end counts as ending after all moments.
+/// The changes of a key that have started: when the last of them ends, and when each change that has not taken effect
+/// ends. A change that never ends counts as ending after all moments.
 #[derive(Drop)]
 pub(crate) struct KeyChanges {
-    /// The latest end of the key's started `add`s that returned true or are pending. 0 if the key has no such `add`.
+    /// The last moment when a started `add` of the key ends, among those that returned true or are pending. 0 if the
+    /// key has no such `add`.
     pub(crate) puts_until: u64,
-    /// The latest end of the key's started `remove`s that returned true or are pending. 0 if the key has no such
-    /// `remove`.
+    /// The last moment when a started `remove` of the key ends, among those that returned true or are pending. 0 if
+    /// the key has no such `remove`.
     pub(crate) takes_until: u64,
     held: Held,
 }
@@ -106,8 +107,8 @@ impl KeyChanges {
         }
     }
 
-    /// Removes the `add` with the earliest end from the pending `add`s that have not taken effect, and returns this
-    /// end. Returns `None` if there are none.
+    /// Removes the `add` that ends first from the pending `add`s that have not taken effect, and returns the moment
+    /// when it ends. Returns `None` if there is no such `add`.
     pub(crate) fn pop_put(&mut self) -> Option<u64>
         ensures popped { MatchOption result (puts_in self.old ≡ [])
             (λ end. (puts_in self.old ≡ end ∷ puts_in self.new) × (nearest end (puts_in self.new) ≡ end)) }
@@ -125,8 +126,8 @@ impl KeyChanges {
         }
     }
 
-    /// Removes the `remove` with the earliest end from the pending `remove`s that have not taken effect, and returns
-    /// this end. Returns `None` if there are none.
+    /// Removes the `remove` that ends first from the pending `remove`s that have not taken effect, and returns the
+    /// moment when it ends. Returns `None` if there is no such `remove`.
     pub(crate) fn pop_take(&mut self) -> Option<u64>
         ensures popped { MatchOption result (takes_in self.old ≡ [])
             (λ end. (takes_in self.old ≡ end ∷ takes_in self.new) × (nearest end (takes_in self.new) ≡ end)) }
@@ -144,13 +145,13 @@ impl KeyChanges {
         }
     }
 
-    /// Returns how many changes with an end are pending after the moment `before`, and when the last completed change
-    /// ended.
+    /// Returns how many changes are pending after the moment `before` (without those that never end), and when the
+    /// last completed change ended.
     pub(crate) fn counts(&self, before: u64) -> Changes {
         if let Held::Many(many) = &self.held {
             return many.counts;
         }
-        // Without heaps, changes do not overlap. Only the change with the latest end can be pending.
+        // Without heaps, changes do not overlap. Only the change that ends last can be pending.
         let last = self.puts_until.max(self.takes_until);
         if before < last {
             Changes::one(self.puts_until.min(self.takes_until))
@@ -169,7 +170,7 @@ impl KeyChanges {
     }
 
     /// Returns whether a change of the key to the state `to`, which starts at moment `before` + 1 and ends at `end`,
-    /// can be stored without a heap. This is the case if the change has an end, each earlier change has ended by
+    /// can be stored without a heap. This is the case if the change ends at all, each earlier change has ended by
     /// `before`, and the last earlier change, if any, was to the other state.
     fn is_alone(&self, to: Presence, before: u64, end: u64) -> bool
         ensures alone { IsTrue result → is_many self.now.held ≡ false }
@@ -187,7 +188,7 @@ impl KeyChanges {
             && end < BEHIND_ALL
     }
 
-    /// Moves the ends of the pending changes into heaps.
+    /// Moves the moments when the pending changes end into heaps.
     fn spread(&mut self, alloc: Global, before: u64) -> Result<(), AllocError>
         requires { is_many self.old.held ≡ false }
         ensures same { OnOk result (AreSame self.old self.new) }
@@ -210,7 +211,7 @@ impl KeyChanges {
         Ok(())
     }
 
-    /// Inserts the end of an `add` into the heap of `add`s.
+    /// Inserts the moment when an `add` ends into the heap of `add`s.
     fn push_put(&mut self, end: u64) -> Result<(), AllocError>
         requires { is_many self.old.held ≡ true }
         ensures puts { OnOk result (puts_in self.new ≡ put_in end (puts_in self.old)) }
@@ -228,7 +229,7 @@ impl KeyChanges {
         }
     }
 
-    /// Inserts the end of a `remove` into the heap of `remove`s.
+    /// Inserts the moment when a `remove` ends into the heap of `remove`s.
     fn push_take(&mut self, end: u64) -> Result<(), AllocError>
         requires { is_many self.old.held ≡ true }
         ensures puts { OnOk result (puts_in self.new ≡ puts_in self.old) }
@@ -246,9 +247,9 @@ impl KeyChanges {
         }
     }
 
-    /// Raises `puts_until` to `end` if `puts_until` is smaller. If the changes are not in heaps, `puts_until` is also
-    /// the end of the one pending `add`, so this end changes too. Therefore call this function only if the changes are
-    /// in heaps, or after the judge has found that no order exists.
+    /// Raises `puts_until` to `end` if `puts_until` is smaller. Without heaps, this also changes when a pending `add`
+    /// ends, since `puts_until` stores this moment. Therefore call this function only if the changes are in heaps, or
+    /// after the judge has found that no order exists.
     pub(crate) fn raise_puts(&mut self, end: u64)
         ensures puts { is_many self.old.held ≡ true → puts_in self.new ≡ puts_in self.old }
         ensures takes { takes_in self.new ≡ takes_in self.old }
@@ -258,9 +259,9 @@ impl KeyChanges {
         self.puts_until = self.puts_until.max(end);
     }
 
-    /// Raises `takes_until` to `end` if `takes_until` is smaller. Without heaps, this also changes the end of a pending
-    /// `remove`, which is `takes_until`. Call this function only if the changes are in heaps, or after the judge has
-    /// found that no order exists.
+    /// Raises `takes_until` to `end` if `takes_until` is smaller. Without heaps, this also changes when a pending
+    /// `remove` ends, since `takes_until` stores this moment. Therefore call this function only if the changes are in
+    /// heaps, or after the judge has found that no order exists.
     pub(crate) fn raise_takes(&mut self, end: u64)
         ensures puts { puts_in self.new ≡ puts_in self.old }
         ensures takes { is_many self.old.held ≡ true → takes_in self.new ≡ takes_in self.old }
@@ -270,8 +271,8 @@ impl KeyChanges {
         self.takes_until = self.takes_until.max(end);
     }
 
-    /// Records an `add` that starts at moment `before` + 1 and ends at `end`. For an `add` without an end, `end` is
-    /// after all moments.
+    /// Records an `add` that starts at moment `before` + 1 and ends at `end`. If the `add` never ends, `end` is after
+    /// all moments.
     pub(crate) fn begin_put(
         &mut self,
         alloc: Global,
@@ -296,7 +297,7 @@ impl KeyChanges {
         Ok(())
     }
 
-    /// Records a `remove` that starts at moment `before` + 1 and ends at `end`. For a `remove` without an end, `end` is
+    /// Records a `remove` that starts at moment `before` + 1 and ends at `end`. If the `remove` never ends, `end` is
     /// after all moments.
     pub(crate) fn begin_take(
         &mut self,

@@ -1,9 +1,9 @@
 //! The judge: decides from the starts and ends of recorded calls whether some order explains them.
 //!
-//! A key has only two states, present and absent. The judge therefore examines the calls on each key separately, in one
-//! pass over their moments (the numbers of the starts and ends). It applies one test: a change (an `add` or `remove`
-//! that returned true or is pending) takes effect only when a call that ends needs it. The pending change with the
-//! earliest end then takes effect. If a key fails the test, no order explains the calls. If every key passes, some
+//! A key has only two states, present and absent. The judge therefore examines the calls on each key separately, in
+//! one pass over their moments (the numbers of the starts and ends). It applies one test: a change (an `add` or
+//! `remove` that returned true or is pending) takes effect only when a call that ends needs it. The pending change
+//! that ends first then takes effect. If a key fails the test, no order explains the calls. If every key passes, some
 //! order explains them, in every history without `ceiling` and `full`. The judge does not search, and does not need to
 //! know when calls take effect. (Linearizability is by Herlihy and Wing; the test is this project's own.)
 #![tactic(auto)]

@@ -30,7 +30,7 @@ impl Changes {
         }
     }
 
-    /// Counts the start of a change that ends at `until`. If `until` is at least `BEHIND_ALL`, the change has no end
+    /// Counts the start of a change that ends at `until`. If `until` is at least `BEHIND_ALL`, the change never ends
     /// and is not counted.
     pub(crate) fn begin(&mut self, until: u64) {
         if until < BEHIND_ALL {
@@ -45,7 +45,7 @@ impl Changes {
     }
 
     /// Returns whether a pending call overlaps a change of its key by another call. `is_change` must be true if the
-    /// pending call itself is a change with an end. `begun` is when the pending call started.
+    /// pending call itself is a change that ends at some moment. `begun` is when the pending call started.
     pub(crate) fn overlap(self, is_change: bool, begun: u64) -> bool {
         self.pending > u64::from(is_change) || begun < self.last_end
     }

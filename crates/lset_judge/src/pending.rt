@@ -21,7 +21,7 @@ const FEW: usize = 32;
 #[derive(Drop)]
 pub(crate) struct PendingCalls {
     few: Vec<Pending>,
-    /// The index in `few` of the call with the earliest end.
+    /// The index in `few` of the call that ends first.
     next: usize,
     /// The calls that are not in `few`.
     many: ManyCalls,
@@ -66,7 +66,7 @@ fn clash(few: &[Pending], call: StreamCall) -> Option<StreamFault>
     }
 }
 
-/// Returns the index of the call with the earliest end, or 0 if there are no calls.
+/// Returns the index of the call that ends first, or 0 if there are no calls.
 fn nearest_place(few: &[Pending]) -> usize
     ensures { IsFirst result few.now }
 {
@@ -84,7 +84,7 @@ fn nearest_place(few: &[Pending]) -> usize
     place
 }
 
-/// Returns the index that the call with the earliest end has after `pending` is appended to `few`.
+/// Returns the index of the call that ends first, after `pending` is appended to `few`.
 fn next_with(few: &[Pending], next: usize, pending: Pending) -> usize
     requires { IsFirst next few.now }
     ensures { IsFirst result (few.now ++ pending ∷ []) }
@@ -96,7 +96,7 @@ fn next_with(few: &[Pending], next: usize, pending: Pending) -> usize
     }
 }
 
-/// Returns the earliest end of the calls in `few`, or `u64::MAX` if `few` is empty.
+/// Returns the first moment when a call in `few` ends, or `u64::MAX` if `few` is empty.
 fn end_of_few(few: &[Pending], next: usize) -> u64
     requires { IsFirst next few.now }
     ensures smallest { All (λ p. result ≤ p.end) few.now }
@@ -157,7 +157,7 @@ impl PendingCalls {
         }
     }
 
-    /// Removes and returns the call with the earliest end if this end is before `moment`. Otherwise returns `None`.
+    /// Removes and returns the call that ends first, if it ends before `moment`. Otherwise returns `None`.
     pub(crate) fn next_before(&mut self, moment: u64) -> Option<Pending>
         ensures { MatchOption result ((self.new ≡ self.old) × All (λ p. moment ≤ p.end) self.old)
             (λ next. IsNext moment self.old next self.new) }
@@ -174,7 +174,8 @@ impl PendingCalls {
         None
     }
 
-    /// Inserts a call. The collection must not contain a call with the same thread or the same end.
+    /// Inserts a call. The collection must not contain another call of its thread, or a call that ends at the same
+    /// moment.
     pub(crate) fn insert(&mut self, pending: Pending) -> Result<(), AllocError>
         requires { All (λ p. p.call.thread ≢ pending.call.thread) self.old }
         ensures { OnOk result (All (λ p. p.end ≢ pending.end) self.old → IsPermutation (pending ∷ self.old) self.new) }

@@ -29,9 +29,9 @@ pub enum Verdict {
 /// A judge for the calls on a set. Add the calls in the order of their starts. `close` and `close_cut_off` return
 /// whether some order explains all calls.
 ///
-/// A judge stores the pending calls, the end of each thread's last call, and for each key its state and at most one
-/// completed call. Its memory grows with the numbers of keys, threads and pending calls, but not with the number of
-/// calls.
+/// A judge stores the pending calls, the moment when each thread's last call ends, and for each key its state and at
+/// most one completed call. Its memory grows with the numbers of keys, threads and pending calls, but not with the
+/// number of calls.
 #[derive(Drop)]
 pub struct Judge {
     stream: Stream,

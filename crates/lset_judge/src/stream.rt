@@ -402,8 +402,8 @@ fn verdict_of_key(key: Option<u32>) -> StreamVerdict
 }
 
 /// A stream judges the calls of a recording one after another, ordered by start. It stores the state of each key, the
-/// pending calls, and the end of each thread's last call. Its memory grows with the numbers of keys, threads and
-/// pending calls, but not with the number of calls.
+/// pending calls, and the moment when each thread's last call ends. Its memory grows with the numbers of keys, threads
+/// and pending calls, but not with the number of calls.
 ///
 /// `verdict` and `verdict_cut_off` return whether some order explains all calls. The judge reads the moments of each
 /// key once and in order, so it stores no past moments.
@@ -558,7 +558,7 @@ impl Stream {
         Ok(())
     }
 
-    /// Processes the ends of all pending calls that end before `moment`.
+    /// Processes the ends of all calls that end before `moment`, in the order of these ends.
     fn meet_before(&mut self, moment: u64) -> Result<(), AllocError>
         requires { moment ≤ behind_all }
         ensures kept { OnOk result ((threads : ℕ) (opening : List ℕ) (calls : List RecordedCall) → IsStreamKept threads opening calls self.old
@@ -670,7 +670,7 @@ impl Stream {
             .saturating_add(self.pending.overlapping(&self.states, self.moment))
     }
 
-    /// Processes all remaining ends of calls. Calls without an end stay pending.
+    /// Processes the ends of all calls that are still to end. Calls that never end stay pending.
     pub(crate) fn come_to_end(&mut self) -> Result<(), AllocError>
         ensures kept { OnOk result ((threads : ℕ) (opening : List ℕ) (calls : List RecordedCall) → IsStreamKept threads opening calls self.old
             → IsStreamKept threads opening calls self.new) }

@@ -39,11 +39,13 @@ opening_kind = (opening_form, λ t. told.Opening t.1.0)
 abbrev pub moment : Piece
 moment = piece.number 1 LAST_MOMENT
 
--- The field `-`. A pending call has this field instead of an end and instead of a reply.
+-- The field `-`. The line of a pending call has this field twice: in place of the moment when the call ends, and in
+-- place of the reply.
 abbrev pub none : Piece
 none = piece.word dash
 
--- Returns the call in a line. `t` contains the thread, name, key and start of the call, and `end` its end and reply.
+-- Returns the call in a line. `t` contains the call's thread, name, key and start. `end` contains the moment when the
+-- call ends and the reply, or is None for a pending call.
 abbrev pub call_told : {X : Type 0} → ℕ × (CallWord × (ℕ × (ℕ × X))) → Option (ℕ × Reply) → RecordingLine
 call_told t end = told.Call (record {
   thread = t.0;
@@ -52,8 +54,8 @@ call_told t end = told.Call (record {
   ended = end;
 })
 
--- Returns the form (the sequence of fields) of a call's line. `end` is the form of its last fields: the call's end and
--- reply.
+-- Returns the form (the sequence of fields) of a call's line. `end` is the form of the last fields: the moment when
+-- the call ends, and the reply.
 abbrev pub call_form : Form → Form
 call_form end = piece.word (codes "call") ∷ piece.any ∷ piece.call ∷ piece.any ∷ moment ∷ end
 

@@ -41,11 +41,13 @@ pub record IsRecording (c : Recording) : Type 0 where
 abbrev pub title : List ℕ
 title = codes "listset-calls 1"
 
--- The field `-`. A pending call has this field instead of an end and instead of a reply.
+-- The field `-`. The line of a pending call has this field twice: in place of the moment when the call ends, and in
+-- place of the reply.
 abbrev pub dash : List ℕ
 dash = codes "-"
 
--- Returns the fields for the end and the reply of a call. For a pending call, both fields are `-`.
+-- Returns the last two fields of a call's line: the moment when the call ends, and the reply. For a pending call, both
+-- fields are `-`.
 abbrev pub end_pieces : Option (ℕ × Reply) → List (List ℕ)
 end_pieces None = dash ∷ dash ∷ []
 end_pieces (Some end) = decimal end.0 ∷ reply_text end.1 ∷ []

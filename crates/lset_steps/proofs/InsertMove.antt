@@ -6,7 +6,7 @@ use Rattle.lset_steps.proofs.Moves.{Inserts, KeepsNodes}
 use Rattle.lset_steps.proofs.Segments.{sides, gap}
 use Rattle.lset_steps.proofs.QuietMove.{in_chain_published, chain_before, chain_on, segment_after, apart, apart'}
 
--- The keys and links of the three nodes of an insertion: the new node `own`, `pred` before it, and `curr` after it.
+-- The keys and links of three neighboring nodes if the middle one is inserted: `pred`, the new node `own`, and `curr`.
 pub record Facts (v w : View) (pred own curr k : ℕ) : Type 0 where
   pub curr_is : v.link pred / 2 ≡ curr
   pub own_is : w.link pred / 2 ≡ own

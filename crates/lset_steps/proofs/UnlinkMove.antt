@@ -7,7 +7,8 @@ use Rattle.lset_steps.proofs.Moves.{Unlinks, KeepsNodes}
 use Rattle.lset_steps.proofs.Segments.{segment_increases, sides, one_key}
 use Rattle.lset_steps.proofs.QuietMove.{in_chain_published, chain_before, chain_on, segment_after, apart, apart'}
 
--- The keys and links of the three nodes of an unlinking: the unlinked node `curr`, `pred` before it, and `s` after it.
+-- The keys and links of three neighboring nodes if the middle one is unlinked: `pred`, the unlinked node `curr`, and
+-- `s`.
 pub record Facts (v w : View) (pred curr s : ℕ) : Type 0 where
   pub curr_is : v.link pred / 2 ≡ curr
   pub s_is : v.link curr / 2 ≡ s

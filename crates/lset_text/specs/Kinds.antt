@@ -1,5 +1,5 @@
--- The kinds of lines in a file, such as `begin` or `go`. Each kind has a form, and a function that makes a value from
--- the fields.
+-- The kinds of lines in a file, such as `begin` or `go`. Each kind has a form (the list of its fields), and a function
+-- that makes a value from the fields.
 use Rattle.std.specs.Prelude.{ℕ, List, [], ◌∷◌, Result, Ok, Err, if◌then◌else◌}
 use Rattle.lset_text.specs.declared.words.Version.{Version}
 use Rattle.lset_text.specs.declared.causes.Cause.{Cause}
