@@ -1,5 +1,5 @@
--- Proof: as long as the judge has found no impossible event of any key, no two calls that have ended contradict each
--- other. (An event is the start or end of a call.)
+-- Proof: as long as the judge has found no key with calls that no order explains, no two calls that have ended
+-- contradict each other.
 use Rattle.std.proofs.Common.{◌≡◌, ℕ, ◌<◌, ◌≤◌, List, Bool, true, refl, ap, arith, subst, length, get_or, map}
 use Rattle.std.specs.Prelude.{Option, Some, None, IfSome, is_some, All, AllPairs, ◌≢◌, ◌==◌, ◌&&◌}
 use Rattle.std.proofs.lemmas.List.Sums.{count_by-le-length}

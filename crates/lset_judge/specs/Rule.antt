@@ -111,19 +111,19 @@ abbrev pub entered : Event → Option State → Option State
 entered v None = None
 entered v (Some t) = Some (enters v t)
 
--- Returns the state of a key after the event v, which happens at moment m + 1. Returns None if v is impossible: the key
--- has then failed the judge's test.
+-- Returns the state of a key after the event v, which happens at moment m + 1. Returns None if v is impossible. No
+-- order then explains the calls on the key.
 abbrev pub stepped : ℕ → Event → Option State → Option State
 stepped m v None = None
 stepped m v (Some s) = entered v (found m v s)
 
--- Returns the state of a key after a moment, or None if an event up to this moment was impossible: the key has then
--- failed the judge's test.
+-- Returns the state of a key after a moment. Returns None if an event up to this moment was impossible: no order then
+-- explains the calls on the key.
 abbrev pub state_after : (ℕ → Event) → Bool → ℕ → Option State
 state_after ev opening zero = Some (opened opening)
 state_after ev opening (suc m) = stepped m (ev (suc m)) (state_after ev opening m)
 
--- Returns whether a key passes the judge's test: every event up to the moment `last` is possible, and then the final
--- state `left`.
+-- Returns whether a key passes the judge's test: every event up to the moment `last` is possible in the key's state,
+-- and so is the final state `left`.
 abbrev pub may_leave : (ℕ → Event) → Bool → Bool → ℕ → Bool
 may_leave ev opening left last = is_some (stepped last (leaves left) (state_after ev opening last))

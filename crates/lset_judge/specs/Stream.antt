@@ -92,8 +92,8 @@ pub record ArePending (calls : List CallRecord) (moment : ℕ) (pending : List P
   pub later : All (λ (p : Pending). moment < p.end) pending
 
 -- Holds if the stored states of the keys are correct after a moment: they are the states that the judge's test
--- computes. `Some f` means that the test has found an impossible event of the key `f.key`, by the moment `f.moment`,
--- and no impossible event of any key earlier.
+-- computes. `Some f` means that no order explains the calls on the key `f.key`. The test has found this by the moment
+-- `f.moment`, and has found no such key earlier.
 abbrev pub IsJudgedTo : List ℕ → List CallRecord → ℕ → States → Option Failed → Type 0
 IsJudgedTo opening calls moment states None =
     (k : ℕ) → state_after (event_at behind_all k calls) (has_key k opening) moment ≡ Some (state_for states k)
@@ -135,21 +135,21 @@ pub record MayCome (pending : List Pending) (moment : ℕ) (x : CallRecord) : Ty
 
 -- ---- The meaning of a verdict
 
--- Holds if the judge's test finds an impossible event of key k (the start or end of a call on the key) by this moment.
+-- Holds if, by this moment, the judge's test shows that no order explains the calls on key k.
 abbrev pub HasFailed : HistoryValue → ℕ → ℕ → Type 0
 HasFailed h k moment = state_after (event_at behind_all k h.calls) (has_key k h.opening.keys) moment ≡ None
 
--- Holds if this key is the first with an impossible event (the start or end of a call on the key), and `moment` is the
--- moment of this event. Without a moment, holds if no key has an impossible event. (Then only the final state of the
--- key is wrong: see `IsRefusedBy`.)
+-- Holds if `key` is the first key with calls that no order explains, and the judge's test shows this at `moment`.
+-- Without a moment, holds if the test shows this for no key. (Then only the final state of `key` is wrong: see
+-- `IsRefusedBy`.)
 abbrev pub FailsFirst : HistoryValue → ℕ → Option ℕ → Type 0
 FailsFirst h key None = (k m : ℕ) → HasFailed h k m → ⊥
 FailsFirst h key (Some moment) = HasFailed h key moment × ((k m : ℕ) → HasFailed h k m → moment ≤ m)
 
 -- Holds if a verdict is correct. Linearizable: some order explains the calls and leaves the keys. NotLinearizable: no
 -- order does, with any quota. The calls on the key that the reason (`refusal`) names suffice to show this
--- (`IsRefusedBy`). If the reason has a moment, this key is the first with an impossible event, at this moment.
--- Otherwise no key has an impossible event.
+-- (`IsRefusedBy`). If the reason has a moment, the judge's test shows this at this moment, and for no key earlier.
+-- Otherwise the test shows this for no key, and only the key's final state is wrong.
 abbrev pub IsStreamVerdict : HistoryValue → List ℕ → StreamVerdict → Type 0
 IsStreamVerdict h keys Linearizable = IsExplained h keys
 IsStreamVerdict h keys (NotLinearizable refusal) =
@@ -167,8 +167,9 @@ IsStreamVerdictCutOff h (NotLinearizable refusal) = (keys : List ℕ) → IsStre
 abbrev pub no_pending : Pending
 no_pending = record { end = 0; call = call_of no_call }
 
--- Holds if an event of a key at a moment changes the stored states of the keys correctly, or if the event is
--- impossible and this failure is recorded. After a failure, nothing is required of the stored states.
+-- Holds if an event of a key at a moment changes the stored states of the keys correctly, or if the event shows that
+-- no order explains the calls on the key, and this failure is recorded. After a failure, nothing is required of the
+-- stored states.
 abbrev pub IsMetBy : States → ℕ → ℕ → Event → States → Option Failed → Option Failed → Type 0
 IsMetBy before key moment event after (Some f) failed = failed ≡ Some f
 IsMetBy before key moment event after None None =
@@ -189,8 +190,9 @@ abbrev pub verdict_of_key : Option ℕ → StreamVerdict
 verdict_of_key None = Linearizable
 verdict_of_key (Some k) = NotLinearizable (record { key = record { 0 = k }; moment = None })
 
--- Holds if the verdict agrees with the judge's test. If the test has found an impossible event (Some f), the verdict
--- reports the key and the moment of this event. Otherwise a verdict NotLinearizable has a reason without a moment.
+-- Holds if the verdict agrees with the judge's test. If the test shows that no order explains the calls on some key
+-- (Some f), the verdict reports this key and the moment of the test. Otherwise a verdict NotLinearizable has a reason
+-- without a moment.
 abbrev pub IsToldBy : Option Failed → StreamVerdict → Type 0
 IsToldBy None Linearizable = Unit {0}
 IsToldBy None (NotLinearizable refusal) = refusal.moment ≡ None

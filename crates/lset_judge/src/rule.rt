@@ -144,8 +144,8 @@ impl KeyState {
         true
     }
 
-    /// Processes `event` of the key, which happens at moment `before` + 1. Returns `false` if the event is impossible.
-    /// In this case, no order explains the calls on the key.
+    /// Processes `event` of the key, which happens at moment `before` + 1. Returns `false` if this event shows that no
+    /// order explains the calls on the key.
     pub(crate) fn meet(
         &mut self,
         alloc: Global,
@@ -167,9 +167,8 @@ impl KeyState {
         Ok(true)
     }
 
-    /// Processes the end of a call on the key, at moment `before` + 1. Returns `false` if this end is impossible. In
-    /// this case, no order explains the calls on the key, and the function searches for a call that contradicts this
-    /// one.
+    /// Processes the end of a call on the key, at moment `before` + 1. Returns `false` if this event shows that no
+    /// order explains the calls on the key. In this case, searches for a call that contradicts this one.
     pub(crate) fn meet_end(
         &mut self,
         alloc: Global,

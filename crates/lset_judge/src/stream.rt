@@ -95,9 +95,9 @@ pub(crate) enum StreamVerdict {
 pub struct Refusal {
     /// The key. No order explains its calls and leaves its final state.
     pub key: Key,
-    /// No order explains the calls on `key` that start by this moment, with all their replies, whatever keys the order
-    /// leaves. This is the first moment when any key fails the judge's test. `None` if every key passes the test, but
-    /// no order explains all calls on `key` and leaves the key's final state.
+    /// A moment: no order explains the calls on `key` that start by then, with all their replies, whatever keys the
+    /// order leaves. It is the first moment when the judge finds this for any key. `None` if the judge finds this for
+    /// no key, but no order explains all calls on `key` and leaves the key's final state.
     pub moment: Option<u64>,
 }
 
@@ -195,9 +195,9 @@ impl Pending {
     }
 }
 
-/// Processes `event` of a key at moment `before` + 1. The key must have no stored state yet. Returns `false` if the
-/// event is impossible: no order then explains the calls on the key. This is a separate function so that other events
-/// need no stack space for a new state.
+/// Processes `event` of a key at moment `before` + 1. The key must have no stored state yet. Returns `false` if this
+/// event shows that no order explains the calls on the key. This is a separate function so that other events need no
+/// stack space for a new state.
 fn meet_new_key(
     states: &mut HashMap<u32, KeyState>,
     alloc: Global,
@@ -218,8 +218,8 @@ fn meet_new_key(
     Ok(goes_on)
 }
 
-/// Processes `event` of a key at moment `before` + 1. Returns `false` if the event is impossible: no order then
-/// explains the calls on the key.
+/// Processes `event` of a key at moment `before` + 1. Returns `false` if this event shows that no order explains the
+/// calls on the key.
 fn meet_key(
     states: &mut HashMap<u32, KeyState>,
     alloc: Global,
@@ -286,14 +286,14 @@ fn note_end(
 /// The result of processing the end of a call.
 #[derive(Clone, Copy)]
 struct EndMet {
-    /// `false` if the end of the call is impossible. In this case, no order explains the calls on the key.
+    /// `false` if this end shows that no order explains the calls on the key.
     goes_on: bool,
     /// Whether the call overlaps another call that changes the same key.
     overlaps: bool,
 }
 
-/// Processes the end of a call at moment `before` + 1. The call's key must have no stored state yet. If this end is
-/// impossible (no order explains the calls on the key), searches for a call that contradicts this one.
+/// Processes the end of a call at moment `before` + 1. The call's key must have no stored state yet. If this end shows
+/// that no order explains the calls on the key, searches for a call that contradicts this one.
 fn meet_new_key_end(
     states: &mut HashMap<u32, KeyState>,
     alloc: Global,
@@ -323,8 +323,8 @@ fn meet_new_key_end(
     })
 }
 
-/// Processes the end of a call at moment `before` + 1. If this end is impossible (no order explains the calls on the
-/// key), searches for a call that contradicts this one.
+/// Processes the end of a call at moment `before` + 1. If this end shows that no order explains the calls on the key,
+/// searches for a call that contradicts this one.
 fn meet_key_end(
     states: &mut HashMap<u32, KeyState>,
     alloc: Global,
@@ -387,8 +387,8 @@ fn smallest(key: u32, other: Option<u32>) -> u32
     }
 }
 
-/// Returns the verdict on a recording. `key` is a key with an impossible final state: the verdict is then
-/// `NotLinearizable`. If `key` is `None`, every final state is possible, and the verdict is `Linearizable`.
+/// Returns the verdict on a recording. `key` is a key with a final state that no order explains: the verdict is then
+/// `NotLinearizable`. If `key` is `None`, there is no such key, and the verdict is `Linearizable`.
 fn verdict_of_key(key: Option<u32>) -> StreamVerdict
     ensures { result ≡ verdict_of_key key }
 {
@@ -621,8 +621,8 @@ impl Stream {
         Ok(())
     }
 
-    /// Returns the smallest key that has a stored state and an impossible final state. Returns `None` if every such key
-    /// has a possible final state. `keys` are the final keys.
+    /// Returns the smallest key that has a stored state and cannot have its final state. Returns `None` if there is no
+    /// such key. `keys` are the final keys.
     fn wrongly_left(&self, keys: &[u32]) -> Option<u32>
         requires { IsStrictlyIncreasing keys.now }
         ensures { MatchOption result

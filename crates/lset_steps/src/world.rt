@@ -429,8 +429,8 @@ impl<M: Machine> World<M> {
         self.go_holding(t, held)
     }
 
-    /// Executes the next step of a thread with the code for its row of the step table. Each row of the five tables has
-    /// a match arm here. Rows of other tables work without an arm, but more slowly.
+    /// Executes the next step of a thread with the code for its row of the step table. Each row of the five lists'
+    /// tables has a match arm here. Rows of other tables work without an arm, but more slowly.
     #[inline(always)]
     fn go(&mut self, t: u32) -> Told
         requires { Enabled self.old.state (Event.Go t) }

@@ -133,7 +133,7 @@ line_at g first text read line s rest x after parts stands =
     ap (λ (ps : List (List ℕ)). get_or ps (length stands.above) []) (cc (stands.parts, parts))
     ∙ get_or-append_seam stands.above x (cut_at 10 after) []
 
--- ---- Proof that reading and writing are inverse
+-- ---- Proof that reading and writing are inverse operations
 
 ended : {S : Type 0} (g : Grammar S) (line : ℕ) (other : Cause) (b : Bool) (s t : S)
     → map_fault (fault line) (cond b (g.ends s) (Err other)) ≡ Ok t → (b ≡ true) × (g.ends s ≡ Ok t)

@@ -1,4 +1,4 @@
-//! The records of a history: calls, entries of an order, and linearization points.
+//! The calls of a history, the elements of an order of calls, and the linearization points of calls.
 
 use crate::{Call, Reply};
 

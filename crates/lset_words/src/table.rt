@@ -113,7 +113,8 @@ impl Layout {
         3 + 3 * self.nodes()
     }
 
-    /// Returns the index of the key word of node `i`. The index is below `words()`. `i` must be below `nodes()`.
+    /// Returns the index of the word that stores the key of node `i`. The index is below `words()`. `i` must be below
+    /// `nodes()`.
     pub fn key_word(&self, i: u64) -> u64
         requires { i < node_count self.now }
         ensures index { result ≡ key_index i }
@@ -123,7 +124,8 @@ impl Layout {
         key_index(i)
     }
 
-    /// Returns the index of the link word of node `i`. The index is below `words()`. `i` must be below `nodes()`.
+    /// Returns the index of the word that stores the link of node `i`. The index is below `words()`. `i` must be below
+    /// `nodes()`.
     pub fn link_word(&self, i: u64) -> u64
         requires { i < node_count self.now }
         ensures index { result ≡ link_index i }
@@ -133,7 +135,8 @@ impl Layout {
         link_index(i)
     }
 
-    /// Returns the index of the lock word of node `i`. The index is below `words()`. `i` must be below `nodes()`.
+    /// Returns the index of the word that stores the lock of node `i`. The index is below `words()`. `i` must be below
+    /// `nodes()`.
     pub fn lock_word(&self, i: u64) -> u64
         requires { i < node_count self.now }
         ensures index { result ≡ lock_index i }
@@ -156,7 +159,8 @@ impl Layout {
     }
 }
 
-/// Lemma: different words of the table have different indices, and different slots are different nodes.
+/// Lemma: different words of the table have different indices, and different slots (nodes for adds) are different
+/// nodes.
 pub fn words_are_apart()
     ensures words { WordsApart }
     ensures slots { SlotsApart }
