@@ -188,8 +188,8 @@ module _ (quota : ℕ) (content : Content) (s : SetState) (same : SameKeys conte
   fits_from_replies t n (call.Ceiling k) reply.Nothing increasing e f = λ j lo m. none_ceiling k.0 s.keys f.0 j lo ((same j).0 m)
   fits_from_replies t n (call.Ceiling k) y increasing e f = ceiling_not k.0 s.keys y f.0 (λ x g. cc) (λ g. cc)
 
-  -- It is decidable whether a key is in the set, and therefore whether a reply fits, since the set's keys are known as
-  -- a list.
+  -- Whether a key is in the set is decidable, since the set's keys are known as a list. Therefore it is also decidable
+  -- whether a reply is correct.
   present : (k : ℕ) → content k ⊎ (content k → ⊥)
   present k = elim (member_or_not k s.keys) [ inl c ↦ inl ((same k).1 c) | inr c ↦ inr (λ h. c ((same k).0 h)) ]
 

@@ -31,11 +31,11 @@ use Rattle.lset_judge.specs.Verdict.{is_plain}
 use Rattle.lset_judge.specs.Stream.{States, behind_all, record_of, IsStreamOf}
 use Rattle.lset_judge.specs.Clash.{record_if, other, leaves_if, needs_if, since_of, EndsBefore, HasNoClash, IsOf, WasSo, Clashes, IsClash}
 
--- The facts that the judge stores about the calls on a key. The judge stores one completed call, the kept call, which
--- left the key in the state `was`. `kept` is the kind of this call; `thread`, `begun` and `ended` are its thread,
--- start and end. If `kept` is `Opening`, no call is stored, and the set opened with the key in the state `was`. All
--- changes that make the key present end by `puts_until`, and all changes that make the key absent end by
--- `takes_until`. A pending change counts as ending after all moments.
+-- The facts that the judge stores about the calls on a key. The judge stores one completed call, which left the key in
+-- the state `was`. `kept` is the kind of this call; `thread`, `begun` and `ended` are its thread, start and end. If
+-- `kept` is `Opening`, no call is stored, and the set opened with the key in the state `was`. All changes that make the
+-- key present end by `puts_until`, and all changes that make the key absent end by `takes_until`. A pending change
+-- counts as ending after all moments.
 pub record Facts : Type 0 where
   pub was : Presence
   pub kept : Kept
@@ -215,8 +215,8 @@ AreCompleteBy opening calls moment states (Some f) None =
     AreComplete opening calls moment f.key.0 (facts_for states f.key.0) × NoneMissed opening calls moment f.key.0
 AreCompleteBy opening calls moment states (Some f) (Some c) = Unit {0}
 
--- Holds if the stream s has judged these calls. The facts that it stores about the keys are correct (see `AreKnownBy`),
--- and suffice to find two calls that contradict each other (see `AreCompleteBy`).
+-- Holds if the stream s (a judge of calls in sequence) has judged these calls. The facts that it stores about the keys
+-- are correct (see `AreKnownBy`), and suffice to find two calls that contradict each other (see `AreCompleteBy`).
 pub record IsStreamKept (threads : ℕ) (opening : List ℕ) (calls : List CallRecord) (s : Stream) : Type 0 where
   pub stream : IsStreamOf threads opening calls s
   pub known : AreKnownBy opening calls s.moment s.states s.failed s.clash

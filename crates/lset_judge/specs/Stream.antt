@@ -101,8 +101,8 @@ IsJudgedTo opening calls moment states (Some f) = (f.moment ≤ moment)
     × (state_after (event_at behind_all f.key.0 calls) (has_key f.key.0 opening) f.moment ≡ None)
     × ((k m : ℕ) → state_after (event_at behind_all k calls) (has_key k opening) m ≡ None → f.moment ≤ m)
 
--- Holds if the stream s has judged these calls, on a set opened with the keys `opening`. No call starts after the
--- stream's current moment.
+-- Holds if the stream s (a judge of calls in sequence) has judged these calls, on a set opened with the keys `opening`.
+-- No call starts after the stream's current moment.
 pub record IsStreamOf (threads : ℕ) (opening : List ℕ) (calls : List CallRecord) (s : Stream) : Type 0 where
   pub opens : IsStrictlyIncreasing opening
   pub history : IsHistory threads calls

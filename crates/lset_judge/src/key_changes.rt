@@ -151,7 +151,7 @@ impl KeyChanges {
         if let Held::Many(many) = &self.held {
             return many.counts;
         }
-        // Without heaps, changes do not overlap. Only the change that ends last can be pending.
+        // If the key has no heaps, its changes do not overlap. Only the change that ends last can be pending.
         let last = self.puts_until.max(self.takes_until);
         if before < last {
             Changes::one(self.puts_until.min(self.takes_until))

@@ -19,7 +19,7 @@ pub(crate) struct ManyCalls {
     calls: HashMap<u64, StreamCall>,
     /// The ends of the calls.
     ends: Ends,
-    /// The end of the last call of each thread.
+    /// For each thread, the moment when its last call ends.
     busy: Busy,
 }
 

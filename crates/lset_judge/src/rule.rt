@@ -17,8 +17,7 @@ use crate::stream::StreamCall;
 use lset_words::Presence;
 use std::alloc::{AllocError, Global};
 
-/// The kind of a key's kept call: the completed call that the judge stores for the key. The call left the key in the
-/// state `was`.
+/// The kind of the completed call that the judge stores for a key. This call left the key in the state `was`.
 #[derive(Clone, Copy)]
 pub(crate) enum Kept {
     /// No call is stored: the key was in the state `was` when the set opened.
@@ -31,20 +30,20 @@ pub(crate) enum Kept {
     Look,
 }
 
-/// The state of a key: whether it is present and since when, its changes, and the kept call (one completed call). The
-/// judge compares later calls with the kept call to find two calls that contradict each other. The struct has 64 bytes.
+/// The state of a key: whether it is present and since when, its changes, and one completed call on the key. The judge
+/// compares later calls with this stored call to find two calls that contradict each other. The struct has 64 bytes.
 #[derive(Drop)]
 pub(crate) struct KeyState {
     pub(crate) changes: KeyChanges,
     turned: u64,
-    /// When the kept call started.
+    /// When the stored completed call started.
     pub(crate) begun: u64,
-    /// When the kept call ended.
+    /// When the stored completed call ended.
     pub(crate) ended: u64,
-    /// The thread of the kept call.
+    /// The thread of the stored completed call.
     pub(crate) thread: u32,
     pub(crate) kept: Kept,
-    /// The key's state after the kept call. If no call is kept, the key's opening state.
+    /// The key's state after the stored completed call. If no call is stored, the key's opening state.
     pub(crate) was: Presence,
     there: Presence,
 }

@@ -50,8 +50,8 @@ pub(crate) const BEHIND_ALL: u64 = 1 << 63;
 /// The reason why a call cannot be the next one. If several reasons apply, the reason that is listed first is returned.
 #[derive(Clone, Copy, Debug, PartialEq, Eq, Error)]
 pub enum StreamFault {
-    /// The call starts at moment 0, or does not start after all calls before it in the stream, or one of its moments is
-    /// above `LAST_MOMENT`.
+    /// The call starts at moment 0, or does not start after all earlier calls of the recording, or one of its moments
+    /// is above `LAST_MOMENT`.
     #[error("the call begins at moment 0 or no later than an earlier call, or a moment is too large")]
     Early,
     /// The call ends no later than it starts.
@@ -421,8 +421,8 @@ pub(crate) struct Stream {
 }
 
 impl Stream {
-    /// Returns a stream without calls, for a set that opens with the keys `opening`. The keys must be in increasing
-    /// order.
+    /// Returns a stream (a judge of calls in sequence) that has judged no calls. The set opens with the keys `opening`,
+    /// which must be in increasing order.
     pub fn new(alloc: Global, opening: &[u32]) -> Result<Stream, AllocError>
         requires { IsStrictlyIncreasing opening.now }
         ensures opened { IfOk result (λ s. (threads : ℕ) → IsStreamKept threads opening.now [] s) }
@@ -439,7 +439,7 @@ impl Stream {
         })
     }
 
-    /// Returns the reason why `call` cannot be the next call of the stream, or `None` if it can.
+    /// Returns the reason why `call` cannot be the next call of the recording, or `None` if it can.
     fn find_fault(&self, call: StreamCall) -> Option<StreamFault>
         ensures { MatchOption result (MayCome self.now.pending self.now.moment (record_of call))
             (λ fault. MayCome self.now.pending self.now.moment (record_of call) → ⊥) }
@@ -455,7 +455,7 @@ impl Stream {
         }
     }
 
-    /// Processes `event` of a key at `moment`, and advances the stream to this moment.
+    /// Processes `event` of a key at `moment`. Afterwards, `moment` is the current moment of the judge.
     fn meet(&mut self, key: u32, moment: u64, event: Event) -> Result<(), AllocError>
         ensures met { OnOk result (IsMet self.old key moment (event_as event) self.new) }
         ensures known { OnOk result (BeginIsKnown self.old.states key (event_as event) self.new.states self.old.failed self.old.clash) }
@@ -540,7 +540,7 @@ impl Stream {
         Ok(())
     }
 
-    /// Processes the end of a pending call, and advances the stream to this end.
+    /// Processes the end of a pending call. Afterwards, the moment of this end is the current moment of the judge.
     fn end(&mut self, next: Pending) -> Result<(), AllocError>
         ensures met { OnOk result (IsMet self.old (key_in next) next.end (event_of next) self.new) }
         ensures known { OnOk result (EndIsKnown self.old.states next.call self.new.states self.old.failed self.old.clash self.new.clash) }
@@ -604,12 +604,12 @@ impl Stream {
 
     /// Adds a call. It must start after all calls that were added before.
     ///
-    /// An error other than `Memory` is the reason why this call cannot be next; the stream is then unchanged. After
-    /// `Memory`, the stream can no longer be used.
+    /// An error other than `Memory` is the reason why this call cannot be next; the stream (the judge's state) is then
+    /// unchanged. After `Memory`, the stream can no longer be used.
     pub fn add(&mut self, call: StreamCall) -> Result<(), StreamFault>
         ensures added { OnOk result ((threads : ℕ) (opening : List ℕ) (calls : List RecordedCall) → call.thread < threads
             → IsStreamKept threads opening calls self.old → IsStreamKept threads opening (calls ++ record_of call ∷ []) self.new) }
-        // The stream has advanced to the moment when the call starts.
+        // The moment when the call starts is now the current moment of the judge.
         ensures moment { OnOk result (moment_of self.new ≡ call.begun) }
         ensures refused { IfErr result (λ fault. fault ≢ StreamFault.Memory
             → (MayCome (pending_in self.old) (moment_of self.old) (record_of call) → ⊥) × (self.new ≡ self.old)) }
@@ -680,7 +680,7 @@ impl Stream {
     }
 
     /// Decides whether some order linearizes all calls and leaves the final keys `keys`. The set starts with the
-    /// opening keys and has no quota. All ends must have been processed.
+    /// opening keys and has no quota. The ends of all calls must have been processed.
     pub(crate) fn verdict(&self, keys: &[u32]) -> StreamVerdict
         requires increase { IsStrictlyIncreasing keys.now }
         requires met { All (λ p. behind_all ≤ p.end) (pending_in self.now) }
@@ -695,7 +695,7 @@ impl Stream {
     }
 
     /// Decides whether some order linearizes all calls, whatever final keys it leaves. This function is for a recording
-    /// that was cut off, since its final keys are unknown. All ends must have been processed.
+    /// that was cut off, since its final keys are unknown. The ends of all calls must have been processed.
     pub(crate) fn verdict_cut_off(&self) -> StreamVerdict
         requires { All (λ p. behind_all ≤ p.end) (pending_in self.now) }
         ensures said { (threads : ℕ) (opening : List ℕ) (calls : List RecordedCall) → IsStreamOf threads opening calls self.now

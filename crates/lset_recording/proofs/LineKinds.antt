@@ -1,4 +1,4 @@
--- Proof: for each kind of line in a recording, the text of the line and its content determine each other.
+-- Proof: for each kind of line in a recording, the text of the line and the values in it determine each other.
 use Rattle.std.proofs.Common.{◌≡◌, subst, ℕ, ◌<◌, ◌≤◌, ◌^◌, Bool, true, false, Result, length, List, [], ◌∷◌, Option, Some, None, Ok, Err, refl, arith, codes, cond}
 use Rattle.std.specs.Prelude.{IfSome, nat_lt}
 use Rattle.std.specs.Fmt.{decimal}

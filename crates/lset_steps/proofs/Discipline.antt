@@ -1,5 +1,5 @@
--- Proof that a machine satisfies its law in every run, if each of its steps is one of a few allowed changes of the
--- words. Moment k of a run is the state after the first k events.
+-- Proof that a machine (a list algorithm as a table of steps) satisfies its law in every run, if each of its steps is
+-- one of a few allowed changes of the words. Moment k of a run is the state after the first k events.
 use Rattle.std.specs.Prelude.{◌≡◌, ◌≢◌, ℕ, ◌+◌, ◌%◌, ◌<◌, ◌≤◌, ◌⊎◌, ◌-◌, Bool, true, false, Option, Some, None, List}
 use Rattle.std.specs.Prelude.{slice_set, slice_index_or, length, refl, if◌then◌else◌, ◌==◌, ◌||◌}
 use Rattle.std.proofs.Common.{arith, inl, inr, sym, ◌∙◌, ap, subst, zero, suc, get_or-set_other, get_or-set_same, length-set}
@@ -42,7 +42,7 @@ pub record Here (marks : Bool) (sz : Sizes) (vs : ℕ → View) (now : ℕ) (ws 
   pub present : vs now ≡ view sz ws used
 
 -- The facts about thread `t` and its private state `l` at moment `now`, with the assertion of the proof outline at the
--- thread's row.
+-- thread's next row of the step table.
 pub record Thread (At : Outline) (sz : Sizes) (t : ℕ) (vs : ℕ → View) (first now : ℕ) (ws : List ℕ) (used : ℕ → ℕ)
     (done : Bool) (l : Local) : Type 0 where
   pub registers : Registers sz t l
@@ -150,8 +150,8 @@ put_same s t l h = get_or-set_same s.locals t l (idle 0 0) h
 pub put_other : (s : State) (t u : ℕ) (l : Local) → u ≢ t → slice_index_or (slice_set s.locals t l) u (idle 0 0) ≡ local_of s u
 put_other s t u l h = get_or-set_other s.locals t u l (idle 0 0) h
 
--- The invariant of a run at moment `k`: properties of the words, and for each thread the assertion of the proof
--- outline at its row.
+-- The invariant of a run at moment `k`: properties of the words and, for each thread, the assertion of the proof
+-- outline at the thread's next row of the step table.
 pub record Inv (marks : Bool) (At : Outline) (sz : Sizes) (vs : ℕ → View) (k : ℕ) (s : State) (calls : ℕ → LastCall) :
     Type 1 where
   pub memory : Memory marks sz s.words (used_in s)
@@ -393,7 +393,7 @@ module _ (T : Table) (marks : Bool) (At : Outline) (d : Discipline T marks At) (
               (answered_on ((calls t).changed || is_change m.effect) op.quota vs (calls t).begun k t _ m.local'.pc m.answer m.answered))));
         }
 
--- Proof that the invariant of a run implies the law of the machine.
+-- Proof that the invariant of a run implies the law of the machine (the list algorithm as a table of steps).
 module _ (T : Table) (marks : Bool) (At : Outline) (d : Discipline T marks At) (op : Opening) (es : ℕ → Event) (last : ℕ)
     (r : Run T op es last) where
   next_inv : (k : ℕ) (e : Event) → es k ≡ e → Enabled (state_at T op es k) e

@@ -31,7 +31,7 @@ row_once q t u i j a b e =
 slot_in : (sz : Sizes) (t j : ℕ) → t < sz.threads → j < sz.quota → slot_node sz.quota t j < opening_node sz 0
 slot_in sz t j h k = let z : t * sz.quota + j < sz.threads * sz.quota = grind arith in omega arith
 
--- Returns the slot that thread t will use next: the node for its next successful add.
+-- Returns the slot that thread t will use next: the node that is reserved for its next successful add.
 abbrev pub own_of : ℕ → ℕ → (ℕ → ℕ) → ℕ
 own_of q t used = slot_node q t (used t)
 

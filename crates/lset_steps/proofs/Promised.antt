@@ -1,4 +1,5 @@
--- Proof that a machine that satisfies its law has all the properties of `Promises`.
+-- Proof that a machine (a list algorithm as a table of steps) that satisfies its law has all the properties of
+-- `Promises`.
 use Rattle.std.specs.Prelude.{◌≡◌, ◌≢◌, ℕ, suc, ◌+◌, ◌/◌, ◌<◌, ◌≤◌, ◌⊎◌, Bool, true, false, if◌then◌else◌, ◌==◌, List, [], ◌∷◌}
 use Rattle.std.specs.Prelude.{◌++◌, map, Some, length, refl}
 use Rattle.std.proofs.Common.{arith, inl, inr, sym, ap, subst}

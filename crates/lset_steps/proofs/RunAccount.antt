@@ -1,5 +1,5 @@
--- Proof: if a machine satisfies its law, each of its runs has an account, a record of the effect of each event on the
--- set.
+-- Proof: if a machine (a list algorithm as a table of steps) satisfies its law, each of its runs has an account, a
+-- record of the effect of each event on the set.
 use Rattle.std.specs.Prelude.{◌≡◌, ◌≢◌, ℕ, ◌<◌, ◌≤◌, Bool, true, false, ◌==◌, if◌then◌else◌, Option, Some, None, length, refl}
 use Rattle.std.proofs.Common.{arith, inl, inr, sym, ◌∙◌, ap, subst, zero, suc}
 use Rattle.std.proofs.lemmas.List.FromFn.{get_or-map-range_with_len}

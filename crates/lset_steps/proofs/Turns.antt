@@ -1,5 +1,6 @@
--- Proof that a list satisfies the law of a machine if its threads follow a protocol for sharing the words. This file
--- states the proof obligation for each row of the step table, and proves that these obligations are enough.
+-- Proof that a list satisfies the law of a machine (a list algorithm as a table of steps) if its threads follow a
+-- protocol for sharing the words. This file states the proof obligation for each row of the step table, and proves that
+-- these obligations are enough.
 use Rattle.std.specs.Prelude.{◌≡◌, ◌≢◌, ℕ, suc, ◌+◌, ◌<◌, ◌≤◌, Bool, true, false, Option, Some, None, List, ◌||◌, if◌then◌else◌}
 use Rattle.std.specs.Prelude.{◌==◌, slice_set, refl}
 use Rattle.std.proofs.Common.{arith, inl, inr, sym, ◌∙◌, ap, subst}
@@ -99,7 +100,7 @@ Stands P At = (q t : ℕ) (vs : ℕ → View) (first now : ℕ) (v w : View) (do
     → At q t vs first now v done l → At q t vs first (suc now) w done l
 
 -- Holds if a thread keeps its call and its number of successful adds in a step from state `l` to `l'`. The call does
--- not end, and the registers stay in range.
+-- not end, and the registers (nodes and key words) stay in range.
 abbrev pub Onward : Sizes → ℕ → Local → Local → Type 0
 Onward sz t l l' = Registers sz t l' × (l'.call ≡ l.call) × (l'.used ≡ l.used) × (l'.pc ≢ 0)
 
@@ -154,9 +155,9 @@ tries {P = P} {sz = sz} {t = t} {ws = ws} {used = used} locks a on same inn acts
       ((locks sz t ws used a inn).1 other) again stays
 ]
 
--- The proof obligations for a list and its protocol. A thread's assertion (from the proof outline, at its row) holds
--- when a call begins. Each row is a step of the protocol, and preserves the assertion of its own thread. Steps of
--- other threads preserve it as well.
+-- The proof obligations for a list and its protocol. A thread's assertion (from the proof outline, at its row of the
+-- step table) holds when a call begins. Each row is a step of the protocol, and preserves the assertion of its own
+-- thread. Steps of other threads preserve it as well.
 pub record Follows (T : Table) (P : Protocol T.marks) (At : Outline) : Type 1 where
   pub idle_at : (op : Opening) → Opens op → (t : ℕ) (vs : ℕ → View)
       → At op.quota t vs 0 0 (view_of (sizes op) (opening op)) false (idle op.quota t)
@@ -170,8 +171,8 @@ pub record Follows (T : Table) (P : Protocol T.marks) (At : Outline) : Type 1 wh
       → Here T.marks sz vs now ws used → Thread At sz t vs first now ws used done l → t < sz.threads → l.pc ≢ 0
       → Turn T P At sz t vs first now ws used done l
 
--- Adds an invariant of the shared words to each assertion of the proof outline. Each step of the protocol must
--- preserve the invariant. Then the proof of each row can use the invariant without proving it again.
+-- Adds an invariant of the shared words to each assertion of the proof outline. Each step of the protocol must preserve
+-- the invariant. Then the proof of each row of the step table can use the invariant without proving it again.
 abbrev pub Keeping : (View → Type 0) → Outline → Outline
 Keeping Always At q t vs first now v done l = At q t vs first now v done l × Always v
 

@@ -1,5 +1,5 @@
--- Lemmas about the assertions of a walk without locks at each of its rows. They prove that the result of the walk was
--- true at some moment of the call (after O'Hearn and others).
+-- Lemmas about the assertions of a walk along the chain without locks, one for each row of the step table. They prove
+-- that the result of the walk was true at some moment of the call (after O'Hearn and others).
 use Rattle.std.proofs.Common.{◌≡◌, ◌≢◌, ℕ, ◌+◌, ◌/◌, ◌%◌, ◌<◌, ◌≤◌, sym, refl, ap, subst, ◌∙◌, arith}
 use Rattle.lset_steps.specs.Chain.{View, IsOrdered, Seen}
 use Rattle.lset_steps.proofs.Moves.{Course, InPast, Had, Lacked, At20, At21, At22, At25}

@@ -1,5 +1,5 @@
--- The chain of a list (the nodes reachable from the head) and its content (the keys of the set). Both are computed
--- from the words of the list and from the number of slots that each thread has used (Herlihy and Shavit).
+-- The chain of a list (the nodes reachable from the head) and its content (the keys of the set). Both are computed from
+-- the words of the list and from the number of slots (nodes for adds) that each thread has used (Herlihy and Shavit).
 use Rattle.std.specs.Prelude.{◌≡◌, ◌≢◌, ℕ, ◌+◌, ◌/◌, ◌%◌, ◌<◌, ◌≤◌, ◌⊎◌, Bool, true, false, List, [], ◌∷◌, Option, slice_index}
 use Rattle.lset_words.specs.Words.{key_index, link_index, lock_index, slot_node, opening_node, Sizes}
 use Rattle.lset_words.specs.declared.Key.{Key}
@@ -28,8 +28,8 @@ pub record View : Type 1 where
   pub published : ℕ → Type 0
 
 -- Holds if a node is published, which means that it has been in the chain at some time. The published nodes are the
--- head, the tail, the nodes of the opening keys, and the slots that the threads have used. A thread with n successful
--- adds has used its first n slots.
+-- head, the tail, the nodes of the opening keys, and the slots (nodes for adds) that the threads have used. A thread
+-- with n successful adds has used its first n slots.
 abbrev pub Published : Sizes → (ℕ → ℕ) → ℕ → Type 0
 Published sz used i = (i < 2) ⊎ ((t : ℕ) × (j : ℕ) × (t < sz.threads) × (j < used t) × (i ≡ slot_node sz.quota t j))
     ⊎ ((j : ℕ) × (j < sz.opening) × (i ≡ opening_node sz j))

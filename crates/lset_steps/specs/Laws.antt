@@ -110,8 +110,8 @@ pub record BeginLaws (begin : Call → Local → Local) (call : Call) (l : Local
   -- successful adds.
   pub alike : begin call l ≡ begin call (record (idle l.quota l.thread) { used = l.used })
 
--- The law of a machine: properties of every start of a call, of every state and step of a run, and of nodes at two
--- moments of a run. `lset_steps::laws` derives the laws that users of a list need.
+-- The law of a machine (a list algorithm as a table of steps): properties of every start of a call, of every state and
+-- step of a run, and of nodes at two moments of a run. `lset_steps::laws` derives the laws that users of a list need.
 pub record Lawful (T : Table) : Type 0 where
   pub begins : (call : Call) (l : Local) → BeginLaws T.begin call l
   pub states : (op : Opening) (last k : ℕ) (es : ℕ → Event) → Run T op es last → k ≤ last →

@@ -20,15 +20,15 @@ Does T pc acts feeds tells = (l : Local) → l.pc ≡ pc
 abbrev pub nothing : Local → ℕ → Option (Key × Bool)
 nothing l seen = None
 
--- Holds if a table has rows 20 to 25 for a `contains` and a `ceiling` that take no lock, and these calls begin at
+-- Holds if a step table has rows 20 to 25 for a `contains` and a `ceiling` that take no lock, and these calls begin at
 -- these rows.
 pub record HasReading (T : Table) : Type 0 where
   pub begins : (call : Call) (l : Local) → T.begin call l ≡ begun_reading call l
-  -- Row 20: a `contains` loads the link of a node. It starts at the head.
+  -- Row 20 of the step table: a `contains` loads the link of a node. It starts at the head.
   pub row_20 : Does T 20 (λ l. Load (link_index l.curr)) (λ l seen. continued (record l { pc = 21; curr = seen / 2 })) nothing
-  -- Row 21: a `contains` loads the key of the next node, and compares this key with its own.
+  -- Row 21 of the step table: a `contains` loads the key of the next node, and compares this key with its own.
   pub row_21 : Does T 21 (λ l. Load (key_index l.curr)) read_key nothing
-  -- Row 22: a `contains` that has found its key loads the node's mark, and replies.
+  -- Row 22 of the step table: a `contains` that has found its key loads the node's mark, and replies.
   pub row_22 : Does T 22 (λ l. Load (link_index l.curr)) read_mark nothing
   -- Rows 23 to 25 of the step table: a `ceiling` walks and loads a mark, like a `contains` at rows 20 to 22. It also
   -- stores the key word, and starts again from the head if it stops at a marked node.

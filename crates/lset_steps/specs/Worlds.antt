@@ -17,8 +17,8 @@ pub record WorldState : Type 0 where
   pub sizes : Sizes
   pub state : State
 
--- Holds if the state of a world is the final state of some run. The run's set opens with the world's sizes: its
--- numbers of threads, of slots (nodes for adds) and of opening keys.
+-- Holds if the state of a world (a list with its threads) is the final state of some run. The run's set opens with the
+-- world's sizes: its numbers of threads, of slots (nodes for adds) and of opening keys.
 pub record IsRun (T : Table) (w : WorldState) : Type 0 where
   pub opening : Opening
   pub of_sizes : sizes opening ≡ w.sizes
@@ -40,8 +40,8 @@ Refused w (Go t) Busy = ⊥
 Refused w (Begin t call) Idle = ⊥
 Refused w (Go t) Idle = (t < w.sizes.threads) × ((local_of w.state t).pc ≡ 0)
 
--- Holds if a step returns this result, and `w'` is the world after the step. If the event is enabled, it is executed.
--- If the step returns an error, the world is unchanged.
+-- Holds if a step returns this result, and `w'` is the world (the list with its threads) after the step. If the event
+-- is enabled, it is executed. If the step returns an error, the world is unchanged.
 abbrev pub StepResult : Table → WorldState → Event → Result Told StepFault → WorldState → Type 0
 StepResult T w e (Ok answer) w' = Enabled w.state e × (w' ≡ record w { state = after T w.state e }) × (answer ≡ told T w.state e)
 StepResult T w e (Err cause) w' = Refused w e cause × (w' ≡ w)

@@ -8,8 +8,8 @@ use crate::rows::{TAIL_WORD, begun, ceiling_at, key_index, link_index};
 use crate::{Action, Fed, Local};
 use lset_words::{Call, Reply};
 
-/// Returns the private state of a thread that begins a call, at the first row for this kind of call. The rows for
-/// `contains` and `ceiling` take no lock and write nothing (Herlihy and Shavit's wait-free `contains`).
+/// Returns the private state of a thread that begins a call, at the first row of the step table for this kind of call.
+/// The rows for `contains` and `ceiling` take no lock and write nothing (Herlihy and Shavit's wait-free `contains`).
 #[inline(always)]
 pub fn begun_reading(call: Call, local: &Local) -> Local
     ensures { result ≡ begun_reading call local.now }

@@ -30,7 +30,8 @@ pub fn try_lock(node: u64, local: &Local) -> Action
     Action::Exchange(lock_index(node), 0, u64::from(local.thread) + 1)
 }
 
-/// Returns the private state of a thread that begins a call at row `pc` of the step table. The registers are 0.
+/// Returns the private state of a thread that begins a call at row `pc` of the step table. The registers (nodes and key
+/// words) are 0.
 #[inline(always)]
 pub fn begun(pc: u8, call: Call, local: &Local) -> Local
     ensures { result ≡ begun pc call local.now }
@@ -69,7 +70,7 @@ pub struct Targets {
 /// Decides how a call continues at the first key word that is not smaller than its own. `add` replies `False` if the
 /// key is present, and `Full` if the quota is used up. `remove` and `contains` reply `False` if the key is absent;
 /// `contains` replies `True` if it is present. `ceiling` replies with the word's key, or with `Nothing` at the tail. An
-/// `add` or `remove` without a reply continues at its own row of `rows`.
+/// `add` or `remove` without a reply continues at its own row of the step table, as `rows` states.
 #[inline(always)]
 pub fn decide(rows: Targets, key: u64, local: Local) -> Local
     ensures { result ≡ decided_on rows key local }

@@ -144,8 +144,8 @@ fn opening_word_at(layout: &Layout, keys: &[u32], i: u64) -> u64
 }
 
 /// Returns the words of a list before any event: a chain from the head through the nodes of the opening keys to the
-/// tail, free locks, and zeros in unused slots. `keys` must contain exactly `layout.opening()` keys. Allocates one
-/// vector of `layout.words()` words, at most 6,291,465. If that fails, returns `AllocError`.
+/// tail, free locks, and zeros in unused slots (nodes for adds). `keys` must contain exactly `layout.opening()` keys.
+/// Allocates one vector of `layout.words()` words, at most 6,291,465. If that fails, returns `AllocError`.
 pub fn opening_words(alloc: Global, layout: &Layout, keys: &[u32]) -> Result<Vec<u64>, AllocError>
     requires { length keys.now ≡ layout.now.opening }
     ensures words { IfOk result (λ v. v.items ≡ (opening (opening_of layout.now keys.now)).words) }
@@ -405,9 +405,9 @@ impl<M: Machine> World<M> {
         }
     }
 
-    /// Executes the next step of a thread that is at row `PC` of the step table. Since `PC` is a constant, the
-    /// compiler keeps only this row of the machine's functions, and the step writes only the fields of the thread's
-    /// state that this row changes.
+    /// Executes the next step of a thread that is at row `PC` of the step table. Since `PC` is a constant, the compiler
+    /// keeps only the code of this row, and the step writes only the fields of the thread's state that this row
+    /// changes.
     #[inline(always)]
     fn go_at<const PC: u8>(&mut self, t: u32) -> Told
         requires call { Enabled self.old.state (Event.Go t) }

@@ -17,9 +17,9 @@ Content = ℕ → Type 0
 abbrev pub Same : Content → Content → Type 0
 Same before after = (j : ℕ) → (before j → after j) × (after j → before j)
 
--- [Named change]: relates the content before a step to the content after it. Without a change, both have the same
--- keys. Otherwise they differ only in the changed key: a key is added only if it was absent, and removed only if it
--- was present.
+-- [Named change]: relates the keys of the set before a step to the keys after it. Without a change, both have the same
+-- keys. Otherwise they differ only in the changed key: a key is added only if it was absent, and removed only if it was
+-- present.
 abbrev pub Changes : Option Change → Content → Content → Type 0
 Changes None before after = Same before after
 Changes (Some (k, true)) before after =
@@ -41,14 +41,14 @@ MayChange quota count call changed None = Unit {0}
 MayChange quota count call changed (Some (k, true)) = (call ≡ Add k) × (changed ≡ false) × (count < quota)
 MayChange quota count call changed (Some (k, false)) = (call ≡ Remove k) × (changed ≡ false)
 
--- Holds if the last argument is the smallest key of `content` at or above `k`, or `None` if the content has no such
+-- Holds if the last argument is the smallest key of the set `content` at or above `k`, or `None` if the set has no such
 -- key.
 abbrev pub IsCeiling : Content → ℕ → Option ℕ → Type 0
 IsCeiling content k None = (j : ℕ) → k ≤ j → content j → ⊥
 IsCeiling content k (Some x) = (k ≤ x) × content x × ((j : ℕ) → k ≤ j → j < x → content j → ⊥)
 
--- [Fits]: a sequential set with this content returns this reply, and the call changes nothing. `count` is the number
--- of successful adds that the call's thread has made.
+-- [Fits]: a sequential set with exactly the keys `content` returns this reply, and the call changes nothing. `count` is
+-- the number of successful adds that the call's thread has made.
 abbrev pub Fits : ℕ → Content → ℕ → Call → Reply → Type 0
 Fits quota content count (Add k) False = content k.0
 Fits quota content count (Add k) Full = (content k.0 → ⊥) × (count ≡ quota)
@@ -117,7 +117,7 @@ Enters threads quota log contents counts k (stepped t change reply) = Steps thre
 -- Holds if `contents` and `counts` are the account of a run's first `last` events: they agree with the opening keys
 -- and with each entry of the log.
 pub record Account (o : Opening) (last : ℕ) (log : Log) (contents : Contents) (counts : Counts) : Type 0 where
-  -- Before the first event, the content consists of the opening keys. The opening keys increase strictly.
+  -- Before the first event, the set contains exactly the opening keys. The opening keys increase strictly.
   pub increasing : IsStrictlyIncreasing o.keys
   pub opens : (k : ℕ) → (contents 0 k → InList o.keys k) × (InList o.keys k → contents 0 k)
   -- Before the first event, no thread has added a key.

@@ -104,7 +104,7 @@ WordsApart = (i j : ℕ)
     × (key_index i ≢ link_index j) × (key_index i ≢ lock_index j) × (link_index i ≢ lock_index j)
     × (i ≢ j → (key_index i ≢ key_index j) × (link_index i ≢ link_index j) × (lock_index i ≢ lock_index j))
 
--- Different slots are different nodes, and no slot is the head or the tail.
+-- Different slots (nodes for adds) are different nodes, and no slot is the head or the tail.
 abbrev pub SlotsApart : Type 0
 SlotsApart = (quota t u i j : ℕ) → i < quota → j < quota
     → (1 < slot_node quota t i) × (slot_node quota t i ≡ slot_node quota u j → (t ≡ u) × (i ≡ j))

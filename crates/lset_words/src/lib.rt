@@ -37,7 +37,7 @@ pub const MOST_QUOTA: u32 = 16_384;
 pub const MOST_OPENING: u32 = 1_048_576;
 
 /// The maximum number of nodes of a list: the head, the tail, one node for each slot of each thread, and one for each
-/// opening key.
+/// opening key. A slot is a node for one successful add.
 pub const MOST_NODES: u64 = 2 + MOST_THREADS as u64 * MOST_QUOTA as u64 + MOST_OPENING as u64;
 
 /// The maximum number of 64-bit words of a list: 3 for the list as a whole, and 3 for each node.
