@@ -33,7 +33,7 @@ pub const MOST_THREADS: u32 = 64;
 /// slot, a node that belongs to the thread.
 pub const MOST_QUOTA: u32 = 16_384;
 
-/// The maximum number of opening keys of a list.
+/// The maximum number of opening keys of a list (the keys that it contains at the start).
 pub const MOST_OPENING: u32 = 1_048_576;
 
 /// The maximum number of nodes of a list: the head, the tail, one node for each slot of each thread, and one for each

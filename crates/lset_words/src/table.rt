@@ -60,8 +60,8 @@ impl Model for Layout {
 }
 
 impl Layout {
-    /// Returns the layout for these numbers of threads, slots per thread, and opening keys. All three must be within
-    /// their limits.
+    /// Returns the layout for these numbers of threads, slots (nodes for adds) per thread, and opening keys. All three
+    /// must be within their limits.
     pub(crate) fn of(threads: u32, quota: u32, opening: u32) -> Layout
         requires { IsWithin (record { threads = threads; quota = quota; opening = opening }) }
         ensures { result ≡ record { threads = threads; quota = quota; opening = opening } }
@@ -97,7 +97,8 @@ impl Layout {
         self.opening
     }
 
-    /// Returns the number of nodes: the head, the tail, one for each slot of each thread, and one for each opening key.
+    /// Returns the number of nodes: the head, the tail, one for each slot of each thread (a node for one successful
+    /// add), and one for each opening key.
     pub fn nodes(&self) -> u64
         ensures count { result ≡ node_count self.now }
         ensures few { result ≤ MOST_NODES }
