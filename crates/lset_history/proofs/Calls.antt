@@ -38,8 +38,8 @@ pub record Beginning (r : Run) (thread : ℕ) (call : Call) (begun : ℕ) : Type
   pub is : begun ≡ suc before
   pub entry : r.log before ≡ began thread call
 
--- Holds if event number `changed` of the run, counted from 1, is a step of this call that changes the set, and the
--- call is allowed to make this change.
+-- Holds if event number `changed` of the run, counted from 1, is a step of this call that changes the set. The call
+-- must be allowed to make this change.
 pub record ChangeAt (r : Run) (thread : ℕ) (call : Call) (begun changed : ℕ) : Type 0 where
   pub before : ℕ
   pub is : changed ≡ suc before

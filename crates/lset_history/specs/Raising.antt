@@ -4,8 +4,8 @@ use Rattle.std.specs.Prelude.{◌≡◌, ℕ, ◌<◌, ◌≤◌, ◌==◌, nat_
 use Rattle.std.specs.Prelude.{None}
 use Rattle.lset_history.specs.Changes.{is_present, is_present_now}
 
--- Holds if the result is the next change of the set after `moment`: the moment of the change, and the key that
--- changes. No key changes between `moment` and the change. If the result is `None`, no key changes after `moment`.
+-- Holds if no key changes after `moment` and before the moment in the result, and only the key in the result can change
+-- at that moment. If the result is `None`, no key changes after `moment`.
 abbrev pub IsNextNote : (ℕ → List ℕ) → ℕ → Option (ℕ × ℕ) → Type 0
 IsNextNote changes moment None = (j : ℕ) → All (λ m. m ≤ moment) (changes j)
 IsNextNote changes moment (Some n) = (moment < n.0)

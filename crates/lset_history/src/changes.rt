@@ -263,8 +263,8 @@ impl Changes {
         let mut moment = from;
         let mut last = from;
         while let Some((at, noted)) = self.note_after(last) {
-            // A key that refutes the claim at `moment` refutes it until the key is added or removed. The key `noted`
-            // changes at the moment `at`.
+            // A key that refutes the claim at `moment` refutes it until the key is added or removed. The only key that
+            // can change at the moment `at` is `noted`.
             if self.is_against(key, found, noted, moment) {
                 moment = at;
             }

@@ -105,10 +105,10 @@ impl History {
         self.opening = opening;
     }
 
-    /// Appends a call, pending or completed, to the history. The call must satisfy `MayFollow`: it begins after the
-    /// start of every other call, no other call begins or ends at the moment of its start or end, and the earlier
-    /// calls of its thread ended before it begins. Can allocate. If an allocation fails, returns `AllocError` and
-    /// changes nothing.
+    /// Appends a call, pending or completed, to the history. The call must satisfy `MayFollow`. It begins after the
+    /// start of every other call, and after all earlier calls of its thread have ended. No other call begins or ends at
+    /// the moment when it begins or ends. Can allocate. If an allocation fails, returns `AllocError` and changes
+    /// nothing.
     pub fn push(&mut self, call_record: CallRecord) -> Result<(), AllocError>
         requires { MayFollow self.old.opening.threads self.old.calls call_record }
         ensures pushed { OnOk result (self.new ≡ with_begun self.old call_record) }

@@ -1,8 +1,8 @@
 ghost use Rattle.lset_history.specs.Laws.{PlacementLinearizes, EveryCallHasAPlace, LogsTellHistories, FitsAreReplies, PlacementIsOneOrder};
 
-/// The placement theorem: if a run has an account, the order of its calls by their linearization points linearizes the
-/// run's history (Herlihy and Wing), and leaves the same keys as the run. A run has an account if each event changes
-/// the keys as its call allows, and each reply is correct at some moment of its call.
+/// The placement theorem: if a run has an account, the order of its calls by their linearization points is a
+/// linearization of the run's history (Herlihy and Wing). This order leaves the same keys as the run. A run has an
+/// account if each event changes the keys as its call allows, and each reply is correct at some moment of its call.
 pub fn placement_linearizes()
     ensures { PlacementLinearizes }
 {}
@@ -20,8 +20,8 @@ pub fn logs_tell_histories()
     ensures { LogsTellHistories }
 {}
 
-/// Lemma: `Fits` agrees with the sequential set. A reply fits a set's keys and a thread's number of successful adds if
-/// and only if the set in this state returns the reply and does not change.
+/// Lemma: `Fits` agrees with the sequential set. A reply fits the set's keys and a thread's number of successful adds
+/// if and only if the set returns the reply in this state and does not change.
 pub fn fits_are_replies()
     ensures { FitsAreReplies }
 {}

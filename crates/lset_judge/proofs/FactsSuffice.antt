@@ -599,8 +599,7 @@ module _ (threads : ℕ) (opening : List ℕ) (calls : List CallRecord) (s t : S
       → AreCompleteBy opening calls t.moment t.states t.failed t.clash
   complete_end met kept missed known old = complete_after s.failed t.failed t.clash met kept missed is.judged now.judged known old
 
--- ---- If the verdict contains no clash (two calls that contradict each other), no call on the key clashes with a call
--- that starts after it has ended
+-- ---- If the verdict contains no two calls that contradict each other, no call on the key contradicts a later call
 
 pub none_at_end : (s : Stream) (opening : List ℕ) (refusal : Refusal) (left : Option Presence) → IsToldBy s.failed (NotLinearizable refusal)
     → (IsSome left → refusal.moment ≡ None)

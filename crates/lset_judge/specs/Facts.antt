@@ -129,8 +129,8 @@ pub record IsKept (call : StreamCall) (old new : Facts) : Type 0 where
   pub better : old.was ≡ new.was → until_of (other new.was) old ≤ old.begun → ⊥
 
 -- Holds if the call that the facts store is at least as useful as `call` for finding two calls that contradict each
--- other. If all changes away from the state that `call` left end by its start, then the stored call left the same
--- state, and these changes also end by the start of the stored call.
+-- other. Suppose that all changes away from the state that `call` left end by its start. Then the stored call left the
+-- same state, and these changes also end by the start of the stored call.
 abbrev pub ServesAsWell : StreamCall → Facts → Type 0
 ServesAsWell call f = IfSome call.ended (λ (e : ℕ × Reply). is_plain call.call e.1 ≡ true) → (p : Presence) → leaves_if call.call call.ended ≡ Some p
     → until_of (other p) f ≤ call.begun → (f.was ≡ p) × (until_of (other p) f ≤ f.begun)
@@ -187,8 +187,8 @@ IsPast moment None = Unit {0}
 IsPast moment (Some x) = IfSome x.ended (λ (e : ℕ × Reply). e.0 ≤ moment)
 
 -- Holds if the stored call is at least as useful as `first` for finding a contradiction. It left the key in the same
--- state p, all changes to the other state had ended when it started, and it ended before each moment that `first` ended
--- before.
+-- state p. All changes to the other state had ended when it started. If `first` ended before a moment, the stored call
+-- did too.
 pub record IsAsGood (key : ℕ) (f : Facts) (p : Presence) (first : Option CallRecord) : Type 0 where
   pub was : f.was ≡ p
   pub standing : until_of (other p) f ≤ f.begun

@@ -167,9 +167,9 @@ IsStreamVerdictCutOff h (NotLinearizable refusal) = (keys : List ℕ) → IsStre
 abbrev pub no_pending : Pending
 no_pending = record { end = 0; call = call_of no_call }
 
--- Holds if an event of a key at a moment changes the stored states of the keys correctly, or if the event shows that
--- no order explains the calls on the key, and this failure is recorded. After a failure, nothing is required of the
--- stored states.
+-- Holds in two cases: an event of a key at a moment changes the stored states of the keys correctly, or the event shows
+-- that no order explains the calls on the key, and this failure is recorded. After a failure, nothing is required of
+-- the stored states.
 abbrev pub IsMetBy : States → ℕ → ℕ → Event → States → Option Failed → Option Failed → Type 0
 IsMetBy before key moment event after (Some f) failed = failed ≡ Some f
 IsMetBy before key moment event after None None =

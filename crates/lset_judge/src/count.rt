@@ -1,5 +1,5 @@
-//! Searches for counts. A count is a set of calls on a key that no order explains, because the key would have to change
-//! back between them more often than it can.
+//! Searches for counts. A count is a set of calls on a key that no order explains: the key would have to change back
+//! between these calls more often than it can.
 
 ghost use Rattle.std.specs.Prelude.{◌≡◌, ℕ, ◌<◌, All, AllPairs, IfOk, IfSome, IsTrue, length, filter, true};
 ghost use Rattle.lset_words.specs.History.{IsHistory, Precedes};

@@ -6,8 +6,8 @@ ghost use Rattle.lset_judge.specs.Events.{kind_as, open_kind, begin_event, end_e
 
 use lset_words::{Call, Effect, Presence};
 
-/// The meaning of a call's start or end for the call's key. A change is an `add` or `remove` that returned true or is
-/// pending.
+/// What the start or the end of a call means for the call's key. A change is an `add` or `remove` that returned true or
+/// is pending.
 #[derive(Clone, Copy, Debug, PartialEq, Eq)]
 pub(crate) enum Event {
     /// A change starts. The fields are the new state of the key, and the moment when the change ends (a moment after

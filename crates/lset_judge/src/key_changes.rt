@@ -169,9 +169,9 @@ impl KeyChanges {
         }
     }
 
-    /// Returns whether a change of the key to the state `to`, which starts at moment `before` + 1 and ends at `end`,
-    /// can be stored without a heap. This is the case if the change ends at all, each earlier change has ended by
-    /// `before`, and the last earlier change, if any, was to the other state.
+    /// Returns whether a change of the key to the state `to` can be stored without a heap. The change starts at moment
+    /// `before` + 1 and ends at `end`. It needs no heap if it ends at all, each earlier change has ended by `before`,
+    /// and the last earlier change, if any, was to the other state.
     fn is_alone(&self, to: Presence, before: u64, end: u64) -> bool
         ensures alone { IsTrue result → is_many self.now.held ≡ false }
         ensures puts { IsTrue result → (puts_in self.now ≡ []) × (takes_in self.now ≡ []) }

@@ -719,9 +719,9 @@ impl Stream {
         }
     }
 
-    /// Returns a contradiction between a call on `key` and the key's final state `left` (no order contains the call
-    /// and leaves this state), if the stored facts show one. Returns `None` if the judge has already found a key with
-    /// calls that no order explains.
+    /// Returns a contradiction between a call on `key` and the key's final state `left`: no order contains the call and
+    /// leaves this state. Returns `None` if the stored facts show no such contradiction, or if the judge has already
+    /// found a key with calls that no order explains.
     pub(crate) fn clash_left(&self, key: u32, left: Presence) -> Option<Clash>
         ensures found { IfSome result (λ c. (self.now.failed ≡ None) × IsFoundLeft key (facts_for self.now.states key) left c) }
         ensures missed { result ≡ None → self.now.failed ≡ None → left ≡ other (facts_for self.now.states key).was

@@ -14,8 +14,8 @@ use Rattle.lset_steps.proofs.Memory.{Memory}
 use Rattle.lset_steps.proofs.QuietMove.{chain_on}
 use Rattle.lset_steps.proofs.Replies.{Adding, Removing, decided_cases, absent_between, ceiling_fits}
 
--- At the end of its walk, a call has a reply that is correct now, or it will add or remove its key and `Adding` or
--- `Removing` holds.
+-- At the end of its walk, a call either has a reply that is correct now, or will add or remove its key. In the second
+-- case, `Adding` or `Removing` holds.
 pub decides : {marks : Bool} {sz : Sizes} {ws : List ℕ} {used : ℕ → ℕ} (m : Memory marks sz ws used) (t : ℕ) {pred curr : ℕ}
     (rows : Targets) (c : ℕ) (l : Local) → InChain (view sz ws used) pred → pred ≢ 1 → node_link ws pred ≡ 2 * curr
     → node_key ws pred < target l.call → node_link ws curr % 2 ≡ 0 → c ≡ node_key ws curr → target l.call ≤ c

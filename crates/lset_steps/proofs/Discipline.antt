@@ -71,8 +71,8 @@ pub record StepOf (T : Table) (marks : Bool) (At : Outline) (sz : Sizes) (t : �
   pub own : At sz.quota t vs (first t) (suc now) (view sz words' used') (done t || is_change effect) local'
   pub others : (u : ℕ) → u < sz.threads → u ≢ t → At sz.quota u vs (first u) (suc now) (view sz words' used') (done u) (locals u)
 
--- Holds if, for some `first`, `now` and `done`, the thread's assertion in the proof outline, at its row of the step
--- table, is true in view `v` (the list's nodes and locks).
+-- Holds if, for some `first`, `now` and `done`, the assertion of the proof outline at the thread's row of the step
+-- table is true in view `v` (the list's nodes and locks).
 abbrev pub Before : Outline → ℕ → ℕ → (ℕ → View) → View → Local → Type 0
 Before At q t vs v l = (first : ℕ) × (now : ℕ) × (done : Bool) × At q t vs first now v done l
 

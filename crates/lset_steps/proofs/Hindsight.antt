@@ -1,6 +1,6 @@
--- Hindsight (after O'Hearn and others): if a node was in the chain at some moment of a call, then at some moment of the
--- call it was in the chain with the link that it has now. Therefore the result of a walk without locks was true at some
--- moment of the call.
+-- Hindsight (after O'Hearn and others): suppose that a node was in the chain at some moment of a call. Then it was in
+-- the chain with its present link at some moment of the call. Therefore the result of a walk without locks was true at
+-- some moment of the call.
 use Rattle.std.proofs.Common.{◌≡◌, ◌≢◌, ℕ, zero, suc, ◌+◌, ◌-◌, ◌/◌, ◌%◌, ◌<◌, ◌≤◌, ◌⊎◌, inl, inr, [], sym, refl, ap, subst, ◌∙◌, arith}
 use Rattle.lset_steps.specs.Chain.{View, InChain, IsOrdered, Seen}
 use Rattle.lset_steps.proofs.Moves.{KeepsNodes, Course, InPast, Had, Lacked}
@@ -90,8 +90,8 @@ abbrev pub seen_on : (vs : ℕ → View) (first now later b l : ℕ) → now ≤
 seen_on vs first now later b k l s =
     record { at = s.at; from = s.from; upto = (let u : s.at ≤ now = s.upto in omega arith); in_chain = s.in_chain; link = s.link }
 
--- If the key `k` is between the keys of two nodes, and the walk saw a link from one of them to the other, the set
--- lacked `k` at some moment of the call.
+-- Suppose that the key `k` is between the keys of two nodes, and that the walk saw a link from the first node to the
+-- second. Then the set lacked `k` at some moment of the call.
 pub lacked_between : (vs : ℕ → View) (n first now a l k : ℕ) → Course vs n → now ≤ n → a ≢ 1 → Seen vs first now a l
     → (vs now).key a < k + 1 → k + 1 < (vs now).key (l / 2) → Lacked vs first now k
 lacked_between vs n first now a l k r le na s lo hi =

@@ -28,7 +28,8 @@ module _ (marks : Bool) (v w : View) (ord : IsOrdered v) where
   move-goes ch (clears pred curr q m) = unlink-goes v w ord pred curr q
   move-goes ch (removes pred curr k y q m u e) = unlink-goes v w ord pred curr q
 
-  -- A move changes the keys of the set exactly by the change `ch` that it declares.
+  -- A move (a change of the list's nodes in one step) changes the keys of the set exactly by the change `ch` that it
+  -- declares.
   pub move-changed : (ch : Option (Key × Bool)) → Move marks v w ch → Changed ch v w
   move-changed ch (quiet q) = λ j. (quiet_content v w ord q j, quiet_content w v (quiet-ordered v w ord q) (quiet_back v w q) j)
   move-changed ch (inserts pred own k q) = (

@@ -129,8 +129,8 @@ pub record At22 (vs : ℕ → View) (first now k curr : ℕ) : Type 0 where
   pub found : (vs past.at).key curr ≡ k + 1
 
 -- The assertion of a `ceiling` of key `k` at row 25 of the step table, before it loads the mark of `curr`. The node
--- `curr` was in the chain at some moment since the call began, and has the key word `ckey`, which is not smaller than
--- the key word of `k`.
+-- `curr` was in the chain at some moment since the call began. Its key word is `ckey`, which is not smaller than the
+-- key word of `k`.
 pub record At25 (vs : ℕ → View) (first now k curr ckey : ℕ) : Type 0 where
   pub past : InPast vs first now curr
   pub walk : At21 vs first now k curr

@@ -42,8 +42,8 @@ pub due_on : (done : Bool) (q : ℕ) (vs : ℕ → View) (first now t : ℕ) (ca
 due_on true q vs first now t call r d = d
 due_on false q vs first now t call r d = fitted_on q vs first now (suc now) t call r (omega arith) d
 
--- Holds if a call that is about to release its locks has a correct reply or, if it has no reply yet (`None`), has
--- changed nothing and will start again.
+-- Holds for a call that is about to release its locks in two cases: its reply is correct, or it has no reply yet
+-- (`None`), has changed nothing, and will start again.
 abbrev pub Outcome : Bool → ℕ → (ℕ → View) → ℕ → ℕ → ℕ → Call → Option Reply → Type 0
 Outcome done q vs first now t call None = done ≡ false
 Outcome done q vs first now t call (Some reply) = Due done q vs first now t call reply

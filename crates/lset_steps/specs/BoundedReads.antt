@@ -47,8 +47,8 @@ pub record HasPassed (T : Table) (op : Opening) (es : ℕ → Event) (k t a l : 
   pub loads : T.next (local_of (state_at T op es at) t) ≡ Load (link_index a)
   pub read : seen_next T (state_at T op es at) t ≡ l
 
--- Each node that a `contains` or a `ceiling` passes was in the chain, with the link word that the call saw, at some
--- moment from the start of the call to the load.
+-- Each node that a `contains` or a `ceiling` passes was in the chain at some moment between the start of the call and
+-- the load. At this moment, the node had the link word that the call saw.
 abbrev pub WalkWasInChain : Table → Type 0
 WalkWasInChain T = (op : Opening) (last k t a l : ℕ) (es : ℕ → Event) → Run T op es last → k ≤ last
     → IsRead (last_call (log_of T op es) t k) → (p : HasPassed T op es k t a l)

@@ -60,8 +60,8 @@ pub record StateLaws (marks : Bool) (sz : Sizes) (s : State) : Type 0 where
   pub marked : UnmarkedInChain marks (view_of sz s)
   pub unmarked : marks ≡ false → (i : ℕ) → i < node_count sz → (view_of sz s).link i % 2 ≡ 0
 
--- Holds if the action of thread t uses locks properly. The action writes a lock word only to take the lock, by an
--- exchange of 0 for t + 1, or to release a lock that t holds, by a store of 0.
+-- Holds if the action of thread t uses locks properly. The action can take a lock, by an exchange of 0 for t + 1. It
+-- can release a lock that t holds, by a store of 0. It does not write a lock word in any other way.
 abbrev pub LockUse : List ℕ → ℕ → Action → Type 0
 LockUse ws t (Load w) = Unit {0}
 LockUse ws t (Store w v) = IsLockWord w → (v ≡ 0) × (slice_index ws w ≡ t + 1)
@@ -122,8 +122,8 @@ pub record Lawful (T : Table) : Type 0 where
   pub unlinked_stays : (op : Opening) (last j k i : ℕ) (es : ℕ → Event) → Run T op es last → j ≤ k → k ≤ last
       → (views T op es j).published i
       → UnlinkedStays T.marks (views T op es j) (views T op es k) i
-  -- If a node is in the chain at moment `j`, then at some moment from `j` to a later moment `k`, it is in the chain
-  -- with the link that it has at `k`.
+  -- Suppose that a node is in the chain at moment `j`, and has some link at a later moment `k`. Then at some moment
+  -- from `j` to `k`, the node is in the chain with this link.
   pub seen_before : (op : Opening) (last j k b : ℕ) (es : ℕ → Event) → Run T op es last → j ≤ k → k ≤ last
       → InChain (views T op es j) b
       → Seen (views T op es) j k b ((views T op es k).link b)

@@ -90,8 +90,8 @@ abbrev pub FrozenNodes : Table → Type 0
 FrozenNodes T = (op : Opening) (last k i : ℕ) (es : ℕ → Event) → Run T op es last → k ≤ last → (views T op es k).published i
     → Freezes T op last es k i
 
--- [Seen in the past]: if a node was in the chain at moment j, then at some moment from j to a later moment k, it was
--- in the chain with the link word that it has at k.
+-- [Seen in the past]: suppose that a node was in the chain at moment j, and has some link word at a later moment k.
+-- Then at some moment from j to k, the node was in the chain with this link word.
 abbrev pub SeenInThePast : Table → Type 0
 SeenInThePast T = (op : Opening) (last j k b : ℕ) (es : ℕ → Event) → Run T op es last → j ≤ k → k ≤ last
     → InChain (views T op es j) b → Seen (views T op es) j k b ((views T op es k).link b)

@@ -10,8 +10,8 @@ use Rattle.lset_steps.specs.declared.Fed.{Fed}
 use Rattle.lset_steps.specs.Steps.{Table}
 use Rattle.lset_steps.specs.ReadRows.{begun_reading, continued, read_key, read_mark, ceiling_key, ceiling_mark}
 
--- Holds if, at row `pc` of the step table, `acts` returns the thread's next action, `feeds` returns the state and the
--- reply after this action, and `tells` returns the change of the set.
+-- Describes row `pc` of a step table. Holds if `acts` returns the thread's next action, `feeds` the state and the reply
+-- after this action, and `tells` the change of the set.
 abbrev pub Does : Table → ℕ → (Local → Action) → (Local → ℕ → Fed) → (Local → ℕ → Option (Key × Bool)) → Type 0
 Does T pc acts feeds tells = (l : Local) → l.pc ≡ pc
     → (T.next l ≡ acts l) × ((seen : ℕ) → (T.feed l seen ≡ feeds l seen) × (T.effect l seen ≡ tells l seen))

@@ -18,8 +18,9 @@ use Rattle.lset_steps.specs.declared.Event.{Event}
 use Rattle.lset_steps.specs.declared.Event.TheVariants.{Begin, Go}
 
 -- A machine: the algorithm of a list-based set, as a table of steps. `begin` returns a thread's state at the start of a
--- call, `next` the thread's next access to a word, `feed` the state and reply after the access, and `effect` the key
--- that the step adds or removes. `marks` is true if the list marks nodes before it unlinks them.
+-- call. `next` returns the thread's next access to a word. `feed` returns the state and the reply after the access.
+-- `effect` returns the key that the step adds or removes. `marks` is true if the list marks nodes before it unlinks
+-- them.
 pub record Table : Type 0 where
   pub marks : Bool
   pub begin : Call → Local → Local

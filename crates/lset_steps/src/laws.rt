@@ -59,8 +59,8 @@ pub fn frozen_nodes<M: Machine>()
     ensures { FrozenNodes M.table }
 {}
 
-/// Lemma: if a node was in the chain at some moment, then any link read from it later is a link that the node had at
-/// that moment or later, while it was in the chain. (O'Hearn and others' hindsight.)
+/// Lemma: suppose that a node was in the chain at some moment, and has some link later. Then at that moment or between
+/// these two moments, the node was in the chain with this link. (O'Hearn and others' hindsight.)
 pub fn seen_in_the_past<M: Machine>()
     ensures { SeenInThePast M.table }
 {}
@@ -111,7 +111,7 @@ pub fn listed_content<M: Machine>()
     ensures { ListedContent M.table }
 {}
 
-/// Lemma: in a list with reads that take no locks (`OpenReads`), each step of a `contains` is a load, and a `contains`
+/// Lemma: in a list with reads that take no locks (`OpenReads`), each step of a `contains` is a load. A `contains`
 /// takes at most `bound` steps, whatever the other threads do. (Herlihy and Shavit's wait-free `contains`.)
 pub fn bounded_reads<M: OpenReads>()
     ensures { BoundedReads M.table }

@@ -406,8 +406,7 @@ impl<M: Machine> World<M> {
     }
 
     /// Executes the next step of a thread that is at row `PC` of the step table. Since `PC` is a constant, the compiler
-    /// keeps only the code of this row, and the step writes only the fields of the thread's state that this row
-    /// changes.
+    /// keeps only the code of this row. The step writes only those fields of the thread's state that this row changes.
     #[inline(always)]
     fn go_at<const PC: u8>(&mut self, t: u32) -> Told
         requires call { Enabled self.old.state (Event.Go t) }

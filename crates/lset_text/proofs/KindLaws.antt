@@ -66,8 +66,8 @@ line_found_lacks v none pieces Good ks line x known e =
     let found = line_found v none pieces (λ y. Lacks 10 (line_of (pieces y))) ks line x (lacks_too v pieces Good ks known) e in
     subst (Lacks 10) (sym found.0) found.1
 
--- Holds if the value `x` can be read from a line of one of these kinds, and this is the first kind with a form that
--- matches the spelling of `x`.
+-- Holds if the value `x` can be read from a line of one of these kinds. This kind must be the first with a form (a list
+-- of fields) that matches the spelling of `x`.
 abbrev pub IsMade : {X : Type 0} → Version → (X → List (List ℕ)) → List (LineKind X) → X → Type 0
 IsMade v pieces [] x = ⊥
 IsMade v pieces (k ∷ ks) x =

@@ -73,7 +73,7 @@ lock_index node = 5 + 3 * node
 abbrev pub slot_node : ℕ → ℕ → ℕ → ℕ
 slot_node quota thread slot = 2 + thread * quota + slot
 
--- Returns the number of the node that has opening key `i`. The nodes of opening keys follow all slots.
+-- Returns the number of the node that has opening key `i`. The nodes of opening keys follow all slots (nodes for adds).
 abbrev pub opening_node : Sizes → ℕ → ℕ
 opening_node s i = 2 + s.threads * s.quota + i
 
