@@ -59,8 +59,8 @@ pub fn frozen_nodes<M: Machine>()
     ensures { FrozenNodes M.table }
 {}
 
-/// Lemma: suppose that a node was in the chain at some moment, and has some link later. Then at that moment or between
-/// these two moments, the node was in the chain with this link. (O'Hearn and others' hindsight.)
+/// Lemma: suppose that a node was in the chain at some moment j, and has some link at a later moment k. Then at some
+/// moment from j to k, the node was in the chain with this link. (O'Hearn and others' hindsight.)
 pub fn seen_in_the_past<M: Machine>()
     ensures { SeenInThePast M.table }
 {}
