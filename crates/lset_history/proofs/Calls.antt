@@ -95,8 +95,8 @@ pub if_some : {A : Type 0} (o : Option A) (P : A → Type 0) → ((x : A) → o 
 if_some None P f = tt
 if_some (Some x) P f = f x refl
 
--- Holds if `xs` are the calls of the run after `k` events. Each call agrees with the log. The list lacks no pending
--- call, and no call that has changed the set.
+-- Holds if `xs` are the calls of the run after `k` events. Each call agrees with the log. The list contains each
+-- pending call and each call that has changed the set.
 pub record Calls (r : Run) (k : ℕ) (xs : List TracedCall) : Type 0 where
   pub each : All (Traced r k) xs
   pub pairs : AllPairs Later xs

@@ -14,8 +14,8 @@ pub record Grammar (S : Type 0) : Type 0 where
   pub step : S → List ℕ → Result S Cause
   pub ends : S → Result S Cause
 
--- Reads lines, starting in the state `s`. `line` is the number of the first line. The last part is the text after the
--- last newline, and must be empty.
+-- Reads a text that was cut at its newlines, starting in the state `s`. `line` is the number of the first line. The
+-- last part of the text comes after the last newline, and must be empty.
 unfoldable pub lines_from : {S : Type 0} → Grammar S → ℕ → S → List (List ℕ) → Result S LineFault
 lines_from g line s [] = map_fault (fault line) (g.ends s)
 lines_from g line s (rest ∷ []) = map_fault (fault line) (if length rest == 0 then g.ends s else Err NotEnded)
