@@ -30,8 +30,8 @@ pub enum Cause {
     TooMany,
     /// The key is not above the opening key before it: `opening 9` twice.
     Opening,
-    /// The call contradicts the calls above it: `call 1 0 add 7 8 9 true` below `call 0 0 add 5 1 8 true`. No two
-    /// calls of a history can begin or end at the same moment (here 8).
+    /// The call contradicts the calls above it: `call 1 0 add 7 8 9 true` below `call 0 0 add 5 1 8 true`, since both
+    /// calls use moment 8.
     History,
     /// The line has no newline at its end, or the text ends too early: a report or a recording without `end`.
     NotEnded,
