@@ -1,4 +1,4 @@
--- Proof that CoarseList satisfies `Lawful`, the law of step machines, in every run.
+-- Proof that CoarseList satisfies `Lawful`, the properties that each list has in every run.
 pub mod Outline
 use Rattle.lset_steps.specs.Laws.{Lawful}
 use Rattle.lset_steps.proofs.Discipline.{lawful_of}

@@ -23,8 +23,8 @@ const TARGETS: Targets = Targets {
     leaves: 10,
 };
 
-/// Returns the next word access of a pending call. The program counter `pc` is the row of the step table. The numbers
-/// in `local` must be small (`IsSmall`), as they are in every run.
+/// Returns the next access of a pending call to a shared word. The program counter `pc` is the row of the step table.
+/// The numbers in `local` must be small (`IsSmall`), as they are in every run.
 #[inline(always)]
 pub fn next_action(local: &Local) -> Action
     requires { IsSmall local.now }
@@ -43,8 +43,8 @@ pub fn next_action(local: &Local) -> Action
     }
 }
 
-/// Returns the thread's private state after it has read the key word `seen`. If the key is smaller than the call's,
-/// the walk continues. Otherwise the call has a reply or will change the set.
+/// Returns the thread's private state after it has read `seen`, the key of `curr`. If this key is smaller than the
+/// call's, the walk continues. Otherwise the call has a reply or will change the set.
 #[inline(always)]
 fn at_key(local: &Local, seen: u64) -> Local
     ensures { result ≡ at_key seen local.now }

@@ -28,14 +28,15 @@ use Rattle.lset_steps.proofs.Turns.Turn.{passes, changes, answers}
 use Rattle.lset_steps.specs.Rows.{decided_on, goes_to, own_slot}
 use Rattle.lset_coarse.specs.Coarse.{coarse, targets}
 
--- The protocol of CoarseList: as long as another thread holds the lock, a step of thread `t` changes neither the words
--- nor the numbers of used slots (nodes for adds).
+-- Holds if a step of thread `t` follows the protocol of CoarseList. The step is an allowed access to a shared word
+-- (`WordStep`). In addition, while another thread holds the lock, the step changes neither the words nor the numbers of
+-- used slots (nodes for adds).
 abbrev pub LeavesHolder : Sizes → ℕ → List ℕ → (ℕ → ℕ) → Action → List ℕ → (ℕ → ℕ) → Option (Key × Bool) → Type 0
 LeavesHolder sz t ws used a ws' used' change = WordStep false sz t ws used a ws' used' change
     × ((u : ℕ) → u ≢ t → slice_index ws 0 ≡ u + 1 → (ws' ≡ ws) × (used' ≡ used))
 
--- Holds if two views (the list at two moments) agree on everything that the holder of the lock relies on: keys, links,
--- the lock, and the numbers of used slots (nodes for adds).
+-- Holds if the list has the same keys, links, lock and numbers of used slots (nodes for adds) in two states v and w.
+-- The holder of the lock relies on these.
 pub record Same (v w : View) : Type 0 where
   pub keys : w.key ≡ v.key
   pub links : w.link ≡ v.link
@@ -61,8 +62,8 @@ one_lock = record {
   still = λ v q u e. record { keys = refl; links = refl; list_lock = refl; used = refl };
 }
 
--- The thread holds the lock (`me` is its number plus 1). Node pred is in the chain and has a smaller key than the
--- call's, and curr is the node after pred.
+-- Holds if the thread with number `me` - 1 holds the list's lock, and its walk is at node pred of the chain. Pred's key
+-- is smaller than `key`, and curr is the node after pred.
 pub record Walking (v : View) (me key pred curr : ℕ) : Type 0 where
   pub mine : v.list_lock ≡ me
   pub at : InChain v pred
@@ -89,7 +90,7 @@ pub data At (q t : ℕ) (vs : ℕ → View) (first now : ℕ) (v : View) (done :
   at10 : l.pc ≡ 10 → v.list_lock ≡ t + 1 → (r : Reply) → l.reply ≡ Some r → Due done q vs first now t l.call r
       → At q t vs first now v done l
 
--- If no link changes, each piece of the chain stays the same.
+-- If no link changes, each segment of the chain stays the same.
 segment_same : (v w : View) → w.link ≡ v.link → (i j : ℕ) (ns : List ℕ) → Segment v i ns j → Segment w i ns j
 segment_same v w e i j [] x = x
 segment_same v w e i j (a ∷ ns) x = (x.0, x.1, segment_same v w e (w.link i / 2) j ns (rw e x.2))
