@@ -25,7 +25,7 @@ use Rattle.lset_steps.proofs.Turns.{Turn, Follows, node_locks, locks_nodes, due_
 use Rattle.lset_steps.proofs.Turns.Turn.{passes, changes, answers}
 use Rattle.lset_fine.specs.Fine.{fine, targets}
 
--- The assertion of a thread that holds the locks of both pred and curr.
+-- Holds if thread t holds the locks of pred and of curr, the node after pred. Pred's key is smaller than the call's.
 abbrev Window : View → ℕ → Local → Type 0
 Window v t l = Between v t (target l.call) l.pred l.curr
 
