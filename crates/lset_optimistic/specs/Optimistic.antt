@@ -35,8 +35,8 @@ next_action l =
     else if l.pc == 14 then Store (lock_index l.pred) 0
     else Store (lock_index l.curr) 0
 
--- Returns the thread's private state after it has loaded the key word of curr. If the key is smaller than the call's,
--- the walk continues. Otherwise the call takes the locks.
+-- Returns the thread's private state after it has loaded curr's key. If this key is smaller than the call's, the walk
+-- continues. Otherwise the call takes the locks.
 abbrev pub at_key : ℕ → Local → Local
 at_key seen l = if nat_lt seen (target l.call) then record l { pc = 3; ckey = seen } else record l { pc = 4; ckey = seen }
 
@@ -50,8 +50,8 @@ at_locks l = if l.pred == 0 then record l { pc = 8; node = 0 } else record l { p
 abbrev pub gives_up : Local → Local
 gives_up l = record l { pc = 14; reply = None }
 
--- Returns the thread's private state after the second walk has loaded the key word of `node`. Validation fails if the
--- key is greater than pred's. If `node` is pred, the second walk has arrived.
+-- Returns the thread's private state after the second walk has loaded the key of `node`. Validation fails if this key
+-- is greater than pred's. If `node` is pred, the second walk has arrived.
 abbrev pub at_node : ℕ → Local → Local
 at_node seen l =
     if nat_lt l.pkey seen then gives_up l

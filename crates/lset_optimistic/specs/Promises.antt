@@ -1,6 +1,6 @@
--- Laws of OptimisticList, in addition to the laws of all machines. In all of them, `op` states the threads, quota and
--- opening keys of the set, `es` are the events of a run of `last` events, `t` is a thread, and `k` is a moment (the
--- state after `k` events).
+-- Laws of OptimisticList, in addition to the laws of all lists. In all of them, `op` states the threads, the quota and
+-- the keys at the start, and `es` are the events of a run of `last` events. `t` is a thread, and moment `k` is the
+-- state after `k` events.
 use Rattle.std.specs.Prelude.{◌≡◌, ℕ, ◌+◌, ◌/◌, ◌<◌, ◌≤◌, ◌⊎◌, false, Some}
 use Rattle.lset_words.specs.Words.{lock_index, Opening}
 use Rattle.lset_words.specs.declared.Call.{Call}
@@ -15,16 +15,16 @@ use Rattle.lset_steps.specs.Chain.{View, InChain, FitsIn}
 use Rattle.lset_steps.specs.Laws.{views}
 use Rattle.lset_optimistic.specs.Optimistic.{optimistic}
 
--- Returns the private state of thread `t` at moment `k`. `world_at` returns the nodes and locks of the list at this
--- moment.
+-- Returns the private state of thread `t` at moment `k` (after `k` events).
 abbrev pub held_at : Opening → (ℕ → Event) → ℕ → ℕ → Local
 held_at op es k t = local_of (state_at optimistic op es k) t
 
+-- Returns the nodes and locks of the list at moment `k` (after `k` events).
 abbrev pub world_at : Opening → (ℕ → Event) → ℕ → View
 world_at op es k = views optimistic op es k
 
--- Holds if the second walk of a call is in progress: it has reached `node`, and the thread loads the link (row 6 of
--- the step table) or the key (row 7) of this node next.
+-- Holds if the second walk of a call is in progress. The walk has reached `node`, and next loads its link (row 6 of the
+-- step table) or its key (row 7).
 abbrev pub IsWalking : Local → Type 0
 IsWalking l = (l.pc ≡ 6) ⊎ (l.pc ≡ 7)
 
@@ -36,7 +36,8 @@ pub record HasArrived (l : Local) : Type 0 where
   pub upto : l.pc ≤ 14
   pub there : l.node ≡ l.pred
 
--- Holds if thread `t`, in the event after moment `i`, releases the lock of node `a` by a store of 0.
+-- Holds if event number `i` (counted from 0) is a step in which thread `t` releases the lock of node `a`, by a store of
+-- 0.
 pub record GivesBack (op : Opening) (es : ℕ → Event) (i t a : ℕ) : Type 0 where
   pub step : es i ≡ Go t
   pub stores : optimistic.next (held_at op es i t) ≡ Store (lock_index a) 0
@@ -46,8 +47,8 @@ pub record IsLockedInChain (v : View) (t a : ℕ) : Type 0 where
   pub in_chain : InChain v a
   pub mine : v.lock a ≡ t + 1
 
--- Holds if node a was in the chain at some moment from `first` to `now`, and thread t has held the lock of pred since
--- then. Node a itself could have left the chain.
+-- Holds if node a was in the chain at some moment from `first` to `now` (a moment is the number of events so far).
+-- Thread t has held the lock of pred since then. Node a itself can have left the chain in the meantime.
 pub record WasInChain (vs : ℕ → View) (first now t pred a : ℕ) : Type 0 where
   pub at : ℕ
   pub from : first ≤ at
@@ -55,15 +56,15 @@ pub record WasInChain (vs : ℕ → View) (first now t pred a : ℕ) : Type 0 wh
   pub in_chain : InChain (vs at) a
   pub locked : (i : ℕ) → at ≤ i → i ≤ now → (vs i).lock pred ≡ t + 1
 
--- The laws of the second walks that thread t makes in a run.
+-- What is true of the second walks that thread t makes in a run.
 pub record WalksAreValid (op : Opening) (last t : ℕ) (es : ℕ → Event) : Type 0 where
   -- A second walk can pass nodes that are being unlinked. But each node that the walk reaches was in the chain at some
-  -- moment of the call, and the thread has held the lock of pred since then.
+  -- time during the call, and the thread has held the lock of pred since then.
   pub passes : (k : ℕ) → k ≤ last → IsWalking (held_at op es k t)
       → WasInChain (views optimistic op es) (begun_at (log_of optimistic op es) t k) k t (held_at op es k t).pred
       (held_at op es k t).node
-  -- Suppose that a second walk has arrived at pred at moment `j`. From this moment until the thread releases pred's
-  -- lock, pred is in the chain and the thread holds the lock.
+  -- Suppose that a second walk has arrived at pred after `j` events. From then until the thread releases pred's lock,
+  -- pred is in the chain and the thread holds the lock.
   pub arrives : (j k : ℕ) → j ≤ k → k ≤ last → HasArrived (held_at op es j t)
       → ((i : ℕ) → j ≤ i → i < k → GivesBack op es i t (held_at op es j t).pred → ⊥)
       → IsLockedInChain (world_at op es k) t (held_at op es j t).pred
@@ -71,14 +72,15 @@ pub record WalksAreValid (op : Opening) (last t : ℕ) (es : ℕ → Event) : Ty
   -- its second walk has arrived at pred.
   pub decides : (k : ℕ) → k ≤ last → 8 ≤ (held_at op es k t).pc → (held_at op es k t).pc ≤ 13 → HasArrived (held_at op es k t)
 
--- [Validated walk]: if the second walk arrives at pred, then pred is in the chain until the thread releases pred's
--- lock, even if the walk has passed nodes that were being unlinked.
+-- [Validated walk]: once the second walk has arrived at pred, pred is in the chain until the thread releases pred's
+-- lock. This holds even if the walk has passed nodes that were being unlinked.
 abbrev pub ValidatedWalk : Type 0
 ValidatedWalk = (op : Opening) (last t : ℕ) (es : ℕ → Event) → Run optimistic op es last → t < op.threads →
     WalksAreValid op last t es
 
--- Holds if, at some moment from `first` to just before `now`, thread `t` loaded pred's link at row 8 of the step
--- table, saw that the link leads to curr, and the reply was correct.
+-- Holds if, at some moment from `first` to just before `now` (a moment is the number of events so far), thread `t`
+-- loaded pred's link at row 8 of the step table. The load saw that the link leads to curr, and the reply was correct at
+-- this moment.
 pub record FitsAtALoad (op : Opening) (es : ℕ → Event) (first now t : ℕ) (call : Call) (reply : Reply) : Type 0 where
   pub at : ℕ
   pub from : first ≤ at
@@ -88,9 +90,9 @@ pub record FitsAtALoad (op : Opening) (es : ℕ → Event) (first now t : ℕ) (
   pub leads : (world_at op es at).link (held_at op es at t).pred / 2 ≡ (held_at op es at t).curr
   pub fits : FitsIn op.quota (world_at op es at) t call reply
 
--- [Optimistic replies fit]: if a call ends without having changed the set, its reply is correct at some moment of the
--- call. At this moment, after its second walk had arrived at pred, the thread saw that pred's link leads to curr (row
--- 8 of the step table).
+-- [Optimistic replies fit]: if a call ends without having changed the set, its reply is correct at some time during the
+-- call. At this time, after its second walk had arrived at pred, the thread saw that pred's link leads to curr (row 8
+-- of the step table).
 abbrev pub OptimisticRepliesFit : Type 0
 OptimisticRepliesFit = (op : Opening) (last k t : ℕ) (es : ℕ → Event) (reply : Reply) → Run optimistic op es last → k < last →
     t < op.threads

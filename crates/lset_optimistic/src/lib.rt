@@ -33,15 +33,16 @@ use lset_words::{Call, HEAD, Key, Kind, Reply};
 #[derive(Clone, Copy)]
 pub struct OptimisticList;
 
-/// Rows of the step table after a walk: where a call adds its key, removes its key, or leaves with its reply.
+/// The rows of the step table where a call continues after its walk: to add its key, to remove its key, or to end with
+/// its reply.
 const TARGETS: Targets = Targets {
     adds: 9,
     removes: 12,
     leaves: 14,
 };
 
-/// Returns the next word access of a pending call. The program counter `pc` is the row of the step table. The numbers
-/// in `local` must be small (`IsSmall`), as they are in every run.
+/// Returns the next access of a pending call to a shared word. The program counter `pc` is the row of the step table.
+/// The numbers in `local` must be small (`IsSmall`), as they are in every run.
 #[inline(always)]
 pub fn next_action(local: &Local) -> Action
     requires { IsSmall local.now }
@@ -65,8 +66,8 @@ pub fn next_action(local: &Local) -> Action
     }
 }
 
-/// Returns the thread's private state after its walk continues from `pred`, the node with key word `pkey`, to the next
-/// node, which the link word `link` leads to.
+/// Returns the thread's private state after its walk continues from `pred` to the next node. `pkey` is the key of
+/// `pred`, and `link` is its link, which leads to the next node.
 #[inline(always)]
 fn walks_on(local: &Local, pred: u64, pkey: u64, link: u64) -> Local
     ensures { result ≡ record local.now { pc = 2; pred = pred; pkey = pkey; curr = link / 2 } }
@@ -80,8 +81,8 @@ fn walks_on(local: &Local, pred: u64, pkey: u64, link: u64) -> Local
     }
 }
 
-/// Returns the thread's private state after it has read the key word `seen`. If the key is smaller than the call's,
-/// the walk continues. Otherwise the call takes the locks.
+/// Returns the thread's private state after it has read `seen`, the key of `curr`. If this key is smaller than the
+/// call's, the walk continues. Otherwise the call takes the locks.
 #[inline(always)]
 fn at_key(local: &Local, seen: u64) -> Local
     ensures { result ≡ at_key seen local.now }
@@ -120,8 +121,8 @@ fn gives_up(local: &Local) -> Local
     }
 }
 
-/// Returns the thread's private state after the second walk has read the key word `seen`. Validation fails if the walk
-/// has passed pred, the node that the first walk found. If the walk is at pred, it has arrived.
+/// Returns the thread's private state after the second walk has read the key `seen`. Validation fails if the walk has
+/// passed pred, the node that the first walk found. If the walk is at pred, the walk has arrived.
 #[inline(always)]
 fn at_node(local: &Local, seen: u64) -> Local
     ensures { result ≡ at_node seen local.now }
