@@ -1,4 +1,4 @@
--- Proof that LazyList satisfies the law of a machine in every run.
+-- Proof that LazyList satisfies `Lawful`, the properties that each list has in every run.
 pub mod Outline
 use Rattle.std.specs.Prelude.{true}
 use Rattle.lset_steps.specs.Laws.{Lawful}

@@ -37,20 +37,23 @@ next_action l =
     else if l.pc == 14 then Store (lock_index l.pred) 0
     else read_action l
 
--- Returns the thread's private state after it has loaded the key word of curr. If the key is smaller than the call's,
--- the walk continues. Otherwise the call takes the locks.
+-- Returns the thread's private state after it has loaded curr's key. If this key is smaller than the call's, the walk
+-- continues. Otherwise the call takes the locks.
 abbrev pub at_key : ℕ → Local → Local
 at_key seen l = if nat_lt seen (target l.call) then record l { pc = 3; ckey = seen } else record l { pc = 4; ckey = seen }
 
--- Returns the thread's private state after validation has failed: it has no reply, and releases both locks next.
+-- Returns the thread's private state after validation has failed. The thread has no reply, and releases both locks
+-- next.
 abbrev pub gives_up : Local → Local
 gives_up l = record l { pc = 13; reply = None }
 
 -- Returns the thread's private state after it has loaded the link of pred, with both nodes locked. Validation fails
--- unless the link leads to curr and has no mark. `at_curr` is the state after it has loaded the link of curr.
+-- unless the link leads to curr and has no mark.
 abbrev pub at_pred : ℕ → Local → Local
 at_pred seen l = if seen == 2 * l.curr then record l { pc = 7 } else gives_up l
 
+-- Returns the thread's private state after it has loaded the link of curr, with both nodes locked. Validation fails if
+-- curr has a mark. Otherwise the call has a reply or will change the set.
 abbrev pub at_curr : ℕ → Local → Local
 at_curr seen l = if seen % 2 == 0 then decided_on targets l.ckey (record l { succ = seen / 2 }) else gives_up l
 

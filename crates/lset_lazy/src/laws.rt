@@ -4,8 +4,8 @@
 ghost use Rattle.lset_lazy.specs.Lazy.{lazy};
 ghost use Rattle.lset_lazy.specs.Rows.{LazyRows};
 
-/// Lemma: states the first row of the step table for each call and, for each row, the thread's access, its private
-/// state after the step, and the change of the set. (Herlihy and Shavit's lazy list.)
+/// Lemma: for each call, states the row of the step table where the call starts. For each row, states the thread's
+/// access to a word, its private state after the step, and the change of the set. (Herlihy and Shavit's lazy list.)
 pub fn rows()
     ensures { LazyRows lazy }
 {}

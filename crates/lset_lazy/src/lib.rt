@@ -21,15 +21,16 @@ use lset_words::{Call, HEAD, Key, Kind, Reply};
 #[derive(Clone, Copy)]
 pub struct LazyList;
 
-/// Rows of the step table after a walk: where a call adds its key, removes its key, or leaves with its reply.
+/// The rows of the step table where a call continues after its walk: to add its key, to remove its key, or to end with
+/// its reply.
 const TARGETS: Targets = Targets {
     adds: 8,
     removes: 11,
     leaves: 13,
 };
 
-/// Returns the next word access of a pending call. The program counter `pc` is the row of the step table. The numbers
-/// in `local` must be small (`IsSmall`), as they are in every run.
+/// Returns the next access of a pending call to a shared word. The program counter `pc` is the row of the step table.
+/// The numbers in `local` must be small (`IsSmall`), as they are in every run.
 #[inline(always)]
 pub fn next_action(local: &Local) -> Action
     requires { IsSmall local.now }
@@ -67,8 +68,8 @@ fn walked_from(pred: u64, local: &Local, seen: u64) -> Local
     }
 }
 
-/// Returns the thread's private state after it has read the key word `seen`. If the key is smaller than the call's,
-/// the walk continues. Otherwise the call takes the locks.
+/// Returns the thread's private state after it has read `seen`, the key of `curr`. If this key is smaller than the
+/// call's, the walk continues. Otherwise the call takes the locks.
 #[inline(always)]
 fn at_key(local: &Local, seen: u64) -> Local
     ensures { result ≡ at_key seen local.now }
