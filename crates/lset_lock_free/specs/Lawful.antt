@@ -1,4 +1,4 @@
--- Proof that LockFreeList satisfies `Lawful`, the law of step machines, in every run.
+-- Proof that LockFreeList satisfies `Lawful`, the properties that each list has in every run.
 pub mod Outline
 use Rattle.std.specs.Prelude.{true}
 use Rattle.lset_steps.specs.Laws.{Lawful}

@@ -32,19 +32,19 @@ next_action l =
     else if l.pc == 10 then Exchange (link_index l.pred) (2 * l.curr) (2 * l.succ)
     else read_action l
 
--- Returns the outcome of the step that has loaded the link of curr. If the link has a mark, the call unlinks curr
--- next. Otherwise it loads curr's key next.
+-- Returns the outcome of the step that has loaded the link of curr. If the link has a mark, the call attempts to unlink
+-- curr next. Otherwise the call loads curr's key next.
 abbrev pub at_link : ℕ → Local → Fed
 at_link seen l =
     if seen % 2 == 0 then continued (record l { pc = 4; succ = seen / 2 }) else continued (record l { pc = 3; succ = seen / 2 })
 
--- Returns the outcome of the last step of a walk: the call ends with its reply, or continues at the row of the step
--- table for adding or removing its key.
+-- Returns the outcome of the last step of a walk. The call ends with its reply, or continues at the row of the step
+-- table that adds or removes its key.
 abbrev pub decision_of : Local → Fed
 decision_of l = record { local = l; answer = if l.pc == 0 then l.reply else None }
 
--- Returns the outcome of the step that has loaded the key word of curr. If the key is smaller than the call's, the
--- walk continues. Otherwise the call ends with a reply, or will change the set.
+-- Returns the outcome of the step that has loaded curr's key. If this key is smaller than the call's, the walk
+-- continues. Otherwise the call ends with a reply, or will change the set.
 abbrev pub at_key : ℕ → Local → Fed
 at_key seen l =
     if nat_lt seen (target l.call) then continued (record l { pc = 2; pred = l.curr; curr = l.succ })

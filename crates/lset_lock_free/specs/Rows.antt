@@ -1,4 +1,4 @@
--- The effect of each row of LockFreeList's step table, in terms that all lists share.
+-- The effect of each row of LockFreeList's step table, stated with definitions that all lists share.
 use Rattle.std.specs.Prelude.{ℕ, ◌+◌, ◌*◌, ◌/◌, ◌%◌, Bool, true, false, if◌then◌else◌, Option, Some, None, ◌==◌, nat_lt}
 use Rattle.lset_words.specs.declared.Key.{Key}
 use Rattle.lset_words.specs.declared.Call.{Call}

@@ -4,8 +4,9 @@
 ghost use Rattle.lset_lock_free.specs.LockFree.{lock_free};
 ghost use Rattle.lset_lock_free.specs.Rows.{LockFreeRows};
 
-/// Lemma: states the first row of the step table for each call and, for each row, the thread's access, its private
-/// state after the step, and the change of the set. (Herlihy and Shavit's lock-free list.)
+/// Lemma: for each call, states the row of the step table where the call starts. For each row, states the thread's
+/// access to a word, its private state after the step, and the change of the set. (Herlihy and Shavit's lock-free
+/// list.)
 pub fn rows()
     ensures { LockFreeRows lock_free }
 {}

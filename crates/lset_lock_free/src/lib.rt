@@ -18,20 +18,20 @@ use lset_steps::{Action, Fed, Local, Machine, OpenReads};
 use lset_words::{Call, HEAD, Key, Kind, Reply};
 
 /// The list-based set without locks. To remove a node, an exchange of the node's own link marks it, and an exchange of
-/// the previous node's link then unlinks it. Any call that reaches a marked node can unlink it.
+/// the previous node's link then unlinks it. Any `add` or `remove` that reaches a marked node can unlink the node.
 #[derive(Clone, Copy)]
 pub struct LockFreeList;
 
-/// Rows of the step table after a walk: where a call adds its key or removes its key. A call that changes nothing ends
-/// at once (`leaves`, row 0).
+/// The rows of the step table where a call continues after its walk: to add its key or to remove its key. A call that
+/// changes nothing ends at once (`leaves`, row 0).
 const TARGETS: Targets = Targets {
     adds: 5,
     removes: 8,
     leaves: 0,
 };
 
-/// Returns the next word access of a pending call. The program counter `pc` is the row of the step table. The numbers
-/// in `local` must be small (`IsSmall`), as they are in every run.
+/// Returns the next access of a pending call to a shared word. The program counter `pc` is the row of the step table.
+/// The numbers in `local` must be small (`IsSmall`), as they are in every run.
 #[inline(always)]
 pub fn next_action(local: &Local) -> Action
     requires { IsSmall local.now }
@@ -64,8 +64,8 @@ fn at_node(pred: u64, curr: u64, local: &Local) -> Fed
     })
 }
 
-/// Returns the outcome of the step that has read the link of `curr`. If the link has a mark, the call unlinks `curr`
-/// next. Otherwise it loads the key of `curr` next.
+/// Returns the outcome of the step that has read the link of `curr`. If the link has a mark, the call attempts to
+/// unlink `curr` next. Otherwise the call loads the key of `curr` next.
 #[inline(always)]
 fn at_link(local: &Local, seen: u64) -> Fed
     ensures { result ≡ at_link seen local.now }
@@ -78,8 +78,8 @@ fn at_link(local: &Local, seen: u64) -> Fed
     })
 }
 
-/// Returns the outcome of the last step of a walk: the call ends with its reply, or continues at the row of the step
-/// table for adding or removing its key.
+/// Returns the outcome of the last step of a walk. The call ends with its reply, or continues at the row of the step
+/// table that adds or removes its key.
 #[inline(always)]
 fn decision_of(local: Local) -> Fed
     ensures { result ≡ decision_of local }
@@ -88,8 +88,8 @@ fn decision_of(local: Local) -> Fed
     Fed { local, answer }
 }
 
-/// Returns the outcome of the step that has read the key word `seen`. If the key is smaller than the call's, the walk
-/// continues. Otherwise the call ends with a reply, or will change the set.
+/// Returns the outcome of the step that has read `seen`, the key of `curr`. If this key is smaller than the call's, the
+/// walk continues. Otherwise the call ends with a reply, or will change the set.
 #[inline(always)]
 fn at_key(local: &Local, seen: u64) -> Fed
     ensures { result ≡ at_key seen local.now }

@@ -36,8 +36,8 @@ use Rattle.lset_steps.proofs.Turns.{Turn, due_of, Follows, no_locks}
 use Rattle.lset_steps.proofs.Turns.Turn.{passes, changes, answers, ends}
 use Rattle.lset_lock_free.specs.LockFree.{lock_free, targets, decision_of, at_key, at_link, again, next_action, fed_by, effect_of}
 
--- Holds if there was a moment from `first` to `now` when node `a` was in the chain, `b` was the next node, `P` was
--- true, and thread `t` had made `count` successful adds.
+-- Holds if, at some moment from `first` to `now` (a moment is the number of events so far), node `a` was in the chain,
+-- `b` was the next node, and `P` was true. At this moment, thread `t` had made `count` successful adds.
 pub record Was (vs : ℕ → View) (first now a b t count : ℕ) (P : View → Type 0) : Type 0 where
   pub at : ℕ
   pub from : first ≤ at
@@ -47,12 +47,14 @@ pub record Was (vs : ℕ → View) (first now a b t count : ℕ) (P : View → T
   pub holds : P (vs at)
   pub same_count : (vs at).used t ≡ count
 
--- Holds if, at some moment from `first` to `now`, pred was in the chain with a smaller key than the call's, and curr
--- was the node after pred. `Open` describes curr in the same way: at some such moment, curr was in the chain without a
--- mark, and succ was the node after curr.
+-- Holds if, at some moment from `first` to `now` (a moment is the number of events so far), pred was in the chain, its
+-- key was smaller than the call's, and curr was the node after pred. At this moment, the thread had made `count`
+-- successful adds.
 abbrev pub Link : (ℕ → View) → ℕ → ℕ → ℕ → ℕ → ℕ → ℕ → ℕ → Type 0
 Link vs first now key pred curr t count = Was vs first now pred curr t count (λ v. v.key pred < key)
 
+-- Holds if, at some moment from `first` to `now` (a moment is the number of events so far), curr was in the chain
+-- without a mark, and succ was the node after curr. At this moment, the thread had made `count` successful adds.
 abbrev pub Open : (ℕ → View) → ℕ → ℕ → ℕ → ℕ → ℕ → ℕ → Type 0
 Open vs first now curr succ t count = Was vs first now curr succ t count (λ v. v.link curr % 2 ≡ 0)
 
@@ -86,7 +88,7 @@ pub data At (q t : ℕ) (vs : ℕ → View) (first now : ℕ) (v : View) (done :
       → v.link l.curr ≡ 2 * l.succ + 1 → At q t vs first now v done l
   at_read : Reading vs first now done l → At q t vs first now v done l
 
--- An assertion about the past still holds at the next moment.
+-- An assertion about the past still holds after the next event.
 was_on : {vs : ℕ → View} {first now a b t count count' : ℕ} {P : View → Type 0} → count' ≡ count
     → Was vs first now a b t count P → Was vs first (suc now) a b t count' P
 was_on {now = now} e x = record {
@@ -99,7 +101,7 @@ was_on {now = now} e x = record {
   same_count = x.same_count ∙ sym e;
 }
 
--- If the properties in `Was` hold now, they hold at some moment of the call.
+-- If the properties in `Was` hold now, they hold at some time during the call.
 is_now : {vs : ℕ → View} {first now a b t : ℕ} {v : View} (P : View → Type 0) → vs now ≡ v → first ≤ now → InChain v a
     → v.link a / 2 ≡ b → P v → Was vs first now a b t (v.used t) P
 is_now {vs} {first} {now} {a} {b} {t} {v} P e from i next holds = record {
@@ -217,8 +219,9 @@ module _ (sz : Sizes) (t : ℕ) (vs : ℕ → View) (first now : ℕ) (ws : List
   abbrev Fitting : Reply → Type 0
   Fitting r = FitsSometime sz.quota (contents_of vs) (counts_of vs) first now t l.call r
 
-  -- Suppose that at moment `at` of the call, the set has the call's key if and only if the call found the key. Then
-  -- the call has a reply that is correct at this moment, or it continues at the row for adding or removing its key.
+  -- Suppose that at moment `at` (after `at` events, during the call), the set has the call's key if and only if the
+  -- call found the key. Then the call has a reply that is correct at this moment, or continues at the row for adding or
+  -- removing its key.
   decided_at : (s at : ℕ) → first ≤ at → at ≤ now → (vs at).used t ≡ used t
       → ((s == target l.call) ≡ true → InContent (vs at) (key_of l.call).0)
       → ((s == target l.call) ≡ false → InContent (vs at) (key_of l.call).0 → ⊥)
