@@ -1,5 +1,6 @@
--- Proof for a run that has an account (a record of the effect of each event on the set) and ends with a list of keys:
--- its calls have exactly one order by linearization points, and this order explains the run.
+-- Proof that the calls of a run have exactly one order by linearization points, and that this order explains the run.
+-- The proof assumes that the run has an account (a record of each event's effect on the set), and that a list contains
+-- its final keys.
 use Rattle.std.proofs.Common.{ℕ, List, sym, subst, arith}
 use Rattle.lset_words.specs.declared.history.Placed.{Placed}
 use Rattle.lset_words.specs.Words.{Opening}

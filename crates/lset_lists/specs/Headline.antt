@@ -14,11 +14,12 @@ use Rattle.lset_steps.specs.Chain.{contents_of, counts_of}
 use Rattle.lset_steps.specs.Laws.{views}
 use Rattle.lset_steps.specs.Worlds.{IsContent}
 
--- Returns the keys of a set that opened with `op`, after the calls of this order.
+-- Returns the final keys of a set on which the calls of the history are made one by one, in the given order. `op`
+-- states the keys at the start and the quota.
 abbrev pub keys_left : Opening → List CallRecord → List Placed → List ℕ
 keys_left op history order = (set_left (opening_set op) (map (answered history) order)).keys
 
--- Returns the history of a run after k events: the calls with their starts, ends and replies.
+-- Returns the history of the first k events of a run: the calls with their starts, ends and replies.
 abbrev pub history_of : Table → Opening → (ℕ → Event) → ℕ → List CallRecord
 history_of T op es k = history_at (log_of T op es) k
 
@@ -26,7 +27,7 @@ history_of T op es k = history_at (log_of T op es) k
 pub record ExplainsRun (T : Table) (op : Opening) (es : ℕ → Event) (last : ℕ) (order : List Placed) : Type 0 where
   -- The calls of the run form a history.
   pub history : IsHistory op.threads (history_of T op es last)
-  -- The order linearizes the history of a set that starts with the opening keys.
+  -- The order linearizes the history of a set that contains the opening keys at the start.
   pub linearizes : Linearizes op.quota (opening_set op) (history_of T op es last) order
   -- The keys of the set after the order's calls are the final keys of the run, in increasing order.
   pub content : IsContent (views T op es last) (keys_left op (history_of T op es last) order)
