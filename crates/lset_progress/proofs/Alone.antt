@@ -11,7 +11,7 @@ use Rattle.lset_steps.specs.Laws.{Lawful}
 use Rattle.lset_steps.proofs.MoreEvents.{state_agree}
 use Rattle.lset_progress.specs.Progress.{IsPending, Answers, EndsAlone}
 
--- Returns the events es, but with a step of thread t as the event after moment k.
+-- Returns the events es, except that event number k (counted from 0) is a step of thread t.
 abbrev pub then_go : (ℕ → Event) → ℕ → ℕ → ℕ → Event
 then_go es k t j = if j == k then Go t else es j
 

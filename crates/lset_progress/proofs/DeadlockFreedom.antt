@@ -1,6 +1,7 @@
--- Proof: freedom from livelock implies freedom from deadlock. If a thread's next step is not a failed attempt to take a
--- lock, this remains true until some thread takes a counted step (a step that is not such an attempt). Therefore a fair
--- run has a counted step again and again.
+-- Proof: freedom from livelock implies freedom from deadlock. A step is counted if `calls` is 1 for its call and the
+-- step is not a failed attempt to take a lock. If a thread's next step is not a failed attempt, this remains true until
+-- some thread takes a counted step. Therefore, while a call with `calls` equal to 1 is pending, a fair run has one
+-- counted step after another.
 use Rattle.std.specs.Prelude.{◌≡◌, ◌≢◌, ℕ, ◌+◌, ◌-◌, ◌/◌, ◌%◌, ◌<◌, ◌≤◌, ◌⊎◌, true, false, List, Option, Some, None}
 use Rattle.std.specs.Prelude.{if◌then◌else◌, ◌==◌, nat_lt, slice_index, slice_set, refl}
 use Rattle.std.proofs.Common.{arith, inl, inr, sym, ◌∙◌, ap, subst, zero, suc}
@@ -68,8 +69,8 @@ module _ (T : Table) (law : Lawful T) (S : Shape) (most : Sizes → ℕ) (shows 
   abbrev count : State → Event → ℕ
   count = moves calls T
 
-  -- Holds if, in some number of events after moment k, a counted step ends its call or at least m counted steps are
-  -- taken. A counted step is not a failed attempt to take a lock.
+  -- Holds if, within some number of events after the first k events, a counted step ends its call or at least m counted
+  -- steps are taken. A counted step is not a failed attempt to take a lock.
   abbrev Gather : ℕ → ℕ → Type 0
   Gather m k = (n : ℕ) × (SomeEnds (moves calls T) T op es k n ⊎ (m ≤ steps_among (moves calls T) T op es k n))
 

@@ -24,8 +24,8 @@ by_below P a b {x} {y} this other = elim (below_or_not a b) [
   | inr g ↦ subst P (sym (if_not_below a b g x y)) (other g)
 ]
 
--- A decision of a call has three outcomes. The call continues at the row of the step table for adding a key, at the
--- row for removing a key, or, with its reply, at the row for calls that change nothing.
+-- After its decision, a call continues at one of three rows of the step table: the row that adds a key, the row that
+-- removes a key, or (with its reply) the row for calls that change nothing.
 module _ (P : Local → Type 0) (a d u c : ℕ) (l : Local) (adds : P (goes_to a None l)) (removes : P (goes_to d None l))
     (leaves : (r : Reply) → P (goes_to u (Some r) l)) where
   by_call : (call : Call) (found room : Bool) → P (decided a d u call found room c l)

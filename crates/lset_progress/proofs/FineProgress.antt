@@ -27,8 +27,8 @@ use Rattle.lset_progress.proofs.RowsWithLocks.{Shape, Loads, RowOf, NodeLocks, w
 use Rattle.lset_progress.proofs.RowsWithLocks.{writes, no_lock, pred_only, gave_pred, gave_curr, after_pred}
 use Rattle.lset_progress.proofs.Standing.{Standing, stands}
 
--- Returns a bound on the steps that remain after the next one, if the call runs alone. The list has one number for
--- each row of the step table, from row 0 on.
+-- Returns a bound on the steps that remain after the next one, if the call runs alone. The body lists one bound for
+-- each row of the step table, starting with row 0.
 abbrev left : ℕ → (ℕ → ℕ) → Local → ℕ
 left size key l = slice_index (0 ∷ (4 * size + 1) ∷ (4 * size) ∷ (4 * ahead key size (key l.curr) + 6)
     ∷ (4 * ahead key size (key l.curr) + 5) ∷ (4 * ahead key size (key l.curr) + 4)

@@ -42,7 +42,7 @@ others_keep x t u old (Exchange w o v) d e = elim (after_try x t u old w o v e) 
   | inr z ↦ absurd (d z.2)
 ]
 
--- The proof obligations of a list for this law: a thread holds only the locks that `May` allows for its private state.
+-- What a list must prove for this law: a thread holds only the locks that `May` allows for its private state.
 pub record MayHold (T : Table) (May : Local → ℕ → Type 0) : Type 0 where
   pub rests : (l : Local) (x : ℕ) → l.pc ≡ 0 → May l x → ⊥
   pub steps : (op : Opening) (last k t x : ℕ) (es : ℕ → Event) → Run T op es last → k < last → es k ≡ Go t → t < op.threads

@@ -79,9 +79,8 @@ lazy_marks = record {
   takes_at = takes_out_at;
 }
 
--- The number of steps of an additional walk from the head. A call without a reply makes such a walk after row 14 of
--- the step table. `left` returns, for each row, how many steps remain after the next one in a walk that will pass
--- validation.
+-- Returns the number of steps of an additional walk from the head. A call without a reply makes such a walk after row
+-- 14 of the step table.
 abbrev round : ℕ → ℕ
 round size = 2 * size + 7
 
@@ -93,6 +92,8 @@ again_few : (size : ℕ) (r : Option Reply) → then_again size r ≤ 2 * size +
 again_few size None = omega arith
 again_few size (Some r) = omega arith
 
+-- Returns, for each row of the step table, how many steps remain after the next one. The body lists the numbers of
+-- steps for a walk that will pass validation, starting with row 0.
 abbrev left : ℕ → (ℕ → ℕ) → Local → ℕ
 left size key l = get_or (0 ∷ (2 * size + 6) ∷ (2 * ahead key size (key l.curr) + 9)
     ∷ (2 * ahead key size (key l.curr) + 8) ∷ 8 ∷ 7 ∷ 6 ∷ 5 ∷ 4 ∷ 3 ∷ 2 ∷ 3 ∷ 2 ∷ (1 + then_again size l.reply)
@@ -169,7 +170,7 @@ module _ {sz : Sizes} {ws : List ℕ} {used : ℕ → ℕ} {t : ℕ} {vs : ℕ �
       | inr z ↦ subst Last (sym z.1) (stops (λ x o m. gave_pred o m))
     ]
 
-    -- Each row of the step table for a `contains` or a `ceiling` brings the end of the call closer, as `Loads`
+    -- After each row of the step table for a `contains` or a `ceiling`, fewer steps of the call remain, as `Loads`
     -- requires.
     read : (n : ℕ) {f : Fed} → IsReadRow n → Reads (round size) size (node_key ws) ws (record l { pc = n }) f
         → Loads shape size ws (record l { pc = n }) f

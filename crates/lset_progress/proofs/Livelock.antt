@@ -1,6 +1,7 @@
 -- Proofs by two runs that are written out. In each run, two threads hinder each other forever. In the first run, two
--- adds call a broken list without locks, so this list is not lock-free. In the second run, an add and a remove call a
--- broken list with locks, so this list is free neither from livelock nor from deadlock.
+-- threads add keys to a broken list without locks, which is therefore not lock-free. In the second run, one thread adds
+-- a key and one removes a key. Their list is a broken list with locks, which is therefore free neither from livelock
+-- nor from deadlock.
 use Rattle.std.specs.Prelude.{◌≡◌, ℕ, ◌<◌, Bool, List, [], ◌∷◌, refl}
 use Rattle.std.proofs.Common.{arith, zero, suc}
 use Rattle.lset_words.specs.declared.Call.TheVariants.{Add, Remove}
@@ -11,8 +12,8 @@ use Rattle.lset_progress.specs.DeadlockFreedom.{IsDeadlockFree, moves}
 use Rattle.lset_progress.specs.Wrong.{claiming, yielding, NotLivelockFree, NotLockFree}
 use Rattle.lset_progress.proofs.WrittenRuns.{turn, rounds_never_end, rounds_are_fair}
 
--- The events before those that repeat forever: both threads have walked to the head and the tail, and have written
--- their numbers into the head's lock word, thread 1 last.
+-- The events before those that repeat forever. The walks of both threads have found the head and the tail. Both threads
+-- have written their numbers into the head's lock word, thread 1 last.
 abbrev claims : List Event
 claims = Begin 0 (Add (record { 0 = 3 })) ∷ Go 0 ∷ Go 0 ∷ Go 0 ∷ Begin 1 (Add (record { 0 = 5 })) ∷ Go 1 ∷ Go 1 ∷ Go 1 ∷ Go 0
     ∷ Go 1 ∷ []
@@ -24,7 +25,7 @@ claiming_is_not_lock_free reads most law = rounds_never_end claiming claims (Go 
     (steps_of reads) refl most law
 
 -- The events before those that repeat forever. Thread 0 has added 5. Now thread 0 adds 3 and thread 1 removes 5, and
--- both walks have found the head and the node of 5.
+-- both walks have found the head and the node with key 5.
 abbrev yields : List Event
 yields = Begin 0 (Add (record { 0 = 5 })) ∷ Go 0 ∷ Go 0 ∷ Go 0 ∷ Go 0 ∷ Go 0 ∷ Go 0 ∷ Go 0 ∷ Go 0 ∷ Go 0 ∷ Go 0 ∷ Go 0 ∷ Go 0
     ∷ Begin 0 (Add (record { 0 = 3 })) ∷ Go 0 ∷ Go 0 ∷ Begin 1 (Remove (record { 0 = 5 })) ∷ Go 1 ∷ Go 1 ∷ []

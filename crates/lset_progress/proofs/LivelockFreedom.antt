@@ -31,9 +31,9 @@ is_lock_test x (inr (i, e)) =
     if_other x 0 (omega arith) true (if nat_lt x 5 then false else if x % 3 == 2 then true else false)
     ∙ if_not_below x 5 (omega arith) false (if x % 3 == 2 then true else false) ∙ if_same (x % 3) 2 (omega arith) true false
 
--- The properties of a list's counted calls that the proof of livelock freedom uses. Each call that holds a lock or
--- changes the list is counted. All other calls only read. `calm` is a condition on the words at a step of a counted
--- call, unless the step is a failed attempt to take a lock.
+-- Properties of a list's counted calls, for the proof of livelock freedom. Each call that holds a lock or changes the
+-- list is counted. All other calls only read. `calm` is a condition on the words at a step of a counted call, unless
+-- the step is a failed attempt to take a lock.
 pub record Counts (T : Table) (S : Shape) (calls : Call → ℕ) : Type 0 where
   pub one_or_none : (c : Call) → (calls c ≡ 0) ⊎ (calls c ≡ 1)
   pub late : (op : Opening) (last k t : ℕ) (es : ℕ → Event) → Run T op es last → k ≤ last → t < op.threads
@@ -50,17 +50,17 @@ pub record Counts (T : Table) (S : Shape) (calls : Call → ℕ) : Type 0 where
 
 module _ (T : Table) (law : Lawful T) (S : Shape) (most : Sizes → ℕ) (shows : Shows T S most) (calls : Call → ℕ)
     (counts : Counts T S calls) where
-  -- Holds if m steps are enough for a thread: for the rest of its pending call or, if no step of this call is counted,
-  -- for the longest possible call.
+  -- Holds if m steps are enough for any whole call. Also holds if the thread has a pending call whose steps are
+  -- counted, and m steps are enough for the rest of this call.
   abbrev Fits : Sizes → List ℕ → ℕ → Local → Type 0
   Fits sz ws m l = (most sz ≤ m) ⊎ ((l.pc ≢ 0) × (calls l.call ≡ 1) × Timed S (node_count sz) ws m l)
 
-  -- Holds if m steps are enough for a thread once it has decided what to change: m is at least 5, or the thread has
-  -- already decided and has at most m steps left.
+  -- Holds if m is at least 5, or if the thread's call has already decided what to change and has at most m steps left.
+  -- After such a decision, a call takes at most 5 steps.
   abbrev Owes : ℕ → Local → Type 0
   Owes m l = (5 ≤ m) ⊎ LateBy S m l
 
-  -- Returns an upper bound: one write adds at most this number to the steps that all threads together still need.
+  -- Returns how many steps a single write can add, at most, to the steps that all threads together still need.
   abbrev price : Sizes → ℕ
   price sz = sz.threads * most sz
 

@@ -41,17 +41,18 @@ use Rattle.lset_progress.proofs.ReadProgress.{from_24, from_25}
 use Rattle.lset_progress.proofs.RowsWithLocks.{Shape, TimedBy, Then, Any, Only, at_row, no_time, again, on, stops}
 use Rattle.lset_progress.proofs.Standing.{Standing, stands}
 
--- The number of steps of an additional walk from the head. `left` returns how many steps remain after the next one if
--- all exchanges succeed, for each row of the step table. If an exchange fails, the call walks again.
+-- Returns the number of steps of an additional walk from the head. If an exchange fails, the call makes such a walk.
 abbrev pub round : ℕ → ℕ
 round size = 2 * size + 2
 
+-- Returns, for each row of the step table, how many steps remain after the next one if all exchanges succeed. The body
+-- lists these numbers, starting with row 0.
 abbrev pub left : ℕ → (ℕ → ℕ) → Local → ℕ
 left size key l = get_or (0 ∷ (2 * size + 1) ∷ (2 * rest_by size key l.curr + 4) ∷ (2 * rest_by size key l.curr + 3)
     ∷ (2 * rest_by size key l.curr + 3) ∷ 2 ∷ 1 ∷ 0 ∷ 2 ∷ 1 ∷ 0 ∷ []) l.pc (reads_left size key l)
 
--- The exchanges of the call's walk will succeed if no other thread takes a step. While the walk uses pred, pred is not
--- marked and curr is the node after pred.
+-- Holds if, as long as the walk uses pred, pred is not marked and curr is the node after pred. The exchanges of the
+-- walk then succeed if no other thread takes a step.
 pub record Valid (link : ℕ → ℕ) (l : Local) : Type 0 where
   pub follows : 2 ≤ l.pc → l.pc ≤ 7 → link l.pred ≡ 2 * l.curr
   -- At rows 4 and 9 of the step table, curr is not marked and succ is the next node. At row 8, curr is not marked.
@@ -109,7 +110,7 @@ reads_at size key ws l =
     (λ x m. m, λ z. z, λ z. omega arith, refl, λ v. v.along (omega arith), high_read link _ (λ c d. omega arith), λ c. c)
     l.pc
 
--- Holds if the call ends within n steps if it runs alone: either the exchanges of its walk will succeed, or n is also
+-- Holds if the call ends within n steps when it runs alone. Either the exchanges of its walk will succeed, or n is also
 -- enough for one additional walk.
 abbrev pub Timed : ℕ → (ℕ → ℕ) → List ℕ → ℕ → Local → Type 0
 Timed size key ws n l = TimedBy shape size key (node_link ws) n l
@@ -138,9 +139,9 @@ module _ {sz : Sizes} {ws : List ℕ} {used : ℕ → ℕ} {t : ℕ} {vs : ℕ �
   abbrev size : ℕ
   size = node_count sz
 
-  -- A step with the outcome f ends its call or brings the end of the call closer (`Then`). If the chain had no marked
-  -- node during a `ceiling`, this remains true. k is the private state before the step, and ws' are the words after
-  -- it.
+  -- Holds if a step with the outcome f ends its call or leaves the call with fewer remaining steps (`Then`). If the
+  -- chain had no marked node during a `ceiling`, this remains true. k is the private state before the step, and ws' are
+  -- the words after it.
   abbrev After : Local → List ℕ → Fed → Type 0
   After k ws' f = Then shape size key ws k Any key ws' f
       × (((r : Reply) × (f.answer ≡ Some r)) ⊎ ((23 ≤ k.pc → Plain ws) → 23 ≤ f.local.pc → Plain ws'))
@@ -280,7 +281,8 @@ module _ {sz : Sizes} {ws : List ℕ} {used : ℕ → ℕ} {t : ℕ} {vs : ℕ �
     both : {A B : Type 0} → A → B → A × B
     both a b = (a, b)
 
-    -- Each row of the step table for a `contains` or a `ceiling` brings the end of the call closer, as `From` requires.
+    -- After each row of the step table for a `contains` or a `ceiling`, fewer steps of the call remain, as `From`
+    -- requires.
     read : (n : ℕ) {f : Fed} → IsReadRow n → Reads (round size) size key ws (record l { pc = n }) f → From n ws f
     read n {f} row a = (
       reads_then shape size key ws (reads_at size key ws) (record l { pc = n }) f row a,
@@ -348,7 +350,7 @@ module _ {sz : Sizes} {ws : List ℕ} {used : ℕ → ℕ} {t : ℕ} {vs : ℕ �
   row_of : Row l
   row_of = row (few_by size key l.curr h.registers.curr) h.at
 
--- Lemmas about a thread t with a pending call at moment k of a run.
+-- Lemmas about a thread t with a pending call after the first k events of a run.
 module _ (op : Opening) (last k : ℕ) (es : ℕ → Event) (r : Run lock_free op es last) (upto : k ≤ last) (key : ℕ → ℕ)
     (agrees : SameKeys key (views lock_free op es k)) (t : ℕ) (tn : t < op.threads) where
   abbrev S : State
@@ -372,7 +374,7 @@ module _ (op : Opening) (last k : ℕ) (es : ℕ → Event) (r : Run lock_free o
         ]
       ]
 
--- The call of thread t on a LockFreeList ends within n steps if it runs alone.
+-- Holds if the call of thread t on a LockFreeList ends within n steps when it runs alone.
 abbrev Stage : Sizes → State → ℕ → ℕ → Type 0
 Stage sz s t n = (key : ℕ → ℕ) × SameKeys key (view_of sz s) × Left (node_count sz) key s.words n (local_of s t)
 

@@ -31,7 +31,7 @@ use Rattle.lset_progress.specs.Progress.{IsCeiling, Answers}
 use Rattle.lset_progress.proofs.Rest.{SameKeys}
 use Rattle.lset_progress.proofs.HeadPlain.{the_step, words_are, the_move}
 
--- The invariant of LockFreeList at moment k of a run.
+-- The invariant of LockFreeList after the first k events of a run.
 abbrev pub Known : Opening → ℕ → (ℕ → Event) → Type 1
 Known op k es = Inv true At (sizes op) (views lock_free op es) k (state_at lock_free op es k)
     (λ u. last_at (log_of lock_free op es) u k)
@@ -42,8 +42,8 @@ keeps = discipline_of lock_free (no_locks true) At lock_free_follows
 pub known : (op : Opening) (last k : ℕ) (es : ℕ → Event) → Run lock_free op es last → k ≤ last → Known op k es
 known op last k es r l = inv_at lock_free true At keeps op es last r k l
 
--- The possible changes of the nodes by a step: none, a node is marked (a `remove` then continues at row 10 of the step
--- table), or a marked node is unlinked.
+-- The possible changes of the nodes by a step. A step changes nothing, or marks a node (a `remove` then continues at
+-- row 10 of the step table), or unlinks a marked node.
 pub data Stepped (v w : View) (l' : Local) : Type 0 where
   still : Quiet v w → Stepped v w l'
   marks : (b k : ℕ) → Marks v w b k → l'.pc ≡ 10 → Stepped v w l'

@@ -34,15 +34,15 @@ use Rattle.lset_progress.proofs.RowsWithLocks.{no_time, timed_more}
 use Rattle.lset_progress.proofs.StepTotals.{total, total_less, total_all, total_at, total_step, one_price, put, put_this, put_that}
 use Rattle.lset_progress.proofs.Windows.{Then, some_ends, counted_or_not}
 
--- Holds if m steps are enough for a thread: for the rest of its counted call and, if other threads have changed the
--- nodes of its walk, for one additional walk. If the thread has no counted call, m is at least the maximum for a whole
--- call.
+-- Holds if m steps are enough for any whole call. Also holds if the thread has a pending call whose steps are counted,
+-- and m steps are enough for the rest of this call. The rest includes one additional walk if other threads have changed
+-- the nodes of its walk.
 abbrev Fits : Bool → Sizes → (ℕ → ℕ) → List ℕ → ℕ → Local → Type 0
 Fits reads sz key ws m l = (lock_free_steps sz ≤ m)
     ⊎ ((l.pc ≢ 0) × (counted reads l.call ≡ 1) × Timed (node_count sz) key ws m l)
 
--- Returns an upper bound: one successful exchange adds at most this number to the steps that all threads together
--- still need.
+-- Returns how many steps a single successful exchange can add, at most, to the steps that all threads together still
+-- need.
 abbrev price : Sizes → ℕ
 price sz = sz.threads * round (node_count sz)
 

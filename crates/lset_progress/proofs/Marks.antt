@@ -30,7 +30,7 @@ use Rattle.lset_progress.proofs.HeadPlain.{the_step, words_are, the_move, the_me
 use Rattle.lset_progress.proofs.Paths.{Path, in_chain_of, path_of}
 use Rattle.lset_progress.proofs.ReadProgress.{Plain}
 
--- Holds if some thread is about to unlink node b: it is at row 12 of the step table.
+-- Holds if some thread is about to unlink node b: the thread is at row 12 of the step table.
 pub record TakesOut (threads : ℕ) (locals : ℕ → Local) (b : ℕ) : Type 0 where
   pub by : ℕ
   pub thread : by < threads
@@ -41,14 +41,14 @@ pub record TakesOut (threads : ℕ) (locals : ℕ → Local) (b : ℕ) : Type 0 
 abbrev pub Marked : ℕ → List ℕ → (ℕ → Local) → Type 0
 Marked threads ws locals = (b : ℕ) → Path (node_link ws) 0 b → node_link ws b % 2 ≡ 1 → TakesOut threads locals b
 
--- At row 12 of the step table, just before it unlinks curr, thread t holds the locks of pred and curr, and curr is
--- marked. A thread at row 23 or later executes a `ceiling`.
+-- Holds if, at row 12 of the step table (just before it unlinks curr), thread t holds the locks of pred and curr, and
+-- curr is marked. In addition, a thread at row 23 or later executes a `ceiling`.
 pub record Stands (v : View) (t : ℕ) (l : Local) : Type 0 where
   pub takes_out : l.pc ≡ 12 → Between v t (target l.call) l.pred l.curr × (v.link l.curr ≡ 2 * l.succ + 1)
   pub ceiling : 23 ≤ l.pc → l.call ≡ Ceiling (key_of l.call)
 
--- Proof obligations of a list about its step table: row 11 marks curr while the thread holds both locks, row 12
--- unlinks curr, and only a `ceiling` is at row 23 or later.
+-- What a list must prove about its step table. Row 11 marks curr while the thread holds both locks, row 12 unlinks
+-- curr, and only a `ceiling` reaches row 23 or later.
 pub record Marking (T : Table) (At : Outline) : Type 1 where
   pub lists : T.marks ≡ true
   pub stands : (q t : ℕ) (vs : ℕ → View) (first now : ℕ) (v : View) (done : Bool) (l : Local) → At q t vs first now v done l
@@ -59,7 +59,7 @@ pub record Marking (T : Table) (At : Outline) : Type 1 where
   pub takes_at : (l : Local) (seen : ℕ) (k : Key) → T.effect l seen ≡ Some (k, false) → l.pc ≡ 11
 
 module _ (T : Table) (At : Outline) (follows : Discipline T T.marks At) (rows : Marking T At) where
-  -- The invariant of the list at moment k of a run.
+  -- The invariant of the list after the first k events of a run.
   abbrev Known : Opening → ℕ → (ℕ → Event) → Type 1
   Known op k es = Inv T.marks At (sizes op) (views T op es) k (state_at T op es k)
       (λ u. last_at (log_of T op es) u k)

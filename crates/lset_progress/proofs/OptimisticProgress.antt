@@ -31,9 +31,8 @@ use Rattle.lset_progress.proofs.RowsWithLocks.{Shape, Loads, Stores, RowOf, Node
 use Rattle.lset_progress.proofs.RowsWithLocks.{gave_pred, gave_curr, after_pred, again, goes, on, takes, timed, unlocks, writes}
 use Rattle.lset_progress.proofs.Standing.{Standing, stands}
 
--- The number of steps of an additional walk from the head. A call without a reply makes such a walk after it has
--- released its locks. `left` returns, for each row of the step table, how many steps remain after the next one in a
--- walk that will pass validation.
+-- Returns the number of steps of an additional walk from the head. A call without a reply makes such a walk after it
+-- has released its locks.
 abbrev round : ℕ → ℕ
 round size = 4 * size + 4
 
@@ -45,6 +44,8 @@ again_few : (size : ℕ) (r : Option Reply) → then_again size r ≤ 4 * size +
 again_few size None = omega arith
 again_few size (Some r) = omega arith
 
+-- Returns, for each row of the step table, how many steps remain after the next one. The body lists the numbers of
+-- steps for a walk that will pass validation, starting with row 0.
 abbrev left : ℕ → (ℕ → ℕ) → Local → ℕ
 left size key l = slice_index (0 ∷ (4 * size + 3) ∷ (2 * ahead key size (key l.curr) + 2 * size + 6)
     ∷ (2 * ahead key size (key l.curr) + 2 * size + 5) ∷ (2 * size + 5) ∷ (2 * size + 4)

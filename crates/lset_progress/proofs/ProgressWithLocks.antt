@@ -1,5 +1,5 @@
--- Proof of the laws of progress for a list with locks, from the facts about each row of its step table: a call ends if
--- it runs alone, and some thread can always take a step that is not a failed attempt to take a lock.
+-- Proof of the laws of progress for a list with locks, from the facts about each row of its step table. A call ends if
+-- it runs alone. While a call is pending, some thread can take a step that is not a failed attempt to take a lock.
 use Rattle.std.specs.Prelude.{◌≡◌, ◌≢◌, ℕ, ◌+◌, ◌<◌, ◌≤◌, ◌⊎◌, List, slice_index, length, Some, refl}
 use Rattle.std.proofs.Common.{arith, inl, inr, sym, ◌∙◌, ap, subst, zero, suc}
 use Rattle.lset_words.proofs.Numbers.{same_or_not}
@@ -38,7 +38,7 @@ abbrev expected : Action → ℕ → ℕ
 expected (Exchange x old new) other = old
 expected a other = other
 
--- If the action is an attempt to take a lock, this lock is free.
+-- Holds unless the action is an attempt to take a lock that is not free.
 abbrev pub IsFree : List ℕ → Action → Type 0
 IsFree ws (Load w) = Unit {0}
 IsFree ws (Store w v) = Unit {0}
@@ -83,7 +83,7 @@ module _ (S : Shape) (T : Table) (sz : Sizes) (ws : List ℕ) (t : ℕ) (l : Loc
   late_or_keeps (Store w v) (inr y) = inr (stay ws w v y.0)
   late_or_keeps (Exchange w from to) row = inr (tried ws w from to row.is_lock)
 
-  -- The step ends the call, or the call continues with fewer steps remaining.
+  -- Holds if the step ends the call, or the call continues with fewer steps remaining.
   abbrev Comes : List ℕ → Fed → Type 0
   Comes ws' f = ((r : Reply) × (f.answer ≡ Some r)) ⊎ Goes S size (node_key ws) ws l (node_key ws') ws' f.local
 
@@ -112,7 +112,7 @@ module _ (T : Table) (law : Lawful T) (S : Shape) (most : Sizes → ℕ) (shows 
         may_after S T _ _ t _ x before (T.next _) (shows.rows op last k t es r (omega arith) tn en.1).by now;
   }
 
-  -- Lemmas about a thread t with a pending call at moment k of a run.
+  -- Lemmas about a thread t with a pending call after the first k events of a run.
   module _ (op : Opening) (last k t : ℕ) (es : ℕ → Event) (r : Run T op es last) (upto : k ≤ last) (tn : t < op.threads)
       (busy : IsPending (state_at T op es k) t) where
     abbrev s : State

@@ -37,7 +37,7 @@ reads_left size key l =
     else if l.pc == 24 then 2 * ahead key size (key l.curr) + 1
     else 0
 
--- At the rows of a `ceiling` in the step table, links lead from the head to curr. Therefore curr is in the chain.
+-- Holds if, at the rows of a `ceiling` in the step table, links lead from the head to curr. Then curr is in the chain.
 abbrev pub Along : (ℕ → ℕ) → Local → Type 0
 Along link l = When (nat_lt 22 l.pc) (Path link 0 l.curr)
 

@@ -1,6 +1,5 @@
--- The proof obligations of a list with locks, for each row of its step table: which locks the thread can hold after
--- the row, and how many steps of its call remain. The laws of progress follow from these facts (see
--- ProgressWithLocks).
+-- What a list with locks must prove about each row of its step table: which locks the thread can hold after the row,
+-- and how many steps of its call remain. The laws of progress follow from these facts (see ProgressWithLocks).
 use Rattle.std.specs.Prelude.{◌≡◌, ◌≢◌, ℕ, ◌+◌, ◌-◌, ◌/◌, ◌<◌, ◌≤◌, ◌⊎◌, ◌&&◌, nat_le, nat_lt, Bool, true, false, MatchBool}
 use Rattle.std.specs.Prelude.{Some, None, List, slice_index, slice_set}
 use Rattle.std.proofs.Common.{arith, inl, inr, subst, sym, ap, suc, refl}
@@ -28,8 +27,8 @@ When b A = MatchBool b A (Unit {0})
 abbrev pub Only : Bool → Type 0
 Only b = MatchBool b (Unit {0}) ⊥
 
--- Holds if x is a lock that the thread can hold in its private state l: the lock of pred at the rows of the step table
--- that satisfy P, or the lock of curr at the rows that satisfy C.
+-- Holds if x is a lock that a thread with the private state l can hold. At the rows of the step table that satisfy P,
+-- this is the lock of pred. At the rows that satisfy C, this is the lock of curr.
 abbrev pub NodeLocks : (ℕ → Bool) → (ℕ → Bool) → Local → ℕ → Type 0
 NodeLocks P C l x = ((x ≡ lock_index l.pred) × Only (P l.pc)) ⊎ ((x ≡ lock_index l.curr) × Only (C l.pc))
 
@@ -110,15 +109,15 @@ module _ (S : Shape) (size : ℕ) where
   no_time key link l (inl v) = let h : S.left size key l < 0 = v.1 in omega arith
   no_time key link l (inr h) = omega arith
 
-  -- Holds if a step from the private state l to l' does not end its call, and brings the end closer. If n + 1 further
-  -- steps were enough before the step, n further steps are enough after it.
+  -- Holds if a step from the private state l to l' does not end its call, but leaves the call with fewer remaining
+  -- steps. If n + 1 further steps were enough before the step, n further steps are enough after it.
   pub record Goes (key : ℕ → ℕ) (ws : List ℕ) (l : Local) (key' : ℕ → ℕ) (ws' : List ℕ) (l' : Local) : Type 0 where
     pub busy : l'.pc ≢ 0
     pub late : S.late l → LateBy S (S.left 0 (λ a. 0) l) l'
     pub near : S.calm ws l → (n : ℕ) → TimedBy key (node_link ws) (suc n) l → TimedBy key' (node_link ws') n l'
 
-  -- Holds if a step with the outcome f ends its call or brings the end of the call closer (`Goes`). In the new private
-  -- state, `may` still allows the thread each lock in O that it allowed before.
+  -- Holds if a step with the outcome f ends its call or leaves the call with fewer remaining steps (`Goes`). In the new
+  -- private state, `may` still allows the thread each lock in O that it allowed before.
   pub record Then (key : ℕ → ℕ) (ws : List ℕ) (l : Local) (O : ℕ → Type 0) (key' : ℕ → ℕ) (ws' : List ℕ) (f : Fed) : Type 0 where
     pub keeps : (x : ℕ) → O x → S.may l x → S.may f.local x
     pub then : ((r : Reply) × (f.answer ≡ Some r)) ⊎ Goes key ws l key' ws' f.local
@@ -165,7 +164,7 @@ some_row n h = let low : 0 < n = lower_number 0 n (only_true (nat_lt 0 n) h) in 
 module _ {S : Shape} {size : ℕ} {key : ℕ → ℕ} {ws : List ℕ} {l : Local} {O : ℕ → Type 0} {key' : ℕ → ℕ} {ws' : List ℕ}
     {l' : Local}
     (keeps : (x : ℕ) → O x → S.may l x → S.may l' x) where
-  -- A step that leads to another row of the step table satisfies `Then`: it brings the end of the call closer.
+  -- A step that leads to another row of the step table satisfies `Then`: it leaves the call with fewer remaining steps.
   pub goes : Only (nat_lt 0 l'.pc) → (S.late l → LateBy S (S.left 0 (λ a. 0) l) l')
       → (S.valid (node_link ws) l → S.valid (node_link ws') l') → S.left size key' l' < S.left size key l
       → Then S size key ws l O key' ws' (record { local = l'; answer = None })
@@ -207,7 +206,8 @@ module _ {S : Shape} {size : ℕ} {key : ℕ → ℕ} {ws : List ℕ} {l : Local
 pub unlocks : {A B C : Type 0} → B → C → A ⊎ (B × C)
 unlocks is_lock stores = inr (is_lock, stores)
 
--- The proof obligation for one row of the step table: how many steps remain, and that the row makes an allowed step.
+-- What a list must prove about one row of its step table: how many steps remain, and that the row makes an allowed
+-- step.
 pub record RowOf (S : Shape) (size : ℕ) (T : Table) (sz : Sizes) (ws : List ℕ) (t most : ℕ) (l : Local) : Type 0 where
   pub time : Timed S size ws most l
   pub by : RowBy S size T sz ws t l (T.next l)

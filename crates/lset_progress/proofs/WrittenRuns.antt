@@ -18,7 +18,7 @@ both : (a b : Bool) → (a && b) ≡ true → (a ≡ true) × (b ≡ true)
 both true b e = (refl, e)
 both false b e = absurd cc
 
--- What the runs that are written out start from: no keys, and two threads with two slots (nodes for adds) each.
+-- The opening state of the runs that are written out: no keys, and two threads with two slots (nodes for adds) each.
 abbrev pub op : Opening
 op = empty 2 2
 

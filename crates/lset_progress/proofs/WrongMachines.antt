@@ -15,8 +15,8 @@ use Rattle.lset_progress.proofs.WrittenRuns.{op, run, is_run, is_after, state_af
 two_values : (n a b : ℕ) → (a ≡ b → ⊥) → n ≡ a → n ≡ b → ⊥
 two_values n a b d e f = d (sym e ∙ f)
 
--- The events before those that repeat forever: thread 1 marks the node of 5, thread 0 is about to unlink this node,
--- but thread 1 unlinks it first. Then thread 0 repeats its attempt forever.
+-- The events before those that repeat forever. Thread 1 marks the node with key 5, and thread 0 is about to unlink this
+-- node, but thread 1 unlinks it first. Then thread 0 repeats its attempt forever.
 abbrev spins : List Event
 spins = Begin 0 (Add (record { 0 = 5 })) ∷ Go 0 ∷ Go 0 ∷ Go 0 ∷ Go 0 ∷ Go 0 ∷ Go 0 ∷ Begin 1
     (Remove (record { 0 = 5 })) ∷ Go 1 ∷ Go 1
@@ -74,8 +74,8 @@ keeping_is_refused most law =
     (subst (λ s. IsPending s 0) (sym is) (λ z. omega arith)) (subst (λ s. NoOtherHolds (sizes op) s 0) (sym is) others) in
     never_ends_alone keeping 0 keeping_state 0 refl refl (most _) (subst (λ s. EndsAlone keeping s 0 (most (sizes op))) is e)
 
--- The events before the deadlock. The walks of both threads have found the head and the node of 5. Thread 0, which adds
--- 3, holds the lock of the head. Thread 1, which removes 5, holds the lock of the node of 5.
+-- The events before the deadlock. The walks of both threads have found the head and the node with key 5. Thread 0,
+-- which adds 3, holds the lock of the head. Thread 1, which removes 5, holds the lock of the node with key 5.
 abbrev crosses : List Event
 crosses = Begin 0 (Add (record { 0 = 5 })) ∷ Go 0 ∷ Go 0 ∷ Go 0 ∷ Go 0 ∷ Go 0 ∷ Go 0 ∷ Go 0 ∷ Go 0 ∷ Go 0 ∷ Go 0 ∷ Go 0
     ∷ Begin 0 (Add (record { 0 = 3 })) ∷ Go 0 ∷ Go 0 ∷ Go 0 ∷ Begin 1 (Remove (record { 0 = 5 })) ∷ Go 1 ∷ Go 1 ∷ Go 1 ∷ []

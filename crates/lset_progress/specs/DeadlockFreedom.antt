@@ -1,7 +1,10 @@
 -- Freedom from deadlock, as Herlihy and Shavit define it: in a fair run (every thread with a pending call takes another
--- step later), calls end again and again. This follows from two laws that hold in every run: some thread can take a
--- step that is not a failed attempt to take a lock (SomeThreadGetsOn), and among sufficiently many such steps, at least
--- one ends its call (IsLivelockFree).
+-- step later), whenever a call is pending, some call ends later.
+--
+-- The definitions have a parameter `calls`, which is 1 for the calls that a law is about, else 0. The proof uses two
+-- laws that hold in every run. Whenever a call is pending, some thread can take a step that is not a failed attempt to
+-- take a lock (SomeThreadGetsOn). Among sufficiently many such steps of calls with `calls` equal to 1, at least one
+-- ends its call (IsLivelockFree).
 use Rattle.std.specs.Prelude.{◌≡◌, ℕ, ◌+◌, ◌*◌, ◌%◌, ◌<◌, ◌≤◌, nat_lt, ◌==◌, if◌then◌else◌, Bool, true, false, List, slice_index}
 use Rattle.lset_words.specs.declared.Call.{Call}
 use Rattle.lset_words.specs.Words.{Sizes, Opening}
@@ -16,7 +19,7 @@ use Rattle.lset_progress.specs.Progress.{IsPending, SomeEnds, EndsAmong}
 abbrev pub is_lock_word : ℕ → Bool
 is_lock_word x = if x == 0 then true else if nat_lt x 5 then false else if x % 3 == 2 then true else false
 
--- Returns 0 if the action is a failed attempt to take a lock, else n.
+-- Returns 0 if the action is an attempt to take a lock that is not free, else n. `ws` are the shared words.
 abbrev pub unless_failed : List ℕ → Action → ℕ → ℕ
 unless_failed ws (Load w) n = n
 unless_failed ws (Store w v) n = n
@@ -42,15 +45,15 @@ pub record IsFair (T : Table) (op : Opening) (es : ℕ → Event) : Type 0 where
   pub run : (n : ℕ) → Run T op es n
   pub goes_on : (k t : ℕ) → t < op.threads → IsPending (state_at T op es k) t → (j : ℕ) × (k ≤ j) × (es j ≡ Go t)
 
--- [Deadlock freedom]: in a fair run, if a call with `calls` equal to 1 is pending, then a call with `calls` equal to 1
+-- [Deadlock freedom]: in a fair run, whenever a call with `calls` equal to 1 is pending, a call with `calls` equal to 1
 -- ends later (minimal progress).
 abbrev pub IsDeadlockFree : (Call → ℕ) → Table → Type 0
 IsDeadlockFree calls T = (op : Opening) (k t : ℕ) (es : ℕ → Event) → IsFair T op es → t < op.threads
     → IsPending (state_at T op es k) t → calls (local_of (state_at T op es k) t).call ≡ 1
     → (n : ℕ) × SomeEnds (moves calls T) T op es k n
 
--- Returns the maximum number of counted steps of n threads until a call ends. A step is counted if it is not a failed
--- attempt to take a lock. After a call has decided what to change, it takes at most 5 steps. Between two such steps of
--- any threads, each thread takes at most `most` steps, the maximum for a call that runs alone.
+-- Returns an upper bound on the number of counted steps until one of n threads ends its call. A step is counted if it
+-- is not a failed attempt to take a lock. After a call has decided what to change, it takes at most 5 steps. Between
+-- two such steps of any threads, each thread takes at most `most` steps, the bound for a call that runs alone.
 abbrev pub lock_window : (Sizes → ℕ) → Sizes → ℕ
 lock_window most sz = sz.threads * most sz * (5 * sz.threads + 1)

@@ -1,5 +1,5 @@
--- Laws of progress, in Herlihy and Shavit's terms. They state when calls end, and hold at each moment k (after k
--- events) of every run, under every schedule.
+-- Laws of progress, in Herlihy and Shavit's terms. They state when calls end. They hold after each event of every run,
+-- under every schedule.
 use Rattle.std.specs.Prelude.{◌≡◌, ◌≢◌, ℕ, zero, suc, ◌+◌, ◌*◌, ◌%◌, ◌<◌, ◌≤◌, ◌⊎◌, Bool, true, false, Some, slice_index}
 use Rattle.lset_words.specs.declared.Call.{Call}
 use Rattle.lset_words.specs.declared.Call.TheVariants as call
@@ -51,14 +51,14 @@ NoMarkInChain v = (b : ℕ) → InChain v b → v.link b % 2 ≡ 0
 
 -- [Calls end unhindered]: in a list without locks, a call ends within `most` steps if its thread runs alone, whatever
 -- state the other threads are in (obstruction freedom). A `ceiling` starts again at a marked node and does not unlink
--- it. Therefore this is required of a `ceiling` only if the chain has no marked node.
+-- the node. Therefore the law covers a `ceiling` only if the chain has no marked node.
 abbrev pub CallsEndUnhindered : Table → (Sizes → ℕ) → Type 0
 CallsEndUnhindered T most = (op : Opening) (k t : ℕ) (es : ℕ → Event) → Run T op es k → t < op.threads
     → IsPending (state_at T op es k) t
     → (IsCeiling (local_of (state_at T op es k) t).call → NoMarkInChain (views T op es k))
     → EndsAlone T (state_at T op es k) t (most (sizes op))
 
--- [A ceiling that never ends]: at some moment of some run a `ceiling` is pending, all other threads are idle, and the
+-- [A ceiling that never ends]: at some time in some run, a `ceiling` is pending and all other threads are idle. The
 -- `ceiling` does not end, however many steps its thread takes alone.
 pub record SomeCeilingNeverEnds (T : Table) : Type 0 where
   pub opening : Opening
@@ -97,13 +97,14 @@ abbrev pub steps_of : Bool → State → Event → ℕ
 steps_of reads s (Begin t call) = 0
 steps_of reads s (Go t) = counted reads (local_of s t).call
 
--- Returns how many of the n events after moment k are counted steps. `count` returns 1 for a counted step, else 0.
+-- Returns how many of the n events after the first k events are counted steps. `count` returns 1 for a counted step,
+-- else 0.
 abbrev pub steps_among : (State → Event → ℕ) → Table → Opening → (ℕ → Event) → ℕ → ℕ → ℕ
 steps_among count T op es k zero = 0
 steps_among count T op es k (suc n) = count (state_at T op es k) (es k) + steps_among count T op es (suc k) n
 
--- Holds if one of the n events after moment k is a counted step that ends its call. `count` returns 1 for a counted
--- step, else 0.
+-- Holds if one of the n events after the first k events is a counted step that ends its call. `count` returns 1 for a
+-- counted step, else 0.
 pub record SomeEnds (count : State → Event → ℕ) (T : Table) (op : Opening) (es : ℕ → Event) (k n : ℕ) : Type 0 where
   pub at : ℕ
   pub from : k ≤ at
@@ -125,26 +126,30 @@ EndsAmong count T most = (op : Opening) (k n : ℕ) (es : ℕ → Event) → Run
 abbrev pub IsLockFree : Table → (Sizes → ℕ) → Type 0
 IsLockFree T most = (reads : Bool) → EndsAmong (steps_of reads) T most
 
--- The maximum number of steps of a call that runs alone, for each list. `node_count` is the number of nodes: the head,
--- the tail, the slots of all threads, and the nodes of the opening keys.
+-- Returns an upper bound on the steps of a call that runs alone, for a CoarseList. `node_count` is the number of nodes:
+-- the head, the tail, the slots of all threads, and the nodes of the keys at the start.
 abbrev pub coarse_steps : Sizes → ℕ
 coarse_steps sz = 2 * node_count sz + 3
 
+-- Returns an upper bound on the steps of a call that runs alone, for a FineList.
 abbrev pub fine_steps : Sizes → ℕ
 fine_steps sz = 4 * node_count sz + 3
 
+-- Returns an upper bound on the steps of a call that runs alone, for an OptimisticList.
 abbrev pub optimistic_steps : Sizes → ℕ
 optimistic_steps sz = 8 * node_count sz + 9
 
+-- Returns an upper bound on the steps of a call that runs alone, for a LockFreeList.
 abbrev pub lock_free_steps : Sizes → ℕ
 lock_free_steps sz = 4 * node_count sz + 5
 
--- The maximum number of counted steps until a call of LockFreeList ends. Each thread takes at most the steps of its
--- pending call and, after each successful exchange that ends no call, of one additional walk. There are few such
--- exchanges, since each thread marks at most one node, and each node is unlinked at most once.
+-- Returns an upper bound on the number of counted steps until a call of a LockFreeList ends. Each thread takes at most
+-- the steps of its pending call and, after each successful exchange that ends no call, of one additional walk. The
+-- number of such exchanges is bounded: each thread marks at most one node, and each node is unlinked at most once.
 abbrev pub lock_free_window : Sizes → ℕ
 lock_free_window sz =
     sz.threads * (2 * node_count sz + 2) * (node_count sz + sz.threads) + sz.threads * lock_free_steps sz
 
+-- Returns an upper bound on the steps of a call that runs alone, for a LazyList.
 abbrev pub lazy_steps : Sizes → ℕ
 lazy_steps sz = 4 * node_count sz + 15

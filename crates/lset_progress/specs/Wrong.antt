@@ -16,8 +16,8 @@ use Rattle.lset_lock_free.specs.LockFree.{lock_free}
 use Rattle.lset_progress.specs.DeadlockFreedom.{IsLivelockFree}
 use Rattle.lset_progress.specs.Progress.{CallsEndAlone, CallsEndUnhindered, EndsAmong, steps_of}
 
--- A broken LockFreeList. After a failed exchange at row 3 of the step table, the walk repeats the exchange instead of
--- starting again from the head.
+-- The next two definitions make up a broken LockFreeList. After a failed exchange at row 3 of the step table, its walk
+-- repeats the exchange instead of starting again from the head.
 abbrev pub spins_on : Local → ℕ → Fed
 spins_on l seen = if seen == 2 * l.curr then continued (record l { pc = 2; curr = l.succ }) else continued l
 
@@ -30,9 +30,9 @@ spinning = record {
   effect = lock_free.effect;
 }
 
--- A broken LockFreeList. Before an `add` links its new node after pred, it writes its thread's number into the lock
--- word of pred (row 11 of the step table). The `add` continues only if it then reads its own number in this word (row
--- 12). Otherwise it writes the number again.
+-- The next four definitions make up a broken LockFreeList. Before an `add` links its new node after pred, it writes its
+-- thread's number into the lock word of pred (row 11 of the step table). The `add` continues only if it then reads its
+-- own number in this word (row 12). Otherwise it writes the number again.
 abbrev pub claims_first : Fed → Fed
 claims_first f = record { local = if f.local.pc == 5 then record f.local { pc = 11 } else f.local; answer = f.answer }
 
@@ -58,8 +58,8 @@ claiming = record {
   effect = lock_free.effect;
 }
 
--- A broken OptimisticList. If validation fails, the call does not release the lock of pred: it skips row 14 of the step
--- table and continues at row 15.
+-- The next three definitions make up a broken OptimisticList. If validation fails, a call does not release the lock of
+-- pred: it skips row 14 of the step table and continues at row 15.
 abbrev pub keeps_pred : Option Reply → Local → Local
 keeps_pred None l = record l { pc = 15 }
 keeps_pred (Some r) l = l
@@ -76,7 +76,8 @@ keeping = record {
   effect = optimistic.effect;
 }
 
--- A broken LazyList. A `remove` locks curr before pred, while an `add` locks pred before curr.
+-- The next four definitions make up a broken LazyList. Its `remove` locks curr before pred, while its `add` locks pred
+-- before curr.
 abbrev pub first_lock : Call → Local → ℕ
 first_lock (call.Remove k) l = l.curr
 first_lock c l = l.pred
@@ -100,9 +101,9 @@ crossed = record {
   effect = lazy.effect;
 }
 
--- A broken LazyList. A `remove` locks curr before pred, while an `add` locks pred before curr. Before a thread attempts
--- to take its second lock, it reads whether this lock is free (row 16 of the step table). If the lock is taken, the
--- thread releases its first lock (row 15) and starts again.
+-- The next four definitions make up a broken LazyList. Its `remove` locks curr before pred, while its `add` locks pred
+-- before curr. Before a thread attempts to take its second lock, it reads whether this lock is free (row 16 of the step
+-- table). If the lock is taken, the thread releases its first lock (row 15) and starts again.
 abbrev pub looks_first : Fed → Fed
 looks_first f = record { local = if f.local.pc == 5 then record f.local { pc = 16 } else f.local; answer = f.answer }
 
@@ -128,16 +129,20 @@ yielding = record {
   effect = lazy.effect;
 }
 
--- Holds if the law `CallsEndAlone` is false for the broken list T, whatever number of steps is allowed. The next
--- definitions state this for three other laws.
+-- Holds if the law `CallsEndAlone` is false for the step table T, whatever number of steps is allowed.
 abbrev pub NoCallsEndAlone : Table → Type 0
 NoCallsEndAlone T = (most : Sizes → ℕ) → CallsEndAlone T most → ⊥
 
+-- Holds if the law `CallsEndUnhindered` is false for the step table T, whatever number of steps is allowed.
 abbrev pub NoCallsEndUnhindered : Table → Type 0
 NoCallsEndUnhindered T = (most : Sizes → ℕ) → CallsEndUnhindered T most → ⊥
 
+-- Holds if T is not lock-free, whatever number of steps is allowed, and whether or not the steps of `contains` are
+-- counted.
 abbrev pub NotLockFree : Table → Type 0
 NotLockFree T = (reads : Bool) (most : Sizes → ℕ) → EndsAmong (steps_of reads) T most → ⊥
 
+-- Holds if T is not free from livelock, whatever number of steps is allowed. Only the steps of calls with `calls` equal
+-- to 1 are counted.
 abbrev pub NotLivelockFree : (Call → ℕ) → Table → Type 0
 NotLivelockFree calls T = (most : Sizes → ℕ) → IsLivelockFree calls T most → ⊥

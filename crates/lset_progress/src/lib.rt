@@ -2,7 +2,7 @@
 //! function. The laws hold for every schedule, except that freedom from deadlock assumes a fair schedule.
 //!
 //! In the bounds, N is the number of nodes: the head, the tail, one node for each slot of each thread, and one node for
-//! each opening key.
+//! each key at the start.
 #![tactic(auto)]
 
 ghost use Rattle.std.specs.Prelude.{Bool};
@@ -78,9 +78,9 @@ pub fn lock_free_calls_end_alone()
 {}
 
 /// Theorem: among any `n(2N + 2)(N + n) + n(4N + 5)` successive steps of `add` and `remove` by the n threads of a
-/// LockFreeList with N nodes, at least one ends its call, whichever threads take the steps and whatever else happens in
-/// between. The same is true of steps of `add`, `remove` and `contains`. (Lock freedom of Harris's and Michael's list,
-/// as Herlihy and Shavit define it.)
+/// LockFreeList with N nodes, at least one ends its call. This holds whichever threads take the steps and whatever else
+/// happens in between. The same is true of steps of `add`, `remove` and `contains`. (Lock freedom of Harris's and
+/// Michael's list, as Herlihy and Shavit define it.)
 #[tactic(auto, using(crate::proofs::LockFreedom::lock_free_is_lock_free))]
 pub fn lock_free_list_is_lock_free()
     ensures { IsLockFree lock_free lock_free_window }
@@ -100,8 +100,8 @@ pub fn some_coarse_call_gets_on()
     ensures { SomeThreadGetsOn coarse }
 {}
 
-/// Theorem: among any `n(2N + 3)(5n + 1)` successive steps by the n threads of a CoarseList, not counting failed
-/// attempts to take the lock, at least one ends its call. (Freedom from livelock.)
+/// Theorem: among any `n(2N + 3)(5n + 1)` successive steps by the n threads of a CoarseList with N nodes, at least one
+/// ends its call. Failed attempts to take the lock do not count as steps. (Freedom from livelock.)
 #[tactic(auto, using(crate::proofs::CoarseProgress::coarse_livelock_free))]
 pub fn coarse_list_is_livelock_free()
     ensures { IsLivelockFree each_call coarse (lock_window coarse_steps) }
@@ -115,14 +115,14 @@ pub fn coarse_list_is_deadlock_free()
 {}
 
 /// Theorem: if a call of a FineList is pending, some thread can take a step that is not a failed attempt to take a
-/// lock, since all threads lock nodes in the order of the list. (The order is Herlihy and Shavit's.)
+/// lock. The reason is that all threads lock nodes in the order of the list. (The order is Herlihy and Shavit's.)
 #[tactic(auto, using(crate::proofs::FineProgress::fine_gets_on))]
 pub fn some_fine_call_gets_on()
     ensures { SomeThreadGetsOn fine }
 {}
 
-/// Theorem: among any `n(4N + 3)(5n + 1)` successive steps by the n threads of a FineList, not counting failed attempts
-/// to take a lock, at least one ends its call. (Freedom from livelock.)
+/// Theorem: among any `n(4N + 3)(5n + 1)` successive steps by the n threads of a FineList with N nodes, at least one
+/// ends its call. Failed attempts to take a lock do not count as steps. (Freedom from livelock.)
 #[tactic(auto, using(crate::proofs::FineProgress::fine_livelock_free))]
 pub fn fine_list_is_livelock_free()
     ensures { IsLivelockFree each_call fine (lock_window fine_steps) }
@@ -136,14 +136,14 @@ pub fn fine_list_is_deadlock_free()
 {}
 
 /// Theorem: if a call of an OptimisticList is pending, some thread can take a step that is not a failed attempt to take
-/// a lock, since all threads lock nodes in the order of the list. (The order is Herlihy and Shavit's.)
+/// a lock. The reason is that all threads lock nodes in the order of the list. (The order is Herlihy and Shavit's.)
 #[tactic(auto, using(crate::proofs::OptimisticProgress::optimistic_gets_on))]
 pub fn some_optimistic_call_gets_on()
     ensures { SomeThreadGetsOn optimistic }
 {}
 
-/// Theorem: among any `n(8N + 9)(5n + 1)` successive steps by the n threads of an OptimisticList, not counting failed
-/// attempts to take a lock, at least one ends its call. (Freedom from livelock.)
+/// Theorem: among any `n(8N + 9)(5n + 1)` successive steps by the n threads of an OptimisticList with N nodes, at least
+/// one ends its call. Failed attempts to take a lock do not count as steps. (Freedom from livelock.)
 #[tactic(auto, using(crate::proofs::OptimisticProgress::optimistic_livelock_free))]
 pub fn optimistic_list_is_livelock_free()
     ensures { IsLivelockFree each_call optimistic (lock_window optimistic_steps) }
@@ -157,15 +157,15 @@ pub fn optimistic_list_is_deadlock_free()
 {}
 
 /// Theorem: if a call of a LazyList is pending, some thread can take a step that is not a failed attempt to take a
-/// lock, since all threads lock nodes in the order of the list. (The order is Herlihy and Shavit's.)
+/// lock. The reason is that all threads lock nodes in the order of the list. (The order is Herlihy and Shavit's.)
 #[tactic(auto, using(crate::proofs::LazyProgress::lazy_gets_on))]
 pub fn some_lazy_call_gets_on()
     ensures { SomeThreadGetsOn lazy }
 {}
 
-/// Theorem: among any `n(4N + 15)(5n + 1)` successive steps of `add` and `remove` by the n threads of a LazyList, not
-/// counting failed attempts to take a lock, at least one ends its call, whatever other events happen in between. The
-/// same is true of the steps of `add`, `remove` and `contains`. (Freedom from livelock.)
+/// Theorem: among any `n(4N + 15)(5n + 1)` successive steps of `add` and `remove` by the n threads of a LazyList with N
+/// nodes, at least one ends its call, whatever other events happen in between. Failed attempts to take a lock do not
+/// count as steps. The same is true of the steps of `add`, `remove` and `contains`. (Freedom from livelock.)
 pub fn lazy_list_is_livelock_free()
     ensures { (reads : Bool) → IsLivelockFree (counted reads) lazy (lock_window lazy_steps) }
 {}
@@ -197,7 +197,7 @@ pub fn a_spinning_walk_is_not_lock_free()
 
 /// Lemma: the theorem `lock_free_list_is_lock_free` does not hold for a broken LockFreeList: two calls of `add` can
 /// hinder each other forever. Before an `add` links its node, it writes its thread's number into the lock word of the
-/// previous node, and continues only if it then reads its own number in this word.
+/// previous node. It continues only if it then reads its own number in this word.
 #[tactic(auto, using(crate::proofs::Livelock::claiming_is_not_lock_free))]
 pub fn two_that_claim_a_place_are_not_lock_free()
     ensures { NotLockFree claiming }
