@@ -22,8 +22,8 @@ use Rattle.lset_rule.specs.Calls.{IsMid, Makes, Goes, Starts, gone_view, begun_v
 use Rattle.lset_rule.proofs.MovesKeepRule.{IsAt, begun_at, stands_at}
 use Rattle.lset_rule.proofs.RecordsOfRuns.{starts_more}
 
--- How call c has changed the view of its seat (its knowledge of the run) from v to w after a step with the outcome f.
--- If f has a reply, the call has ended with this reply. Otherwise the call is still pending.
+-- Describes how call c has changed the view of its seat (its knowledge of the run) from v to w after a step with the
+-- outcome f. If f has a reply, the call has ended with this reply. Otherwise the call is still pending.
 abbrev pub Comes : Table → Call → View → Fed → View → Type 0
 Comes m c v f w = (w.local ≡ f.local) × MatchOption f.answer (IsMid c v w × Stands m w) (λ r. Makes m c v r w)
 

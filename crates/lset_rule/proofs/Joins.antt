@@ -31,7 +31,8 @@ use Rattle.lset_rule.proofs.ViewsFit.{is_in, set_there, stands_else, stands_stil
 use Rattle.lset_rule.proofs.MovesKeepRule.{M}
 use Rattle.lset_words.specs.Words.{Opening}
 
--- Returns the thread that a seat with view w (its knowledge of the run) calls as, as a spare thread of another seat.
+-- Converts a seat's own thread to a spare thread of another seat. `w` is the view of the first seat (its knowledge of
+-- the run).
 abbrev aside : View → SpareThread
 aside w = record { thread = w.thread; local = w.local }
 

@@ -30,12 +30,12 @@ use Rattle.lset_rule.specs.Calls.{gone_view, begun_view, record_after, Goes, Sta
 use Rattle.lset_rule.proofs.RecordsOfRuns.{still_quiet, quiet_append, starts_more, asides_stay, before_more, after_calls, after_calls_other}
 use Rattle.lset_rule.proofs.RecordsOfRuns.{after_root, after_apart, after_in, after_in_order, after_before, BegunBy, begun_by, after_in_time}
 
--- Holds if thread t has a pending call and the registers l after the run of these events.
+-- Holds if, after the run of these events, thread t has a pending call and the private state l.
 abbrev pub IsAt : Table → Opening → List Event → ℕ → Local → Type 0
 IsAt m k es t l = UnderWay m k (event_at es) (length es) t × (local_of (end_of m k es) t ≡ l)
 
--- Returns view v (a seat's knowledge of the run) after event e of the seat's own thread, with new registers, a new
--- pending call and a new record.
+-- Returns view v (a seat's knowledge of the run) after event e of the seat's own thread, with a new private state, a
+-- new pending call and a new record.
 abbrev pub later : View → List Event → Event → Local → Option PendingCall → Past → View
 later v log e l u r = record v { local = l; under = u; past = r; seen = log ++ e ∷ [] }
 
@@ -275,7 +275,7 @@ goes_first m law slots id me k c low a acts shape is_idle = let v : View = me.0 
       ),
     ))
 
--- ---- Lemmas about the state of the own thread of a seat (per-thread handle)
+-- ---- Lemmas about the state of a seat's own thread (a seat is a per-thread handle)
 module _ (m : Table) (law : Lawful m) (v : View) (st : Stands m v) where
   own_small : v.thread < v.shape.threads
   own_small = st.in_range v.thread (inl refl)

@@ -47,11 +47,12 @@ found (Load w) n = n
 found (Store w v) n = v
 found (Exchange w old new) n = n
 
--- `gone` returns the state of a thread after a step: h is its state before the step, f the outcome, and n the number
--- of the event. `begins` returns its state after the start of a call.
+-- Returns the state of a thread after one of its steps. The state before the step is h, the outcome of the step is f,
+-- and the number of the event is n.
 abbrev pub gone : Here → Fed → ℕ → Here
 gone h f n = here f.local (under_after f.answer h.under) (h.done ++ ending f.answer h.under n)
 
+-- Returns the state of a thread after it starts call c: h is its state before, and n the number of the event.
 abbrev pub begins : Table → Here → Call → ℕ → Here
 begins T h c n = here (T.begin c h.local) (Some (record { call = c; begun = n; steps = 0 })) h.done
 
@@ -146,8 +147,8 @@ module _ (T : Table) (op : Opening) (es : ℕ → Event) (k t : ℕ) where
       let d = other_done s (es k) (under_at (log_of T op es) t k) (done_at (log_of T op es) t k) ne in
       λ i. here (l i) (u i) (d i)
 
--- Holds if a thread's registers match its pending call. If no call is pending, the thread is at row 0 of the step
--- table. Otherwise it is at another row, and its registers contain the pending call.
+-- Holds if a thread's private state matches its pending call. If no call is pending, the thread is at row 0 of the step
+-- table. Otherwise it is at another row, and its private state contains the pending call.
 abbrev pub Tied : Option PendingCall → Local → Type 0
 Tied None l = l.pc ≡ 0
 Tied (Some u) l = (l.pc ≢ 0) × (l.call ≡ u.call)

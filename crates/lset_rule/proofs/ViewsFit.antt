@@ -44,8 +44,9 @@ module _ {A : Type 0} where
   set_twice (x ∷ xs) zero a b = refl
   set_twice (x ∷ xs) (suc i) a b = ap (λ l. x ∷ l) (set_twice xs i a b)
 
--- Three lemmas: thread t still belongs to view j (a seat's knowledge of the run) after a change of another view, after
--- a change of view j that keeps the thread, and after a view is added.
+-- The next three lemmas state that thread t still belongs to view j (a seat's knowledge of the run). The first is about
+-- a change of another view, the second about a change of view j that keeps the thread, and the third about an added
+-- view.
 pub stands_else : (views : List View) (id j t : ℕ) (w : View) → j ≢ id → StandsIn views j t → StandsIn (set views id w) j t
 stands_else views id j t w ne st = (st.0, set_else views id j w ne ∙ st.1, st.2, st.3)
 
@@ -69,8 +70,8 @@ pub stands_last : (views : List View) (t : ℕ) (w : View) → w.spent ≡ false
     StandsIn (views ++ w ∷ []) (length views) t
 stands_last views t w alive has = (w, at_last views w (length views) refl, alive, has)
 
--- The invariant of the shared words and all seats, for view j (a seat's knowledge of the run) alone: if the view is in
--- use, it matches the events, and the events that it has seen are a prefix of all events.
+-- The part of the invariant that is about a single view, with number j. (A view is a seat's knowledge of the run.) If
+-- the view is in use, it matches the events. The events that it has seen are a prefix of all events.
 abbrev pub Fits : Table → Opening → List Event → (ℕ → ℕ) → ℕ → View → Type 0
 Fits m k log so j v = (v.spent ≡ false → MatchesLog m k log so j v) × StartsWith log v.seen
 

@@ -32,8 +32,7 @@ record_after r (Some x) None n = r
 record_after r None u n = r
 
 -- Returns the view of a seat (its knowledge of the run) after a step of its thread that saw the value n. The view was v
--- before, and `log` contains all events before the step. A step that takes a lock is an exchange that saw 0: the law of
--- lock words is `held` in `lset_steps`, and a plain loop uses `MayLock` in `lset_loops`.
+-- before, and `log` contains all events before the step.
 abbrev pub gone_view : Table → List Event → ℕ → View → View
 gone_view m log n v = let f = m.feed v.local n in record v {
   local = f.local;
@@ -44,7 +43,7 @@ gone_view m log n v = let f = m.feed v.local n in record v {
 
 -- Describes how a step that sees the value n changes the view of its seat (its knowledge of the run) from v to w. Some
 -- `log` has all events before the step, and starts with the events that v had seen. The view w has seen these events
--- and the step. By `Sees`, a thread with these registers sees n next in some run, as `feed` requires.
+-- and the step. In some run, a thread with this private state sees the value n next (`Sees`).
 abbrev pub Goes : Table → View → ℕ → View → Type 0
 Goes m v n w = (log : List Event) × (on : StartsWith log v.seen) × Sees m v.local n × (w ≡ gone_view m log n v) × Stands m w
     × (seen_next m (end_of m v.shape log) v.thread ≡ n)
@@ -68,8 +67,8 @@ abbrev pub steps_of : Option PendingCall → ℕ
 steps_of None = 0
 steps_of (Some u) = u.steps
 
--- Holds if the view of a seat (its knowledge of the run) has only changed in the registers, the pending call, the
--- record and the events seen.
+-- Holds if at most four parts of a seat's view (its knowledge of the run) have changed: the thread's private state, the
+-- pending call, the record of completed calls, and the events seen.
 abbrev pub Same : View → View → Type 0
 Same v w = (w.spent ≡ v.spent) × (w.shape ≡ v.shape) × (w.thread ≡ v.thread) × (w.others ≡ v.others)
     × (w.ours ≡ v.ours) × (w.theirs ≡ v.theirs)

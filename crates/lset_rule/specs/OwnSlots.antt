@@ -6,6 +6,6 @@ use Rattle.lset_rule.specs.declared.slots.OwnSlots.{OwnSlots}
 abbrev pub slots_of : Local → OwnSlots
 slots_of l = record { thread = l.thread; quota = l.quota; used = l.used }
 
--- Returns the registers of a thread that has these slots (nodes for keys that it adds) and no pending call.
+-- Returns the private state of a thread that has these slots (nodes for keys that it adds) and no pending call.
 abbrev pub resting : OwnSlots → Local
 resting s = record (idle s.quota s.thread) { used = s.used }

@@ -28,8 +28,7 @@ calls_of u (Fresh t) = []
 calls_of u (Called' p r c) = calls_of u r ++ cond (u == root r) (c ∷ []) []
 calls_of u (Gathered' p r q g) = calls_of u r ++ calls_of u g
 
--- Holds if all calls in a record, including those in records that were merged into it, started and ended before event
--- n.
+-- Holds if all calls in a record, also in the records that were merged into it, started and ended before event n.
 abbrev pub Before : ℕ → Past → Type 0
 Before n (Fresh t) = Unit {0}
 Before n (Called' p r c) = Before n r × (c.ended < n) × (c.begun < n)
@@ -41,8 +40,8 @@ GatheredBefore n (Fresh t) = Unit {0}
 GatheredBefore n (Called' p r c) = GatheredBefore n r
 GatheredBefore n (Gathered' p r q g) = GatheredBefore n r × Before n g
 
--- Holds if records were merged in at the right time. If another record was merged into a record before a call of the
--- record's own thread, all calls in the merged record ended before this call started.
+-- Holds if records were merged in real-time order: if another record was merged into this record, all its calls ended
+-- before the next call of this record's own thread started. The merged records have the same property.
 abbrev pub InOrder : Past → Type 0
 InOrder (Fresh t) = Unit {0}
 InOrder (Called' p r c) = InOrder r × GatheredBefore c.begun r

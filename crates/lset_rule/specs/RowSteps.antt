@@ -11,8 +11,8 @@ use Rattle.lset_rule.specs.Views.{IsOpen, Stands}
 use Rattle.lset_rule.specs.Calls.{Goes}
 use Rattle.lset_rule.specs.Seats.{TableSeat, IsOf, IsSeat}
 
--- The requirements of the next step of an interpreted call: its seat s (per-thread handle) belongs to the table z and
--- has a pending call, and l are the registers of its thread, as they occur in some run.
+-- The requirements of the next step of an interpreted call. Its seat s (per-thread handle) belongs to the table z and
+-- has a pending call. The private state l of its thread occurs in some run.
 pub record MayStep (m : Table) (z : TableId) (k : Opening) (l : Local) (s : TableSeat) : Type 0 where
   pub place : IsOf z k s
   pub under_way : IsOpen s.me.0
@@ -21,7 +21,7 @@ pub record MayStep (m : Table) (z : TableId) (k : Opening) (l : Local) (s : Tabl
   pub occurs : Occurs m l
 
 -- Holds if an interpreted call has taken its next step. The step changed its seat (per-thread handle) from s to s'. The
--- step table computes the outcome f from the registers l and the value that the step saw.
+-- step table computes the outcome f from the thread's private state l and the value that the step saw.
 pub record HasStepped (m : Table) (l : Local) (s : TableSeat) (f : Fed) (s' : TableSeat) : Type 0 where
   pub place : IsSeat s s'
   pub seen : ℕ

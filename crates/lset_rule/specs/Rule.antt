@@ -1,8 +1,10 @@
--- The invariant of a list on shared words (the code calls it the rule). It holds between any two steps: some list of
--- events is a run that ends with the words in memory, and the view of each seat (its knowledge of the run) matches
--- these events. A seat is a per-thread handle: one thread calls the set through it. A receipt contains the events that
--- a seat has seen, and is used by another seat. The definitions after `Holds` are the views after actions that are not
--- events: opening a set, splitting and joining seats, and issuing and using receipts.
+-- The invariant of a list on shared words (the code calls it the rule). Between any two steps, some list of events is a
+-- run that ends with the words in memory. The view of each seat (its knowledge of the run) matches these events. A seat
+-- is a per-thread handle: one thread calls the set through it. A receipt contains the events that a seat has seen, and
+-- is used by another seat.
+--
+-- The definitions after `Holds` state how views change by actions that are not events: opening a set, splitting and
+-- joining seats, and issuing and using receipts.
 use Rattle.std.specs.Prelude.{◌≡◌, ℕ, zero, suc, ◌+◌, ◌-◌, ◌<◌, ◌≤◌, true, false, List, [], ◌∷◌, ◌++◌, length, None, cond, nat_le}
 use Rattle.std.specs.List.{AllByRecursion}
 use mathlib.Core.Option.{some}
@@ -26,7 +28,8 @@ IsQuiet v es = AllByRecursion (λ e. ¬ (HasThread v (thread_of e))) es
 
 -- Holds if v, the view of seat j (its knowledge of the run), matches the events of all threads. The view has seen a
 -- prefix of these events, and only threads of other seats executed the later events. Seat j shares no thread with
--- another seat. The lists `ours` and `theirs`, which the view keeps after a join, are also prefixes of all events.
+-- another seat. After a join, the view stores two more lists of events, `ours` and `theirs`: they are also prefixes of
+-- all events.
 pub record MatchesLog (m : Table) (k : Opening) (log : List Event) (seat_of : ℕ → ℕ) (j : ℕ) (v : View) : Type 0 where
   pub shape : v.shape ≡ k
   pub rest : List Event
@@ -37,14 +40,14 @@ pub record MatchesLog (m : Table) (k : Opening) (log : List Event) (seat_of : �
   pub ours : StartsWith log v.ours
   pub theirs : StartsWith log v.theirs
 
--- Holds if view j (a seat's knowledge of the run) is in use, and thread t belongs to its seat.
+-- Holds if view number j (a seat's knowledge of the run, counted from 0) is in use, and thread t belongs to its seat.
 abbrev pub StandsIn : List View → ℕ → ℕ → Type 0
 StandsIn views j t = (v : View) × (get_elem? views j ≡ some v) × (v.spent ≡ false) × HasThread v t
 
 -- The invariant: some run ends with the words in memory, and the view of each seat (its knowledge of the run) matches
--- the events of this run. Each thread belongs to exactly one seat. If a seat is dropped, its view remains. A spent view
--- (of a receipt, or of a seat that was merged into another seat) has no threads, but the events that it has seen are
--- also a prefix of the run.
+-- the events of this run. Each thread belongs to exactly one seat. If a seat is dropped, its view remains. A view is
+-- spent if it belongs to a receipt, or to a seat that was merged into another seat. A spent view has no threads, but
+-- the events that it has seen are also a prefix of the run.
 pub record Holds (m : Table) (k : Opening) (s : table.State (Unit {0}) View) : Type 0 where
   pub log : List Event
   pub ran : IsRunOf m k log
@@ -74,9 +77,8 @@ opener k = record {
   theirs = [];
 }
 
--- `left_view` and `right_view` return the views of two seats (their knowledge of the run) after a split: the view of the
--- old seat and the view of the new seat. The old seat loses its first spare thread. The new seat calls as this thread,
--- has an empty record, and has seen the same events as the old seat.
+-- Returns the view of a new seat (its knowledge of the run) that is split off from a seat with view v. The new seat
+-- calls as the first of the given spare threads, has an empty record, and has seen the same events as the old seat.
 abbrev head_aside : View → List SpareThread → View
 head_aside v [] = record v { spent = true }
 head_aside v (o ∷ os) = record v {
@@ -93,9 +95,12 @@ abbrev tail_asides : List SpareThread → List SpareThread
 tail_asides [] = []
 tail_asides (o ∷ os) = os
 
+-- Returns the view of the old seat (its knowledge of the run) after a split. The old seat loses its first spare thread.
 abbrev pub left_view : View → View
 left_view v = record v { others = tail_asides v.others }
 
+-- Returns the view of the new seat (its knowledge of the run) after a split. The new seat calls as the first spare
+-- thread of the old seat.
 abbrev pub right_view : View → View
 right_view v = head_aside v v.others
 

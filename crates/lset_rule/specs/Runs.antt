@@ -1,5 +1,6 @@
 -- The run of a list of events, computed from the opening state one event at a time. It consists of the state after the
--- last event and, for each thread, its registers, its pending call and its completed calls. Events are numbered from 1.
+-- last event and, for each thread, its private state, its pending call and its completed calls. Events are numbered
+-- from 1.
 use Rattle.std.specs.Prelude.{◌≡◌, ℕ, zero, suc, ◌+◌, ◌==◌, if◌then◌else◌, List, [], ◌∷◌, ◌++◌, length, Option, Some, None}
 use Rattle.lset_words.specs.declared.Reply.{Reply}
 use Rattle.lset_words.specs.declared.history.CallRecord.{CallRecord}
@@ -15,7 +16,7 @@ use Rattle.lset_words.specs.Words.{Opening}
 abbrev pub StartsWith : List Event → List Event → Type 0
 StartsWith log seen = (rest : List Event) × (log ≡ seen ++ rest)
 
--- The state of a thread at some moment: its registers, its pending call and its completed calls.
+-- The state of a thread after some events: its private state, its pending call and its completed calls.
 pub record Here : Type 0 where
   pub local : Local
   pub under : Option PendingCall
@@ -50,27 +51,29 @@ done_next n (stepped u change answer) t open_now before = if u == t then before 
 abbrev pub pending_of : LastCall → Option PendingCall
 pending_of x = if x.pending then Some (record { call = x.call; begun = x.begun; steps = x.steps }) else None
 
--- `under_at` returns the pending call of thread t after the first k events in a log. `done_at` returns its completed
--- calls.
+-- Returns the pending call of thread t after the first k events in a log.
 abbrev pub under_at : Log → ℕ → ℕ → Option PendingCall
 under_at log t k = pending_of (last_at log t k)
 
+-- Returns the completed calls of thread t after the first k events in a log, oldest first.
 abbrev pub done_at : Log → ℕ → ℕ → List OwnCall
 done_at log t zero = []
 done_at log t (suc k) = done_next (suc k) (log k) t (under_at log t k) (done_at log t k)
 
--- Returns the registers, pending call and completed calls of thread t after the first k events of a run.
+-- Returns the private state, the pending call and the completed calls of thread t after the first k events of a run.
 abbrev pub here_at : Table → Opening → (ℕ → Event) → ℕ → ℕ → Here
 here_at T op es t k = here (local_of (state_at T op es k) t) (under_at (log_of T op es) t k) (done_at (log_of T op es) t k)
 
--- `end_of` returns the last state of the run of a list of events, and `at_end` the last state of a thread. `IsRunOf`
--- states that each event was enabled when it occurred.
+-- Returns the state at the end of the run of these events.
 abbrev pub end_of : Table → Opening → List Event → State
 end_of T k es = state_at T k (event_at es) (length es)
 
+-- Returns the private state, the pending call and the completed calls of thread t at the end of the run of these
+-- events.
 abbrev pub at_end : Table → Opening → List Event → ℕ → Here
 at_end T k es t = here_at T k (event_at es) t (length es)
 
+-- Holds if these events are a run: each event was enabled when it occurred.
 abbrev pub IsRunOf : Table → Opening → List Event → Type 0
 IsRunOf T k es = Run T k (event_at es) (length es)
 

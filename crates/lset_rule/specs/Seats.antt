@@ -16,17 +16,18 @@ use Rattle.lset_rule.specs.Calls.{Makes}
 abbrev pub TableSeat : Type 0
 TableSeat = Seat (Unit {0}) View
 
--- Holds if the seat s (per-thread handle) belongs to the shared words z, and z has as many words as a set that was
--- opened with k (threads, quota and number of opening keys).
+-- Holds if the seat s (per-thread handle) belongs to the shared words z, and z has the right number of words for a set
+-- that was opened with k (threads, quota and keys at the start).
 abbrev pub IsOf : TableId → Opening → TableSeat → Type 0
 IsOf z k s = (s.table_id ≡ z) × (s.me.0.shape ≡ k) × (z.words ≡ word_count (sizes k))
 
--- Holds if s and s' are the same seat at two moments. The view of the seat (its knowledge of the run) can differ.
+-- Holds if s and s' are the same seat before and after some steps. The view of the seat (its knowledge of the run) can
+-- differ.
 abbrev pub IsSeat : TableSeat → TableSeat → Type 0
 IsSeat s s' = (s'.table_id ≡ s.table_id) × (s'.id ≡ s.id) × (s'.me.1 ≡ s.me.1)
 
--- The requirements of a call on its seat s (per-thread handle): s belongs to the shared words z, and its thread has no
--- pending call and has the slots `own` (nodes for keys that it adds).
+-- The requirements of a call on its seat s (per-thread handle). The seat belongs to the shared words z. Its thread has
+-- no pending call, and has the slots `own` (nodes for keys that it adds).
 pub record MayCall (m : Table) (z : TableId) (k : Opening) (own : OwnSlots) (s : TableSeat) : Type 0 where
   pub place : IsOf z k s
   pub idle : IsIdle s.me.0

@@ -1,6 +1,6 @@
 -- The conditions on a single view, whatever the shared words and the other seats are. The view of a seat (per-thread
--- handle) is its knowledge of the run: the events that the seat has seen, and the state of each of its threads after
--- these events.
+-- handle) is its knowledge of the run. It consists of the events that the seat has seen, and the state of each of its
+-- threads after these events.
 use Rattle.std.specs.Prelude.{◌≡◌, ◌≢◌, ◌⊎◌, ℕ, ◌+◌, ◌<◌, false, List, [], ◌∷◌, length, Option, Some, None}
 use Rattle.lset_rule.specs.declared.view.PendingCall.{PendingCall}
 use Rattle.lset_rule.specs.declared.view.SpareThread.{SpareThread}
@@ -34,11 +34,11 @@ InTime (Some u) r = Before u.begun r
 -- Holds if the view v (a seat's knowledge of the run) is correct: its information about its threads is true after the
 -- events that it has seen.
 pub record Stands (m : Table) (v : View) : Type 0 where
-  -- The events that the view (a seat's knowledge of the run) has seen are a run. After this run, the own thread of the
-  -- seat has the registers, the pending call and the completed calls that the view stores.
+  -- The events that the view (a seat's knowledge of the run) has seen are a run. After this run, the seat's own thread
+  -- has the private state, the pending call and the completed calls that the view stores.
   pub ran : IsRunOf m v.shape v.seen
   pub own : at_end m v.shape v.seen v.thread ≡ here v.local v.under (calls_of v.thread v.past)
-  -- Each spare thread is idle, and has the registers that the view (a seat's knowledge of the run) stores.
+  -- Each spare thread is idle, and has the private state that the view (a seat's knowledge of the run) stores.
   pub others : AreIdle (at_end m v.shape v.seen) v.thread v.past v.others
   pub in_range : (t : ℕ) → HasThread v t → t < v.shape.threads
   -- The record of calls belongs to the seat's own thread. This record and those merged into it belong to different

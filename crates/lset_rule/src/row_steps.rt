@@ -42,9 +42,9 @@ fn row_step<M: Machine, const PC: u8>(
     }
 }
 
-/// Takes the next step of a call at a row without a match arm in [`one_step`]. Each call site passes its own number
-/// `SITE`. The numbers only prevent inlining: the compiler inlines a function that has a single call site. If this
-/// function were inlined, the registers would be written to memory at every step.
+/// Executes the next step of a call at a row without a match arm in [`one_step`]. Each call site passes its own number
+/// `SITE`, only to prevent inlining: the compiler inlines a function that has a single call site. If this function were
+/// inlined, the thread's private state would be written to memory at every step.
 fn other_step<M: Machine, const SITE: u8>(
     table: &Words<M>,
     place: &mut TableSeat,

@@ -11,8 +11,8 @@ use atomic_table::{Join, Play, Split, TableRule};
 use lset_steps::Machine;
 use std::marker::{Brand, PhantomData};
 
-/// The invariant of the shared words of a list `M`: the events of all threads so far are a run of `M` that ends with
-/// these words, and the view of each seat (its knowledge of the run) matches this run. When the set is opened, a single
+/// The invariant of the shared words of a list `M`. The events of all threads so far are a run of `M` that ends with
+/// these words. The view of each seat (its knowledge of the run) matches this run. When the set is opened, a single
 /// seat has all threads.
 pub struct Follows<M> {
     machine: PhantomData<M>,

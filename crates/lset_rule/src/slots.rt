@@ -8,7 +8,7 @@ use lset_steps::Local;
 use lset_words::{Call, Key, Layout};
 
 /// The state that a thread keeps between two calls: its number, the number of its slots (nodes for keys that it adds),
-/// and how many slots it has used. The other registers do not affect the next call.
+/// and how many slots it has used. The rest of its private state does not affect the next call.
 #[derive(Clone, Copy)]
 pub struct OwnSlots {
     pub thread: u32,
@@ -28,7 +28,7 @@ impl OwnSlots {
         }
     }
 
-    /// Returns the part of the registers that a thread keeps after a call.
+    /// Returns the part of a thread's private state that the thread keeps after a call.
     pub(crate) fn of(local: &Local) -> OwnSlots
         ensures { result ≡ slots_of local.now }
     {
@@ -39,7 +39,7 @@ impl OwnSlots {
         }
     }
 
-    /// Returns the registers of a thread that has these slots (nodes for keys that it adds) and no pending call.
+    /// Returns the private state of a thread that has these slots (nodes for keys that it adds) and no pending call.
     pub(crate) fn resting(self) -> Local
         ensures { result ≡ resting self }
     {

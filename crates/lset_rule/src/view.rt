@@ -9,7 +9,7 @@ use std::collections::LinkedList;
 use std::marker::Model;
 
 /// What a set was opened with: the number of threads, the number of keys that each thread can add (its quota), and the
-/// opening keys. These never change.
+/// opening keys (the keys at the start). These never change.
 #[derive(Drop)]
 pub struct Opened {
     threads: u32,
@@ -24,8 +24,8 @@ impl Model for Opened {
 }
 
 impl Opened {
-    /// Returns the opening of a set with `threads` threads that can add `quota` keys each, and with the opening keys
-    /// `keys`.
+    /// Returns the opening of a set that contains `keys` at the start. The set has `threads` threads, and each of them
+    /// can add `quota` keys.
     pub fn new(threads: u32, quota: u32, keys: Vec<u32>) -> Opened
         ensures { result ≡ record { threads = threads; quota = quota; keys = keys.items } }
     {
@@ -68,7 +68,7 @@ pub enum Past {
     Gathered(&'static Past, &'static Past),
 }
 
-/// A spare thread of a seat: an idle thread that the seat has in addition to its own.
+/// A spare thread: an idle thread that a seat (per-thread handle) has in addition to its own thread.
 pub struct SpareThread {
     pub thread: u32,
     pub local: Local,
@@ -76,14 +76,16 @@ pub struct SpareThread {
 
 /// A view: the knowledge of a seat (per-thread handle) about the run.
 pub struct View {
-    /// Whether the view has no threads, because its seat was merged into another seat or the view belongs to a receipt.
-    /// The invariant then states only which events the view has seen.
+    /// Whether the view has no threads. This is true for the view of a receipt, and for a seat that was merged into
+    /// another seat. For such a view, the invariant states only which events it has seen.
     pub spent: bool,
-    /// What the set was opened with.
+    /// What the set was opened with: its number of threads, its quota (how many keys each thread can add), and its keys
+    /// at the start.
     pub shape: Opened,
     /// The number of the seat's own thread: the thread that the seat calls as.
     pub thread: u32,
-    /// The registers of the seat's own thread.
+    /// The private state of the seat's own thread: its row in the step table, and the nodes and values that it has
+    /// read.
     pub local: Local,
     /// The pending call of the seat's own thread.
     pub under: Option<PendingCall>,
@@ -94,9 +96,9 @@ pub struct View {
     pub past: Past,
     /// The events that the seat has seen, oldest first.
     pub seen: LinkedList<Event>,
-    /// The events that this seat had seen when another seat was merged into it, or when it used a receipt.
+    /// The events that this seat had seen before another seat was merged into it, or before it used a receipt.
     pub ours: LinkedList<Event>,
-    /// The events that the other seat had seen when it was merged into this seat, or that the receipt had seen when
-    /// this seat used it.
+    /// The events that the other seat had seen before it was merged into this seat, or the events of the receipt that
+    /// this seat used.
     pub theirs: LinkedList<Event>,
 }

@@ -23,9 +23,10 @@ pub type Words<M> = Shared<(), View, Opened, Follows<M>>;
 /// Executes a step of a pending call, other than its first step.
 ///
 /// `place` is a seat (per-thread handle) on the words `table` with a pending call. `action` is the action that the step
-/// table has at the call's current row. Returns the value to pass to the table's `feed`: the value that was loaded or
-/// stored, or the value that a compare-and-exchange found. (An exchange has succeeded if and only if it found the
-/// expected value.) After the step, the seat has seen all events up to this step.
+/// table has at the call's current row. Returns the value that the step saw: the value that was loaded or stored, or
+/// the value that a compare-and-exchange found. (An exchange has succeeded if and only if it found the expected value.)
+/// The table's function `feed` computes the thread's next private state from this value. After the step, the seat has
+/// seen all events up to this step.
 #[inline(always)]
 pub fn step_on<M: Machine>(table: &Words<M>, place: &mut TableSeat, action: Action) -> u64
     requires place { IsOf table.now.table_id table.now.key place.old }
@@ -50,8 +51,9 @@ pub fn step_on<M: Machine>(table: &Words<M>, place: &mut TableSeat, action: Acti
 /// Starts a call and executes its first step. The call starts after all events that the seat had seen.
 ///
 /// `place` is an idle seat (per-thread handle) on the words `table`. The key of `call` must be smaller than the key of
-/// the tail. `action` is the action that the step table has at the call's first row. Returns the value to pass to the
-/// table's `feed`: the value that was loaded or stored, or the value that a compare-and-exchange found.
+/// the tail. `action` is the action that the step table has at the call's first row. Returns the value that the step
+/// saw: the value that was loaded or stored, or the value that a compare-and-exchange found. The table's function
+/// `feed` computes the thread's next private state from this value.
 #[inline(always)]
 pub fn start_on<M: Machine, J: Asking>(
     table: &Words<M>,
