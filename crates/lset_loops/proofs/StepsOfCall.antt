@@ -174,15 +174,11 @@ first_tried m law b own s n s' c same may seat starts again ne =
     now_holds m b (m.feed (first m b own) n).local (first m b own) s' (ap (λ (f : Fed). f.local) (again n ne))
     (begins_holding m law b own s n s' c same may seat starts (ap (λ (f : Fed). f.answer) (again n ne)))
 
--- Replaces the private state l of a thread by an equal private state l'.
---
--- A proof about a loop uses this lemma last: `leads` yields the private state after a step as the step table computes
--- it, the test of a branch selects the case (`if_same`, `if_other`, `deed`), and `moved` writes the private state in
--- the form `row`.
+-- If a condition holds for the private state l of a thread, it holds for an equal private state l'.
 pub moved : {m : Table} {b : Begun} {l l' : Local} {s : TableSeat} → Holds m b l s → l ≡ l' → Holds m b l' s
 moved h same = record { words = h.words; used = h.used; seat = h.seat; mid = h.mid; stands = h.stands; local = h.local ∙ same }
 
--- Replaces the number x of the current node in the registers by an equal number x'. `to_pred` does this for the
+-- If a condition holds with the current node x, it holds with an equal number x'. `to_pred` states the same for the
 -- previous node.
 pub to_curr : {m : Table} {b : Begun} {d : Call} {own : OwnSlots} {pc p x x' : ℕ} {r : Option Reply} {j : Rest} {s : TableSeat}
     → x' ≡ x → Holds m b (row own d pc r p x j) s → Holds m b (row own d pc r p x' j) s

@@ -1,5 +1,5 @@
--- Conditions that hold between two steps of a pending call, about the thread's private state and about the next step
--- according to the step table.
+-- Conditions on the private state of a thread and on its next step according to the step table. They hold between two
+-- steps of a pending call.
 use Rattle.std.specs.Prelude.{◌≡◌, ◌≢◌, ℕ, ◌+◌, ◌*◌, List, [], ◌∷◌, Bool, true, false, Option, Some, None, MatchOption}
 use Rattle.lset_words.specs.declared.Call.{Call}
 use Rattle.lset_words.specs.declared.Reply.{Reply}
@@ -56,7 +56,8 @@ pub record MayLock (m : Table) (b : Begun) (word thread : ℕ) (s : TableSeat) :
 abbrev pub slot : OwnSlots → ℕ
 slot own = slot_node own.quota own.thread own.used
 
--- Returns the private state of a thread that had the private state `l` and has then stored these (word, value) pairs.
+-- Returns the private state of a thread after it has executed these stores, each a pair of a word and a value. `l` is
+-- its private state before.
 abbrev pub feeds : Table → Local → List (ℕ × ℕ) → Local
 feeds m l [] = l
 feeds m l ((word, value) ∷ more) = feeds m (m.feed l value).local more
@@ -125,15 +126,15 @@ abbrev pub HasExchanged : Table → Begun → ℕ → TableSeat → Bool → Tab
 HasExchanged m b old s true s' = HasTold m b s old s'
 HasExchanged m b old s false s' = (n : ℕ) × (n ≢ old) × HasTold m b s n s'
 
--- The registers of a thread that the loops do not depend on.
+-- The parts of a thread's private state that the loops do not depend on.
 pub record Rest : Type 0 where
   pub succ : ℕ
   pub node : ℕ
   pub pkey : ℕ
   pub ckey : ℕ
 
--- Returns the private state of a thread at row pc of the step table: p is the previous node, x the current node, and j
--- has the other registers, which the loops do not depend on.
+-- Returns the private state of a thread at row pc of the step table. The previous node is p, the current node is x, and
+-- j has the parts that the loops do not depend on.
 abbrev pub row : OwnSlots → Call → ℕ → Option Reply → ℕ → ℕ → Rest → Local
 row own c pc r p x j = record {
   thread = own.thread;
@@ -150,14 +151,15 @@ row own c pc r p x j = record {
   ckey = j.ckey;
 }
 
--- Returns a thread's private state after decision d. The next row of the step table then adds the key, removes the key,
--- or ends the call with a reply.
+-- Returns a thread's private state after its call has decided d: to add the key, to remove the key, or only to reply.
+-- The thread continues at the row of the step table for this decision.
 abbrev pub done : Targets → Decision → Local → Local
 done t PutIn l = goes_to t.adds None l
 done t TakeOut l = goes_to t.removes None l
 done t (Answer r) l = goes_to t.leaves (Some r) l
 
--- Holds if d is the decision of the step table when the walk of call c stops at the key word `word`.
+-- Holds if the step table makes decision d when the walk of call c stops at a node with the key word `word`. The
+-- decision is to add the key, to remove the key, or only to reply.
 abbrev pub Decides : Call → OwnSlots → ℕ → Decision → Type 0
 Decides c own word d = (t : Targets) (l : Local) → l.call ≡ c → l.used ≡ own.used → l.quota ≡ own.quota →
     decided_on t word l ≡ done t d l

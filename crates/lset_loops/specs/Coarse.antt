@@ -1,5 +1,5 @@
--- Conditions between the parts of a call on a CoarseList (take the lock, walk, act): the next row of the step table,
--- and the nodes in the thread's registers.
+-- Conditions that hold between the parts of a call on a CoarseList (take the lock, walk, act). They state the next row
+-- of the step table and the nodes in the thread's private state.
 use Rattle.std.specs.Prelude.{ℕ, Some, None}
 use Rattle.lset_words.specs.declared.Reply.{Reply}
 use Rattle.lset_steps.specs.Rows.{decided_on}

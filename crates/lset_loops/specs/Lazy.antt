@@ -1,5 +1,5 @@
 -- Conditions that hold between the parts of an `add` or `remove` on a LazyList (walk, lock, validate, act). They state
--- the next row of the step table and the nodes in the thread's registers.
+-- the next row of the step table and the nodes in the thread's private state.
 use Rattle.std.specs.Prelude.{ℕ, Option, Some, None}
 use Rattle.lset_words.specs.declared.Reply.{Reply}
 use Rattle.lset_steps.specs.Rows.{decided_on}
@@ -23,7 +23,7 @@ StopsAt b own f s = (j : Rest) × Holds lazy b (row own b.call 4 None f.pred.num
 abbrev pub HasLocked : Begun → OwnSlots → Found → TableSeat → Type 0
 HasLocked b own f s = (j : Rest) × Holds lazy b (row own b.call 6 None f.pred.number f.curr.number (record j { ckey = f.word })) s
 
--- Holds if the two nodes in f are locked neighbours, the link of `f.curr` leads to n, and the call continues at the row
+-- Holds if the two nodes in f are locked neighbors, and the link of `f.curr` leads to n. The call continues at the row
 -- of the step table for its decision (add, remove or reply).
 abbrev pub AreNeighbours : Begun → OwnSlots → Found → Node → TableSeat → Type 0
 AreNeighbours b own f n s = (j : Rest)
@@ -38,7 +38,7 @@ GivesBack b f own r s = (j : Rest) × Holds lazy b (row own b.call 13 r f.pred.n
 abbrev pub Leaves : Begun → Found → OwnSlots × Reply → TableSeat → Type 0
 Leaves b f answer s = GivesBack b f answer.0 (Some answer.1) s
 
--- Holds if the call has validated the two nodes in f. If the validation returned a node, the two nodes are neighbours.
+-- Holds if the call has validated the two nodes in f. If the validation returned a node, the two nodes are neighbors.
 -- If it returned None, the call is about to release their locks and start over.
 abbrev pub HasValidated : Begun → OwnSlots → Found → Option Node → TableSeat → Type 0
 HasValidated b own f (Some n) s = AreNeighbours b own f n s

@@ -1,5 +1,5 @@
 -- Conditions that hold between the parts of an `add` or `remove` on a LockFreeList (find, attempt the change). They
--- state the next row of the step table and the nodes in the thread's registers.
+-- state the next row of the step table and the nodes in the thread's private state.
 use Rattle.std.specs.Prelude.{◌≡◌, ℕ, Option, Some, None}
 use Rattle.lset_words.specs.declared.Reply.{Reply}
 use Rattle.lset_steps.specs.declared.Fed.{Fed}
@@ -26,8 +26,8 @@ StopsAt b own f s = (j : Rest)
 abbrev pub AtHead : Begun → OwnSlots → TableSeat → Type 0
 AtHead b own s = (p : ℕ) × (x : ℕ) × (j : Rest) × Holds lock_free b (row own b.call 1 None p x j) s
 
--- Holds if the call has tried to add, remove or reply. If the attempt returned `answer` (the thread's unused slots and
--- the reply), the call has ended. If it returned None, the call is about to start over.
+-- Holds if the call has tried to add, remove or reply. If the attempt returned `answer` (the thread's slots, which are
+-- nodes for its adds, and the reply), the call has ended. If it returned None, the call is about to start over.
 abbrev pub HasTried : Begun → OwnSlots → Option (OwnSlots × Reply) → TableSeat → Type 0
 HasTried b own (Some answer) s = HasAnswered lock_free b answer s
 HasTried b own None s = AtHead b own s

@@ -1,5 +1,5 @@
--- Conditions between the parts of a call on an OptimisticList (walk, lock, validate, act): the next row of the step
--- table, and the nodes in the thread's registers.
+-- Conditions that hold between the parts of a call on an OptimisticList (walk, lock, validate, act). They state the
+-- next row of the step table and the nodes in the thread's private state.
 use Rattle.std.specs.Prelude.{ℕ, Bool, true, false, Option, Some, None}
 use Rattle.lset_words.specs.declared.Reply.{Reply}
 use Rattle.lset_steps.specs.Rows.{decided_on}
@@ -47,8 +47,8 @@ abbrev pub AtPred : Begun → OwnSlots → Found → TableSeat → Type 0
 AtPred b own f s = (j : Rest) × Holds optimistic b
     (row own b.call 8 None f.pred.number f.curr.number (record j { ckey = f.word })) s
 
--- Holds if the two nodes in f are locked neighbours, and the call continues at the row of the step table for its
--- decision (add, remove or reply).
+-- Holds if the two nodes in f are locked neighbors. The call continues at the row of the step table for its decision
+-- (add, remove or reply).
 abbrev pub AreNeighbours : Begun → OwnSlots → Found → TableSeat → Type 0
 AreNeighbours b own f s = (j : Rest)
     × Holds optimistic b (decided_on targets f.word
@@ -68,7 +68,7 @@ abbrev pub HasReached : Begun → OwnSlots → Found → Bool → TableSeat → 
 HasReached b own f true s = AtPred b own f s
 HasReached b own f false s = GivesBack b f own None s
 
--- Holds if the call has validated the two nodes in f. If the result is true, the nodes are neighbours. If it is false,
+-- Holds if the call has validated the two nodes in f. If the result is true, the nodes are neighbors. If it is false,
 -- the call is about to release their locks and start over.
 abbrev pub HasValidated : Begun → OwnSlots → Found → Bool → TableSeat → Type 0
 HasValidated b own f true s = AreNeighbours b own f s

@@ -31,8 +31,8 @@ impl Model for Origin {
     ghost view = { λ o. begun_at o.call o.place.value };
 }
 
-/// A call and its thread: the shared words of the list, the pause between two steps, the thread's slots (nodes for the
-/// keys that it adds), the call, and the call's key as a word.
+/// A call and its thread. Contains the shared words of the list, the code that runs between two steps (the pause), the
+/// thread's slots (nodes for the keys that it adds), the call, and its key as a word.
 #[derive(Drop)]
 pub(crate) struct Caller<'a, M: Machine, P: Pause> {
     pub table: &'a Words<M>,

@@ -27,8 +27,8 @@ pub(crate) enum Decision {
     Answer(Reply),
 }
 
-/// Returns the decision of `call` when the walk has stopped at the key word `word`, the first that is not smaller than
-/// the call's.
+/// Returns the decision of `call` when its walk has stopped. `word` is the first key of the walk that is not smaller
+/// than the call's key.
 pub fn decide(call: Call, word: u64, slots: OwnSlots) -> Decision
     ensures deed { Decides call slots word result }
     ensures room { result ≡ Decision.PutIn → slots.used < slots.quota }

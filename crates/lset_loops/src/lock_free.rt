@@ -1,5 +1,5 @@
-//! LockFreeList: no locks. A call marks a node by a compare-and-exchange on the node's link, and walks unlink marked
-//! nodes.
+//! LockFreeList: no locks. A call marks a node by a compare-and-exchange on the node's link, and the walks of `add` and
+//! `remove` unlink marked nodes.
 ghost use Rattle.std.specs.Prelude.{◌≡◌, IfSome};
 ghost use Rattle.lset_steps.specs.ReadRows.{first_row};
 ghost use Rattle.lset_lock_free.specs.LockFree.{lock_free};

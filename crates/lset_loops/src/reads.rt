@@ -15,7 +15,7 @@ use lset_rule::{OwnSlots, Pause, TableSeat, Words};
 use lset_steps::OpenReads;
 use lset_words::{Call, Key, Reply};
 
-/// A list that has the common rows 20 to 25 for `contains` and `ceiling` in its step table (`lset_steps`).
+/// A list whose step table has the common rows 20 to 25 for `contains` and `ceiling` (see `lset_steps`).
 pub trait ReadsByRows: OpenReads {
     ghost reading: { HasReading Self.table };
 }

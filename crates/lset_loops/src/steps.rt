@@ -34,8 +34,7 @@ impl<'a, M: Machine, P: Pause> Caller<'a, M, P> {
         step_on::<M>(self.table, place, Action::Load(part.index()))
     }
 
-    /// Loads the key word of a node. The call can end with this step. If the call continues, the loop must call
-    /// `goes_on`.
+    /// Loads the key of a node. The call can end with this step. If the call continues, the loop must call `goes_on`.
     #[inline(always)]
     pub fn look_at_key(&self, place: &mut TableSeat, node: Node) -> u64
         requires { MayAnswer M.table self.now.origin (Load (key_index node.number)) place.old }
@@ -45,8 +44,7 @@ impl<'a, M: Machine, P: Pause> Caller<'a, M, P> {
         self.look_at(place, Part::Key(node))
     }
 
-    /// Loads the link word of a node. The call can end with this step. If the call continues, the loop must call
-    /// `goes_on`.
+    /// Loads the link of a node. The call can end with this step. If the call continues, the loop must call `goes_on`.
     #[inline(always)]
     pub fn look_at_link(&self, place: &mut TableSeat, node: Node) -> u64
         requires { MayAnswer M.table self.now.origin (Load (link_index node.number)) place.old }
@@ -66,7 +64,7 @@ impl<'a, M: Machine, P: Pause> Caller<'a, M, P> {
         seen
     }
 
-    /// Loads the key word of a node.
+    /// Loads the key of a node.
     pub fn load_key(&self, place: &mut TableSeat, node: Node) -> u64
         requires { MayStep M.table self.now.origin (Load (key_index node.number)) place.old }
         ensures { HasStepped M.table self.now.origin place.old result place.new }
@@ -74,7 +72,7 @@ impl<'a, M: Machine, P: Pause> Caller<'a, M, P> {
         self.load(place, Part::Key(node))
     }
 
-    /// Loads the link word of a node.
+    /// Loads the link of a node.
     pub fn load_link(&self, place: &mut TableSeat, node: Node) -> u64
         requires { MayStep M.table self.now.origin (Load (link_index node.number)) place.old }
         ensures { HasStepped M.table self.now.origin place.old result place.new }
@@ -91,7 +89,7 @@ impl<'a, M: Machine, P: Pause> Caller<'a, M, P> {
         self.goes_on();
     }
 
-    /// Stores the key word of a node.
+    /// Stores the key of a node.
     pub fn store_key(&self, place: &mut TableSeat, node: Node, key: u64)
         requires { MayStep M.table self.now.origin (Store (key_index node.number) key) place.old }
         ensures { HasStepped M.table self.now.origin place.old key place.new }

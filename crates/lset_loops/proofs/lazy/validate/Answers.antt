@@ -1,5 +1,3 @@
--- If a load shows that the two locked nodes are not neighbours, the call continues at row 13 of the step table and
--- releases both locks. Otherwise it continues at row 7, and then at the row for its decision.
 use Rattle.std.proofs.Common.{◌*◌, ◌%◌, None, refl, ap, sym}
 use Rattle.lset_words.proofs.Numbers.{if_same, if_other}
 use Rattle.lset_steps.specs.Rows.{decided_on}

@@ -1,5 +1,3 @@
--- The lemma `deed` shows that the decision leads to row 9, 12 or 14 of the step table, and `moved` that the thread is
--- at this row. The prover computes the later rows.
 use Rattle.std.proofs.Common.{◌*◌, refl, ap}
 use Rattle.lset_words.specs.Words.{link_index}
 use Rattle.lset_steps.specs.declared.Action.TheVariants.{Store}
