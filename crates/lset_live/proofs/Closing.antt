@@ -1,5 +1,5 @@
--- Proof about `close`: the seat passed to `close` (a per-thread handle) holds all seats of the set, and therefore has
--- seen all events that determine the final keys.
+-- Proof: the seat passed to `close` (a per-thread handle) holds all seats of the set. Therefore it has seen all events
+-- that determine the final keys.
 use Rattle.std.proofs.Common.{◌≡◌, inl, ℕ, zero, suc, ◌+◌, ◌/◌, ◌<◌, false, List, [], ◌∷◌, map, length, None, refl, sym, ap, ◌∙◌}
 use Rattle.std.proofs.Common.{subst, arith}
 use mathlib.Core.Option.{some, some-injective, some-ne-none}
@@ -35,8 +35,8 @@ use Rattle.lset_live.proofs.OrderKeepsRecord.{calls_by_is}
 use Rattle.lset_rule.proofs.RecordsOfRuns.{none_in}
 use Rattle.lset_live.proofs.SeenExplained.{own, order, explains, turns, kept}
 
--- The nodes that can be reached from the head, and the keys of these nodes, do not depend on how many slots (nodes for
--- keys to add) the threads have used.
+-- The nodes that can be reached from the head do not depend on how many slots (nodes for keys to add) the threads have
+-- used. Neither do the keys of these nodes.
 module _ (sz : Sizes) (ws : List ℕ) (used other : ℕ → ℕ) where
   same_segment : (i : ℕ) (ns : List ℕ) (j : ℕ) → Segment (view sz ws used) i ns j → Segment (view sz ws other) i ns j
   same_segment i [] j s = s

@@ -9,7 +9,7 @@ use Rattle.lset_rule.proofs.RecordsOfRuns as dated
 use Rattle.lset_words.specs.Records.{HasOwnCalls, own_calls, calls_by, placed_by}
 use Rattle.lset_rule.specs.Dated.{call_of, record_of}
 
--- Returns a completed call of thread u as an entry of an order.
+-- Converts a completed call of thread u to an entry of an order (a list of calls with their replies).
 abbrev pub said_by : ℕ → OwnCall → Answered
 said_by u c = placed_by u (call_of c)
 

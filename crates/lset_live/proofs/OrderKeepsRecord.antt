@@ -1,5 +1,5 @@
--- Proof: in a linearization of a history, the calls of a thread without a pending call are in the thread's own order,
--- and each call follows all calls that ended before it started.
+-- Proof: a linearization of a history has the calls of a thread in the thread's own order, if the thread has no pending
+-- call. Each call follows all calls that ended before it started.
 use Rattle.std.proofs.Common.{◌≡◌, ◌≢◌, ◌⊎◌, inl, inr, ⊎_elim, ℕ, zero, suc, ◌+◌, ◌<◌, ◌≤◌, ◌==◌, Bool, true, false, cond, List}
 use Rattle.std.proofs.Common.{[], ◌∷◌, ◌++◌, map, length, get_or, Option, Some, None, refl, sym, ap, ◌∙◌, subst, arith}
 use Rattle.std.proofs.Common.{append-nil, append_assoc}

@@ -9,7 +9,8 @@ use Rattle.lset_steps.specs.Steps.{Table}
 use Rattle.lset_steps.specs.Laws.{Lawful}
 use Rattle.lset_rule.specs.Runs.{end_of, IsRunOf}
 
--- The final words of a closed set, and the sizes of the set (threads, quota, number of opening keys).
+-- The final words of a closed set, and the sizes of the set (its threads, its quota, and its number of keys at the
+-- start).
 pub record LastWords : Type 0 where
   pub sizes : Sizes
   pub words : List ℕ
@@ -29,11 +30,12 @@ pub record IsLast (c : LastWords) : Type 0 where
 abbrev pub HasKeys : LastWords → List ℕ → Type 0
 HasKeys c keys = IsContent (view c.sizes c.words (λ t. 0)) keys
 
--- Returns the maximum number of keys in a set: the opening keys, plus as many keys as all threads together can add.
+-- Returns the maximum number of keys in a set: the opening keys (the keys at the start), plus as many keys as all
+-- threads together can add.
 abbrev pub most_keys : Sizes → ℕ
 most_keys s = s.threads * s.quota + s.opening
 
--- The facts about the words of a closed set that the proof of a walk along its nodes uses.
+-- Facts about the words of a closed set. The proof of the walk along its nodes uses these facts.
 pub record HasLaws (c : LastWords) : Type 0 where
   pub few : length c.words ≤ MOST_WORDS
   pub count : length c.words ≡ word_count c.sizes

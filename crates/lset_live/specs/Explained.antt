@@ -31,9 +31,9 @@ pub record IsAnswered (T : Table) (k : Opening) (t : ℕ) (c : Call) (r : Reply)
     ended = Some (length after, r);
   })
 
--- Holds if the events that a seat (per-thread handle) has seen are a run of the list, and some order of the run's calls
--- linearizes the run's history and agrees with r, the record of the seat's calls. Calls of seats that were not merged
--- into this seat can be missing from the run.
+-- Holds if the events that a seat (per-thread handle) has seen are a run of the list. In addition, some order of the
+-- run's calls linearizes the run's history and agrees with r, the record of the seat's calls. Calls of seats that were
+-- not merged into this seat can be missing from the run.
 pub record SeenIsLinearizable (T : Table) (k : Opening) (events : List Event) (r : Record) : Type 0 where
   pub run : IsRunOf T k events
   pub order : List Placed
@@ -61,9 +61,10 @@ abbrev pub NamedIn : ℕ → List Record → Type 0
 NamedIn u [] = ⊥
 NamedIn u (r ∷ rs) = Names u r ⊎ NamedIn u rs
 
--- A legal order that has exactly the calls in the records, and leaves these keys in the set. The order agrees with
--- each record: with the sequence of the seat's calls, and with the moments when other seats were merged into the seat.
--- The order need not keep real-time order between seats. In short: the calls are sequentially consistent.
+-- A legal order that has exactly the calls in the records, and leaves these keys in the set. The order keeps the
+-- sequence of the calls in each record. If another seat was merged into a seat, the order has the calls of the other
+-- seat before the later calls of this seat. Otherwise, the order need not keep real-time order between seats. In short:
+-- the calls are sequentially consistent.
 pub record IsOneLegalOrder (k : Opening) (records : List Record) (keys : List ℕ) : Type 0 where
   pub order : List Answered
   pub legal : IsLegal k.quota (opening_set k) order
@@ -72,9 +73,9 @@ pub record IsOneLegalOrder (k : Opening) (records : List Record) (keys : List �
   pub no_other : (u : ℕ) → u < k.threads → ¬ (NamedIn u records) → calls_by u order ≡ []
   pub leaves : (set_left (opening_set k) order).keys ≡ keys
 
--- A legal order that has exactly the calls in the records, and also linearizes the history of these events: a call
--- that ended before another call started precedes it. In the contracts, the events begin with all events that the
--- seats had seen. A seat that has received a receipt has seen all events of the seat that issued the receipt.
+-- A legal order that has exactly the calls in the records, and also linearizes the history of these events. If a call
+-- ended before another call started, it precedes the other call. In the contracts, the events begin with all events
+-- that the seats had seen. A seat that has received a receipt has seen all events of the seat that issued the receipt.
 -- Therefore the order respects receipts just as it respects the merging of seats.
 pub record IsOneOrderInTime (T : Table) (k : Opening) (events : List Event) (records : List Record) (keys : List ℕ) : Type 0 where
   pub run : IsRunOf T k events

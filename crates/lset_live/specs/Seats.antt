@@ -15,13 +15,13 @@ use Rattle.lset_live.specs.declared.open_fault.OpenFault.{OpenFault}
 use Rattle.lset_live.specs.declared.open_fault.OpenFault.TheVariants as fault
 use Rattle.lset_words.specs.Records.{Record, fresh, gathered}
 
--- A running set in contracts: its table of words, and its opening (threads, quota and opening keys).
+-- A running set in contracts: its table of words, and what it was opened with (threads, quota and keys at the start).
 pub record SetValue : Type 0 where
   pub table : TableId
   pub shape : Opening
 
--- A seat (per-thread handle) as contracts see it: its set, the record of its calls, the number of seats that it holds
--- (itself and those merged into it), and the events that it has seen.
+-- A seat (per-thread handle) as contracts see it. It has its set, the record of its calls, the number of seats that it
+-- holds (itself and those merged into it), and the events that it has seen.
 pub record SeatValue : Type 0 where
   pub set : SetValue
   pub past : Record
@@ -38,21 +38,20 @@ pub record ReceiptValue : Type 0 where
 abbrev pub new_seat : SetValue → ℕ → SeatValue
 new_seat set t = record { set = set; past = fresh t; held = 1; events = [] }
 
--- Holds if the set was just opened with this opening (threads, quota and opening keys), and `seats` are its new seats
--- (per-thread handles), ordered by thread.
+-- Holds if the set was just opened with these threads, this quota and these keys at the start, and `seats` are its new
+-- seats (per-thread handles), ordered by thread.
 abbrev pub IsOpened : SetValue → Opening → List SeatValue → Type 0
 IsOpened set opening seats = (set.shape ≡ opening) × (seats ≡ map (new_seat set) (range_with_len 0 opening.threads))
 
--- Holds if this error is correct for `open` with the sizes s: it names the first size that is out of range, or is
--- Memory if no size is out of range.
+-- Holds if `open` can return this error for the sizes s: the first size that is out of range, or Memory if no size is.
 abbrev pub RefusesSeats : Sizes → OpenFault → Type 0
 RefusesSeats s fault.Seats = RefusesSizes s layout.Threads
 RefusesSeats s fault.Quota = RefusesSizes s layout.Quota
 RefusesSeats s fault.Memory = IsWithin s
 RefusesSeats s fault.Opening = ⊥
 
--- Holds if `open_with` returns this error for the opening o: the first size that is out of range, else Opening if the
--- keys do not increase strictly or are too many, else Memory.
+-- Holds if `open_with` can return this error for the opening o. The error is the first size that is out of range, else
+-- Opening if the keys at the start do not increase strictly or are too many, else Memory.
 abbrev pub RefusesOpening : Opening → OpenFault → Type 0
 RefusesOpening o fault.Seats = RefusesSizes (sizes o) layout.Threads
 RefusesOpening o fault.Quota = RefusesSizes (sizes o) layout.Quota

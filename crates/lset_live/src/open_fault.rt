@@ -10,7 +10,7 @@ pub enum OpenFault {
     /// The quota is above `MOST_QUOTA`.
     #[error("the quota is above {MOST_QUOTA}")]
     Quota,
-    /// The opening keys do not increase strictly, or there are more than `MOST_OPENING`.
+    /// The opening keys (the keys at the start) do not increase strictly, or there are more than `MOST_OPENING`.
     #[error("the opening keys do not increase strictly, or there are more than {MOST_OPENING}")]
     Opening,
     /// An allocation failed.

@@ -64,8 +64,11 @@ fn open_on<M: Machine>(
 /// (0 to `MOST_QUOTA`). Allocates all memory of the set. After that, only the vector of the final keys can need an
 /// allocation.
 ///
-/// Returns the first error that applies: `OpenFault::Seats` if `seats` is out of range, `OpenFault::Quota` if `quota`
-/// is, or `OpenFault::Memory` if an allocation fails.
+/// Returns the first of these errors that applies:
+///
+/// - `OpenFault::Seats`: `seats` is out of range;
+/// - `OpenFault::Quota`: `quota` is out of range;
+/// - `OpenFault::Memory`: an allocation failed.
 pub fn open<M: Machine>(
     alloc: Global,
     seats: u32,
@@ -91,9 +94,12 @@ pub fn open<M: Machine>(
 /// any quota, and each seat can remove them. The final keys of a closed set can open another set, of any list. (In the
 /// literature, a list starts empty.)
 ///
-/// Returns the first error that applies: `OpenFault::Seats` if `seats` is out of range, `OpenFault::Quota` if `quota`
-/// is, `OpenFault::Opening` if `keys` has too many keys or a key is not above the key before it, or `OpenFault::Memory`
-/// if an allocation fails.
+/// Returns the first of these errors that applies:
+///
+/// - `OpenFault::Seats`: `seats` is out of range;
+/// - `OpenFault::Quota`: `quota` is out of range;
+/// - `OpenFault::Opening`: there are too many `keys`, or a key is not greater than the key before it;
+/// - `OpenFault::Memory`: an allocation failed.
 pub fn open_with<M: Machine>(
     alloc: Global,
     seats: u32,

@@ -34,7 +34,7 @@ use thiserror::Error;
 
 /// A running set of the list `M`: Herlihy and Shavit's `Set`, with a limit on the keys that each thread can add (its
 /// quota). Threads share the set by `&`, and each thread calls from its own seat (per-thread handle). In contracts, a
-/// set is its table of words and its opening: the number of threads, the quota and the opening keys.
+/// set is its table of words and what it was opened with: the number of threads, the quota and the keys at the start.
 #[derive(Drop)]
 pub struct LiveSet<M: Machine> {
     pub(crate) table: Table<(), View, Opened, Follows<M>, Global>,
@@ -90,8 +90,8 @@ impl<M: Machine> LiveSet<M> {
         self.quota
     }
 
-    /// Returns the maximum number of keys that the set can have: the opening keys plus the keys that its threads can
-    /// add.
+    /// Returns the maximum number of keys that the set can have: the keys at the start plus the keys that its threads
+    /// can add.
     pub fn most_keys(&self) -> usize
         ensures { result ≡ most_keys (sizes self.now.shape) }
     {
