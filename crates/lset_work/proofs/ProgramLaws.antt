@@ -109,8 +109,8 @@ run_more set seats programs last replies seat done now program told h made same 
           (starts_on now.events done.events seat.events from later);
     }
 
--- The invariant while threads are joined: the threads in `joined` have ended and their seats (per-thread handles) were
--- merged into `last`, and the threads in `rest` are still to be joined.
+-- The invariant while threads are joined. The threads in `joined` have ended, and their seats (per-thread handles) were
+-- merged into `last`. The threads in `rest` are still to be joined.
 pub record SoFar {H V : Type 0} (set : SetValue) (seat : H → SeatValue) (program : H → List Call) (items : V → List Reply)
     (hs rest : List H) (last : Option SeatValue)
     (vs : List V) : Type 0 where

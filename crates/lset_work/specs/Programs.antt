@@ -33,8 +33,8 @@ worked (r ∷ rs) (p ∷ ps) (a ∷ more) = with_calls r (made p a) ∷ worked r
 abbrev pub Fit : SetValue → List SeatValue → ℕ → Type 0
 Fit set seats programs = (programs ≡ length seats) × (sum_by (λ (s : SeatValue). s.held) seats ≡ set.shape.threads)
 
--- The value that `work` returns together with an error of this cause: its input if no thread was started (Programs and
--- Memory), otherwise nothing.
+-- Holds if `work` returns `back` together with an error of this cause. `back` is the input of `work` if no thread was
+-- started (Programs and Memory), otherwise nothing.
 abbrev pub GivesBack : {Given : Type 0} → Given → WorkCause → Option Given → Type 0
 GivesBack given Programs back = back ≡ Some given
 GivesBack given Spawn back = back ≡ None

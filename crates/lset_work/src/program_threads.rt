@@ -12,16 +12,16 @@ use std::snapshot::Snapshot;
 use std::sync::Wait;
 use std::thread::{Promise, PromisedHandle, Scope, Threads};
 
-/// The result of a thread: its seat (per-thread handle), and the replies to the calls of its program, or `None` if the
-/// gate (a callback that permits or refuses each call) has stopped the program.
+/// The result of a thread: its seat (per-thread handle), and the replies to the calls of its program. The replies are
+/// `None` if the gate (a callback that permits or refuses each call) has stopped the program.
 #[derive(Drop)]
 pub(crate) struct Done<M: Running> {
     pub seat: Seat<M>,
     pub replies: Option<Vec<Reply>>,
 }
 
-/// The promise of a thread in contracts: it makes the calls of its program on its seat, unless the gate (a callback
-/// that permits or refuses each call) stops the program.
+/// The promise of a thread in contracts: to make all calls of its program on its seat, unless the gate (a callback that
+/// permits or refuses each call) stops the program.
 #[derive(Drop)]
 pub(crate) struct WorkerPromise<M: Running, G: Gate> {
     pub set: Snapshot<LiveSet<M>>,
