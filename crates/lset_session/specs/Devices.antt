@@ -13,6 +13,7 @@ is_failed d = d.failed
 abbrev pub CutShort : Option (List ℕ) → Option (List ℕ) → List ℕ → Type 0
 CutShort old new text = (front : List ℕ) × (b : ℕ) × (cut : List ℕ) × (text ≡ front ++ b ∷ cut) × Appends old new front
 
--- If `whole` is true, the whole text was written. Otherwise only a proper prefix of it was written.
+-- Holds if the whole text was written and `whole` is true, or if only a proper prefix of the text was written and
+-- `whole` is false.
 abbrev pub Writes : Bool → Option (List ℕ) → Option (List ℕ) → List ℕ → Type 0
 Writes whole old new text = MatchBool whole (Appends old new text) (CutShort old new text)

@@ -14,22 +14,22 @@ use Rattle.lset_session.specs.declared.requests.Request.TheVariants as request
 use Rattle.lset_session.specs.SessionText.{Turn, turns_at, end_of, Exchange, turns_in, answers_in, calls_in}
 use Rattle.lset_session.specs.Sessions.{Wrote}
 
--- The answers that a session has written. The reason is `None` for a session that continues, and `Some end` for a
--- session that has ended for the reason `end`.
+-- Holds if a session has written the answers in `talk`. The reason is `None` for a session that continues, and `Some
+-- end` for a session that has ended for the reason `end`. If a write failed, the last answer is incomplete.
 abbrev pub WroteSoFar : Option EndReason → Option (List ℕ) → Option (List ℕ) → List Exchange → Type 0
 WroteSoFar None w w' talk = Appends w w' (answers_in talk)
 WroteSoFar (Some end) w w' talk = Wrote end w w' talk
 
--- Holds if a session can end for this reason while it processes bytes. All reasons except `End` and `ReadFault` are
--- possible.
+-- Holds if a session can end for this reason while it processes bytes. This excludes only the reasons `End` and
+-- `ReadFault`.
 abbrev pub IsLast : EndReason → Type 0
 IsLast why.End = ⊥
 IsLast why.ReadFault = ⊥
 IsLast end = Unit {0}
 
 -- Holds if `talk` contains the first turns of the input. A turn is a line that the session answers, or the notice that
--- the limit is reached. If the session has not ended, the remaining turns of the input are the turns of the incomplete
--- line `pending` followed by all later bytes.
+-- the limit is reached. If the session has not ended, the remaining turns come from the bytes of the incomplete line
+-- `pending`, followed by all later bytes.
 abbrev pub Told : ℕ → List ℕ → Option EndReason → ℕ → List ℕ → List Exchange → Type 0
 Told left bytes None left' pending talk =
     (end_of (turns_in talk) ≡ why.End)
@@ -39,9 +39,9 @@ Told left bytes (Some w) left' pending talk =
     IsLast w × ((more : List ℕ) → (later : List Turn) × (turns_at left (cut_at 10 (bytes ++ more)) ≡ turns_in talk ++ later)
     × (w ≢ why.WriteFault → (later ≡ []) × (end_of (turns_in talk) ≡ w)))
 
--- The state of a session after it has processed these bytes: o is None if the session continues, otherwise the reason
--- why it ended. The session could answer `left` lines before and `left'` lines afterwards. `talk` contains its calls
--- and answers.
+-- Holds if a session has processed these bytes. `o` is None if the session continues, otherwise the reason why it
+-- ended. The session could answer `left` lines before, and can answer `left'` lines afterwards. `talk` contains its
+-- calls and answers.
 pub record Heard (left : ℕ) (bytes : List ℕ) (o : Option EndReason) (left' : ℕ) (pending : List ℕ) (r r' : Record)
     (w w' : Option (List ℕ)) (calls calls' : ℕ) : Type 0 where
   pub talk : List Exchange

@@ -13,8 +13,8 @@ CutAnswers w w' talk =
     (said : List Exchange) × (last : Exchange) × (front : List ℕ) × (b : ℕ) × (cut : List ℕ)
     × (talk ≡ said ++ last ∷ []) × (answer_of last ≡ front ++ b ∷ cut) × Appends w w' (answers_in said ++ front)
 
--- The answers that a session has written when it ends for this reason: all of them completely or, after a failed
--- write, all but the last.
+-- Holds if a session that ended for this reason has written the answers in `talk`: all of them completely or, after a
+-- failed write, all but the last.
 abbrev pub Wrote : EndReason → Option (List ℕ) → Option (List ℕ) → List Exchange → Type 0
 Wrote why.WriteFault w w' talk = CutAnswers w w' talk
 Wrote end w w' talk = Appends w w' (answers_in talk)
