@@ -45,9 +45,9 @@ total f (v ∷ vs) = f v + total f vs
 abbrev pub IdleIsEmpty : List Tally → Type 0
 IdleIsEmpty views = (port : ℕ) (v : Tally) → get_elem? views port ≡ some v → v.parts ≡ 0 → (v.sent ≡ []) × (v.received ≡ [])
 
--- Holds if the channel has lost and duplicated nothing: for any weights h, the weights of the numbers sent have the
--- same sum as the weights of the numbers received and of the numbers in the queue. The passes (permissions to use the
--- channel) together have all parts, and a pass without parts has sent and received nothing.
+-- Holds if the channel has lost and duplicated nothing. For any weights h, the numbers sent have the same total weight
+-- as the numbers received and those in the queue. The passes (permissions to use the channel) together have all parts,
+-- and a pass without parts has sent and received nothing.
 abbrev pub IsBalanced : List ℕ → List Tally → Type 0
 IsBalanced queue views =
     (total (λ v. v.parts) views ≡ PARTS)

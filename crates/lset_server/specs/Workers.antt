@@ -17,9 +17,9 @@ pub record HasWorked (s s' : SeatValue) (v : Tally) (sessions calls : ℕ) : Typ
   pub count : calls ≡ length added
   pub held : s'.held ≡ s.held
 
--- The results of `workers` workers that have ended. Their passes (permissions to use the channel) were joined to the
--- sender's pass, and its tally changed from v to v'. Their seats were merged into `end`. Their sessions and calls were
--- added up.
+-- Holds if all `workers` workers have ended. Their passes (permissions to use the channel) were joined to the sender's
+-- pass, and the sender's tally changed from v to v'. Their seats were merged into `end`. `sessions` and `calls` are the
+-- sums over all workers.
 pub record HaveWorked (starts : List Record) (end : Option Record) (v v' : Tally) (workers sessions calls : ℕ) : Type 0 where
   pub added : List (List CallMade)
   pub each : length added ≡ length starts

@@ -1,4 +1,5 @@
-//! The set server: sessions with clients on a running set. Each seat (per-thread handle) has its own worker thread.
+//! The server of a running set. Clients connect, and each connection is served in a session. Each seat (per-thread
+//! handle) of the set has its own worker thread.
 #![tactic(auto)]
 
 mod channel;

@@ -1,7 +1,7 @@
-//! Closes a connection without losing answers. If a server closes a connection before it has read all bytes that the
-//! client sent, the system resets the connection, and the client loses the answers that have not reached it. If a
-//! session ends before the client has stopped sending, the server therefore first closes only its sending side, and
-//! continues to read for a while.
+//! Closes a connection without losing answers. Suppose that a server closes a connection before it has read all bytes
+//! that the client sent. The system then resets the connection, and the client loses the answers that have not reached
+//! it. If a session ends before the client has stopped sending, the server therefore first closes only its sending
+//! side, and continues to read for a while.
 ghost use Rattle.std.specs.Prelude.{◌≡◌, false};
 
 use lset_session::{Device, EndReason, Source};
@@ -54,9 +54,9 @@ fn drop_rest<I: Source>(reader: &mut I)
 }
 
 /// Prepares a connection for closing, after its session has ended for the reason `why`. If the session ended before its
-/// input did (reason `Quit`, `Long` or `Limit`), closes the sending side and then reads the client's remaining bytes,
-/// for at most one second and 1,048,576 bytes. Meanwhile the system can deliver the answers. Returns at once if the
-/// system refuses to close the sending side.
+/// input did (reason `Quit`, `Long` or `Limit`), closes the sending side. Then reads the client's remaining bytes, for
+/// at most one second and 1,048,576 bytes. Meanwhile the system can deliver the answers. Returns at once if the system
+/// refuses to close the sending side.
 pub(crate) fn take_leave<R: Clock>(rt: &R, stream: &TcpStream, why: EndReason) {
     match why {
         EndReason::Quit | EndReason::Long | EndReason::Limit => {}
