@@ -35,15 +35,15 @@ opening_rests n q t = idle_rests q t (range_with_len 0 n)
 abbrev pub Resting : State → ℕ → Type 0
 Resting s n = (t : ℕ) → t < n → (local_of s t).pc ≡ 0
 
--- The state of `generate` before its first turn (in a turn, it draws at most one event): no event has happened yet, and
--- all calls can still begin.
+-- Holds if `generate` has not begun its first turn (in a turn, it draws at most one event). No event has happened yet,
+-- and all calls can still begin.
 pub record IsUnbegun (turns n calls left : ℕ) (lines : List Line) (s : State) : Type 0 where
   pub turn : turns ≡ 0
   pub all_left : left ≡ calls
   pub none : lines ≡ []
   pub rest : Resting s n
 
--- The invariant of `generate` after `turns` turns, when `left` calls can still begin: the events of the lines are a run
+-- The invariant of `generate` after `turns` turns, when `left` calls can still begin. The events of the lines are a run
 -- that leads to the state in w.
 pub record IsDraft (T : Table) (n q calls keys turns left : ℕ) (lines : List Line) (w : WorldState) : Type 0 where
   pub sized : w.sizes ≡ sizes (empty n q)

@@ -1,5 +1,5 @@
--- The lines that `generate` draws, as a function of the seed. `generate` works in turns. Random numbers determine the
--- event of each turn.
+-- The lines of the random schedule that `generate` returns, as a function of the seed. `generate` works in turns.
+-- Random numbers determine the event of each turn.
 use Rattle.std.specs.Prelude.{◌≡◌, ℕ, zero, suc, ◌-◌, ◌%◌, ◌<◌, ◌⊎◌, ◌==◌, if◌then◌else◌, Option, Some, None, List, [], ◌∷◌, ◌++◌, length}
 use Rattle.rand_core.specs.Stream.{Stream, next_u32}
 use Rattle.lset_schedule.specs.declared.TheConstants.{MOST_GENERATED, MOST_TURNS}
@@ -20,8 +20,8 @@ abbrev pub left_after : ℕ → Event → ℕ
 left_after left (event.Begin t call) = left - 1
 left_after left (event.Go t) = left
 
--- Holds if a schedule ends here: the maximum number of events is reached, or no call is pending and no further call
--- can begin.
+-- Holds if `generate` stops after `events` events: the maximum number of events is reached, or no call is pending and
+-- no further call can begin.
 abbrev pub IsOver : State → ℕ → ℕ → Type 0
 IsOver s events left =
     (events ≡ MOST_GENERATED) ⊎ ((left ≡ 0) × ((t : ℕ) → t < length s.locals → (local_of s t).pc ≡ 0))

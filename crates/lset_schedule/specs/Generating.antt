@@ -14,12 +14,12 @@ use Rattle.lset_schedule.specs.declared.value.Line.TheVariants as line
 use Rattle.lset_schedule.specs.declared.gen_fault.GenFault.{GenFault}
 use Rattle.lset_schedule.specs.declared.gen_fault.GenFault.TheVariants.{Threads, Quota, Keys, Memory}
 
--- Returns the events of a line. Each step of a `go` line is one event. `events_of_lines` returns the events of a list
--- of lines.
+-- Returns the events of a line. Each step of a `go` line is one event.
 abbrev pub events_of_line : Line → List Event
 events_of_line (line.Begin t call) = event.Begin t call ∷ []
 events_of_line (line.Go t steps) = replicate steps (event.Go t)
 
+-- Returns the events of a list of lines, in order.
 abbrev pub events_of_lines : List Line → List Event
 events_of_lines lines = flat_map events_of_line lines
 
@@ -37,7 +37,7 @@ abbrev pub StartsWithBegin : List Line → Type 0
 StartsWithBegin [] = ⊥
 StartsWithBegin (l ∷ ls) = is_begin l ≡ true
 
--- Holds if thread t has no pending call after these events on a set without opening keys (keys at the start).
+-- Holds if thread t has no pending call after these events, on a set that is empty at the start.
 abbrev pub NoneOpenAfter : Table → ℕ → ℕ → List Event → ℕ → Type 0
 NoneOpenAfter T threads quota es t = (local_of (state_at T (empty threads quota) (event_at es) (length es)) t).pc ≡ 0
 

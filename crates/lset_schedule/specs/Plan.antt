@@ -26,7 +26,7 @@ pub record Plan : Type 0 where
   pub opening : List ℕ
   pub lines : List Line
 
--- Returns a schedule with this version, header, opening keys and lines.
+-- Returns a schedule with this version, header, opening keys (keys at the start) and lines.
 abbrev pub planned : Version → Header → List ℕ → List Line → Plan
 planned v h keys lines = record {
   version = v;
@@ -43,8 +43,8 @@ view s = planned s.version (record { kind = s.kind; threads = s.threads; quota =
 abbrev pub header_in : Plan → Header
 header_in p = record { kind = p.kind; threads = p.threads; quota = p.quota }
 
--- Returns the opening of the set that a schedule runs on: its number of threads, its quota (the most successful adds
--- of a thread) and its opening keys.
+-- Returns what the set of a schedule is opened with: the number of threads, the quota (the most successful adds of a
+-- thread), and the opening keys (the keys at the start).
 abbrev pub opening_in : Plan → Opening
 opening_in p = record { threads = p.threads; quota = p.quota; keys = p.opening }
 
@@ -99,7 +99,8 @@ HasCallOfLine version (Go thread steps) = Unit {0}
 abbrev pub HasCallsOfVersion : Plan → Type 0
 HasCallsOfVersion p = AllByRecursion (HasCallOfLine p.version) p.lines
 
--- Holds if a schedule can be written in its format version: the version allows all calls of the schedule and, if the
--- schedule has opening keys, opening keys. `IsSchedule` implies this condition (see proofs/VersionLaws.antt).
+-- Holds if a schedule can be written in its format version. The version must have all calls of the schedule and, if the
+-- schedule has opening keys (keys at the start), lines for them. `IsSchedule` implies this condition (see
+-- proofs/VersionLaws.antt).
 abbrev pub HasWordsOfVersion : Plan → Type 0
 HasWordsOfVersion p = HasOpening p.version p.opening × HasCallsOfVersion p

@@ -33,7 +33,7 @@ pub record EventLines (L : Type 0) : Type 0 where
   pub kinds : List (LineKind L)
   pub count : L → ℕ
 
--- The content of a schedule or draft: its header, its opening keys and its event lines.
+-- The content of a schedule or draft: its header, its opening keys (the keys at the start) and its event lines.
 pub record BodyValue (L : Type 0) : Type 0 where
   pub header : Header
   pub keys : List ℕ
@@ -42,7 +42,7 @@ pub record BodyValue (L : Type 0) : Type 0 where
 abbrev pub no_lines : {L : Type 0} → Header → BodyValue L
 no_lines h = record { header = h; keys = []; lines = [] }
 
--- The content of one line after the header: an opening key or an event line.
+-- The content of one line after the header: an opening key (a key at the start) or an event line.
 pub data Item (L : Type 0) : Type 0 where
   opens : ℕ → Item L
   event : L → Item L
@@ -50,15 +50,15 @@ pub data Item (L : Type 0) : Type 0 where
 abbrev pub opening_kind : {L : Type 0} → LineKind (Item L)
 opening_kind = (opening_form, λ t. opens t.1.0)
 
--- Returns the possible patterns of the next line after the event lines ls. An opening key is possible only in version
--- 2, and only before all event lines.
+-- Returns the possible patterns of the next line after the event lines ls. An opening key (a key at the start) is
+-- possible only in version 2, and only before all event lines.
 abbrev pub kinds_after : {L : Type 0} → EventLines L → Version → List L → List (LineKind (Item L))
 kinds_after text One ls = map (kind_as event) text.kinds
 kinds_after text Two [] = opening_kind ∷ map (kind_as event) text.kinds
 kinds_after text Two (l ∷ ls) = map (kind_as event) text.kinds
 
--- Returns the content of a text after the next line, or the error of this line. Each opening key must be greater than
--- the previous opening key. The numbers of opening keys and events are limited.
+-- Returns the content of a text after the next line, or the error of this line. Each opening key (key at the start)
+-- must be greater than the previous one. The numbers of opening keys and events are limited.
 abbrev pub with_item : {L : Type 0} → EventLines L → BodyValue L → Item L → Result (BodyValue L) Cause
 with_item text s (opens k) =
     if nat_lt (length s.keys) MOST_OPENING then (if is_above s.keys k then Ok (record s { keys = s.keys ++ k ∷ [] }) else Err Opening)
@@ -95,9 +95,9 @@ schedules version = texts events version (title version)
 abbrev pub plan_in : Version → List (List ℕ) → Result Plan LineFault
 plan_in version parts = text_from (schedules version) parts >>= λ told. Ok (planned version told.header told.keys told.lines)
 
--- Returns the format version of a schedule, which depends only on the first line of its text: version 2 if this line
--- is the title of version 2, else version 1. A title of version 2 without a newline counts as version 2. Either
--- version rejects such a text with the same error.
+-- Returns the format version of a schedule. It is version 2 if the first line of its text is the title of version 2,
+-- else version 1. A title of version 2 without a newline counts as version 2. Either version rejects such a text with
+-- the same error.
 abbrev pub version_told : List (List ℕ) → Version
 version_told parts = version_in (title Two) parts
 
@@ -136,8 +136,8 @@ told t = record { header = t.header; keys = t.opening.items; lines = t.lines.ite
 abbrev pub Counts : {L : Type 0} → EventLines L → TextBody L → Type 0
 Counts text t = (t.total ≡ sum_by text.count t.lines.items) × (t.total ≤ MOST_EVENTS)
 
--- Holds if a reader has processed a line as the grammar demands: the reader has extended its content, or returned the
--- error of the line, or failed to allocate at a line without errors.
+-- Holds if a reader has processed a line as the grammar demands. The reader has extended its content, has returned the
+-- error of the line, or has failed to allocate at a line without errors.
 abbrev pub Takes : {L X : Type 0} → Result (BodyValue L) Cause → BodyValue L → Result X Cause → Type 0
 Takes next now (Ok x) = next ≡ Ok now
 Takes {L = L} next now (Err cause) = (next ≡ Err cause) ⊎ ((cause ≡ Memory) × (s : BodyValue L) × (next ≡ Ok s))

@@ -31,8 +31,8 @@ use lset_text::{Cause, Header, LineFault, Version, cut, is_above, number, read_h
 use lset_words::MOST_OPENING;
 use std::alloc::Global;
 
-/// An event line of a schedule or a draft. Schedules and drafts are texts with opening keys followed by event lines.
-/// Each kind of text has its own type of event lines.
+/// An event line of a schedule or a draft. Schedules and drafts are texts with opening keys (the keys at the start),
+/// followed by event lines. Each kind of text has its own type of event lines.
 pub trait EventLine: Copy {
     /// The patterns of event lines, and the number of events that each line counts as.
     ghost lines: { EventLines Self };
@@ -76,8 +76,8 @@ impl<L: EventLine> Body<L> {
         }
     }
 
-    /// Returns the second field `K` if the line is `opening K` and can be the line of an opening key, else `None`.
-    /// Opening keys are in version 2 only, and before all event lines.
+    /// Returns the second field `K` if the line is `opening K` and can be the line of an opening key (a key at the
+    /// start), else `None`. Opening keys are in version 2 only, and before all event lines.
     fn key_due<'a>(&self, version: Version, line: &'a [u8]) -> Option<&'a [u8]>
         ensures { MatchOption result
             (line_in version Cause.Event (kinds_after L.lines version self.now.lines.items) line.now

@@ -6,14 +6,14 @@ ghost use Rattle.lset_text.specs.Headers.{IsHeader};
 use crate::FIRST_LINE;
 use lset_text::Header;
 
-/// The content of a schedule or draft: its header, its opening keys (at most 1,048,576, in strictly increasing order),
-/// and its event lines.
+/// The content of a schedule or draft: its header, its opening keys (the keys at the start), and its event lines. There
+/// are at most 1,048,576 opening keys, in strictly increasing order.
 #[derive(Drop)]
 pub struct Body<L> {
     pub header: Header,
     pub opening: Vec<u32>,
     pub lines: Vec<L>,
-    /// The number of events that the lines count as.
+    /// The sum of `EventLine::count` over all lines: the total number of events that they count as.
     pub(crate) total: u32,
     ghost within: { IsHeader header },
     ghost increasing: { IsStrictlyIncreasing opening.items },

@@ -73,8 +73,8 @@ fn program(
     draw_calls(alloc, calls, keys, &mut rng)
 }
 
-/// Returns the layout of a set without opening keys. Fails with the error that `generate` and `programs` return for the
-/// same arguments.
+/// Returns the layout of a set that is empty at the start. Fails with the error that `generate` and `programs` return
+/// for the same arguments.
 pub(crate) fn layout_to_draw(threads: u32, quota: u32, keys: u32) -> Result<Layout, GenFault>
     ensures sizes { IfOk result (λ l. l ≡ record { threads = threads; quota = quota; opening = 0 }) }
     ensures accepted { IfOk result (λ _. IsAccepted threads quota keys) }

@@ -77,7 +77,7 @@ impl EventLine for Line {
     }
 }
 
-/// Returns the format version of a schedule, which depends only on the first line.
+/// Returns the format version of a schedule, which depends only on the first line of its text.
 fn told_version(bytes: &[u8]) -> Version
     ensures { result ≡ version_told (cut_at 10 bytes.now) }
 {

@@ -40,8 +40,8 @@ fn put_lines(out: &mut String, lines: &[Line]) -> Result<(), AllocError>
 
 /// Returns the text of a schedule. No other text is read as this schedule. Returns `AllocError` if an allocation fails.
 ///
-/// The schedule may contain only calls that its version allows, and no opening keys in version 1. Schedules from
-/// `read_schedule` and `generate` satisfy this condition.
+/// The schedule may contain only calls that its version has. In version 1, it may not have opening keys (keys at the
+/// start). Schedules from `read_schedule` and `generate` satisfy these conditions.
 pub fn write_schedule(alloc: Global, schedule: &Schedule) -> Result<Vec<u8>, AllocError>
     requires { HasWordsOfVersion (view schedule.now) }
     ensures { IfOk result (λ v. v.items ≡ schedule_text (view schedule.now)) }

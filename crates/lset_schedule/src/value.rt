@@ -52,7 +52,7 @@ pub struct Schedule {
 }
 
 impl Schedule {
-    /// Returns a schedule with this version, header, opening keys and lines.
+    /// Returns a schedule with this version, header, opening keys (keys at the start) and lines.
     pub(crate) fn of_header(
         version: Version,
         header: Header,
