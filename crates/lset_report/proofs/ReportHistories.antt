@@ -162,8 +162,8 @@ idle_step : (calls : List CallRecord) (x : CallRecord) (t m : ℕ)
 idle_step calls x t m =
     list_all-append (idle_at t m) calls (x ∷ []) ∙ ap (λ b. is_idle calls t m && b) (and-true (idle_at t m x))
 
--- Returns whether a thread is idle and its last call ended before moment m. `busy` is true if the thread has a pending
--- call, and `end` is the end of its last call.
+-- Returns whether a thread is idle and its last call ended before moment m (a position in the history). `busy` is true
+-- if the thread has a pending call, and `end` is the end of its last call.
 abbrev is_over : Bool → ℕ → ℕ → Bool
 is_over busy end m = not busy && ltb end m
 

@@ -12,8 +12,8 @@ placed_in xs = map (λ (x : Pointed). x.placed) xs
 abbrev pub points_in : List Pointed → List Point
 points_in xs = map (λ (x : Pointed). x.point) xs
 
--- Returns the sort key of an entry: earlier moments precede later moments and, at one moment, a call that changes the
--- set precedes the others.
+-- Returns the sort key of an entry. Entries are sorted by the moment (event number) when their call takes effect. At
+-- the same moment, a call that changes the set precedes the others.
 abbrev pub rank_of : Pointed → ℕ
 rank_of x = if x.point.change then 2 * x.point.moment else 2 * x.point.moment + 1
 

@@ -36,13 +36,13 @@ abbrev pub IsFull : List (List ℕ) → Result SoFar LineFault → LineFault →
 IsFull parts read e = (index : ℕ) × (e ≡ fault (first_line + index) Memory)
     × IsGoodLine first_line parts read (first_line + index) × (slice_index_or parts index [] ≢ last_line)
 
--- The result of reading the lines after the header: the new state of the reader, the first error, or a failed
--- allocation.
+-- Holds if reading the lines after the header returned the result that the grammar defines (`read`), or an allocation
+-- failed.
 abbrev pub GoesOn : {X : Type 0} → SoFar → Result X LineFault → List (List ℕ) → Result SoFar LineFault → Type 0
 GoesOn s (Ok x) parts read = read ≡ Ok s
 GoesOn s (Err e) parts read = (read ≡ Err e) ⊎ IsFull parts read e
 
--- The result of reading one line: the new state of the reader, the error of the line, or a failed allocation.
+-- Holds if reading one line returned the result that the grammar defines for this line, or an allocation failed.
 abbrev pub ReadsLine : {X : Type 0} → Reader → Reader → ℕ → List ℕ → Result X LineFault → Type 0
 ReadsLine s t number line (Ok x) = step (state s) line ≡ Ok (state t)
 ReadsLine s t number line (Err e) = ((cause : Cause) × (step (state s) line ≡ Err cause) × (e ≡ fault number cause))

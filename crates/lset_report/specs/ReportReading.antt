@@ -53,10 +53,10 @@ abbrev pub most_keys : Version → ℕ
 most_keys One = MOST_KEYS
 most_keys Two = MOST_KEYS_OPENED
 
--- Holds if the report can be written as text. A set can open with the report's thread count, quota and opening keys.
--- The report's calls are a history, and its version of the format has words for the opening keys, the calls and the
--- replies. All numbers are within their limits, and so are the counts of calls, entries and keys. The order and the
--- final keys are otherwise arbitrary.
+-- Holds if the report can be written as text. A set can open with the report's thread count, quota and opening keys
+-- (the keys at the start). The report's calls are a history. The report's version of the format has words for the
+-- opening keys, the calls and the replies. All numbers are within their limits, and so are the counts of calls, entries
+-- and keys. The order and the final keys are otherwise arbitrary.
 pub record IsReport (r : ReportValue) : Type 0 where
   pub opens : Opens r.history.opening
   pub opening : HasOpening r.version r.history.opening.keys
@@ -103,20 +103,21 @@ key_kind = (piece.word (codes "key") ∷ piece.any ∷ [], λ t. told.Key t.1.0)
 abbrev pub end_kind : LineKind ReportLine
 end_kind = (piece.word (codes "end") ∷ [], λ t. told.End)
 
--- Returns the kinds of lines that are allowed in the section of final keys. `from_order`, `from_calls` and
--- `from_opening` return the kinds for the sections of the order, the calls and the opening keys. The sections have a
--- fixed order, and any section can be empty.
+-- Returns the kinds of lines that are allowed in the section of final keys. The sections of a report have a fixed
+-- order, and any section can be empty.
 abbrev pub from_keys : List (LineKind ReportLine)
 from_keys = key_kind ∷ end_kind ∷ []
 
+-- Returns the kinds of lines that are allowed in the section of the order of calls.
 abbrev pub from_order : List (LineKind ReportLine)
 from_order = place_kind ∷ from_keys
 
+-- Returns the kinds of lines that are allowed in the section of the calls.
 abbrev pub from_calls : List (LineKind ReportLine)
 from_calls = open_kind ∷ ended_kind ∷ from_order
 
--- Returns the kinds of lines that are allowed in the section of opening keys. Only version 2 of the format has lines of
--- opening keys.
+-- Returns the kinds of lines that are allowed in the section of opening keys (the keys at the start). Only version 2 of
+-- the format has lines of opening keys.
 abbrev pub from_opening : Version → List (LineKind ReportLine)
 from_opening One = from_calls
 from_opening Two = opening_kind ∷ from_calls
@@ -131,7 +132,8 @@ kinds version section.Done = []
 
 -- ---- Whether a line can follow the lines before it
 
--- Returns whether a call ended at this moment.
+-- Returns whether a call with this end ended at this moment (a position in the history). A pending call has the end
+-- None.
 abbrev pub ends_at : ℕ → Option (ℕ × Reply) → Bool
 ends_at moment None = false
 ends_at moment (Some end) = end.0 == moment
@@ -142,11 +144,12 @@ is_entry moment y = y.begun == moment || ends_at moment y.ended
 abbrev pub is_taken : List CallRecord → ℕ → Bool
 is_taken calls moment = list_any (is_entry moment) calls
 
--- Returns whether this moment is at least 1, and every call in the list started before this moment.
+-- Returns whether this moment (a position in the history) is at least 1, and every call in the list started before it.
 abbrev pub begins_later : List CallRecord → ℕ → Bool
 begins_later calls moment = nat_lt 0 moment && list_all (λ y. nat_lt y.begun moment) calls
 
--- Returns whether a call ended before this moment.
+-- Returns whether a call with this end ended before this moment (a position in the history). A pending call has the end
+-- None.
 abbrev pub ended_before : ℕ → Option (ℕ × Reply) → Bool
 ended_before moment None = false
 ended_before moment (Some end) = nat_lt end.0 moment
@@ -154,15 +157,15 @@ ended_before moment (Some end) = nat_lt end.0 moment
 abbrev pub is_idle : List CallRecord → ℕ → ℕ → Bool
 is_idle calls thread moment = list_all (λ y. not (y.thread == thread) || ended_before moment y.ended) calls
 
--- Returns whether a call can have this end. The call must be pending, or end after `begun`, at a moment when no call in
--- the list starts or ends.
+-- Returns whether a call that started at moment `begun` can have this end. The call must be pending, or end after
+-- `begun`, at a moment (a position in the history) when no call in the list starts or ends.
 abbrev pub ends_later : List CallRecord → ℕ → Option (ℕ × Reply) → Bool
 ends_later calls begun None = true
 ends_later calls begun (Some end) = nat_lt begun end.0 && not (is_taken calls end.0)
 
--- Returns whether the call x can be appended to the calls of a history. It starts after all of them have started, and
--- ends after its start. All earlier calls of its thread have ended before its start. No other call starts or ends at
--- the moments when x starts and ends.
+-- Returns whether the call x can be appended to the calls of a history. The call must start after all of them have
+-- started, and end after its start. All earlier calls of its thread must have ended before its start. No other call can
+-- start or end at the moments (positions in the history) when x starts and ends.
 abbrev pub may_follow : ℕ → List CallRecord → CallRecord → Bool
 may_follow threads calls x =
     nat_lt x.thread threads
@@ -185,7 +188,8 @@ abbrev pub increasing : ReportValue → ℕ → ReportLine → Result ReportLine
 increasing r k l = if is_above r.history.opening.keys k then Ok l else Err wrong.Opening
 
 -- Returns the line if it can follow the report r, otherwise the cause of the error. The section of the line must not be
--- full. An opening key must be greater than the previous one, and a call must be able to follow the previous calls.
+-- full. An opening key (a key at the start) must be greater than the previous one. A call must be able to follow the
+-- previous calls.
 abbrev pub judged : ReportValue → ReportLine → Result ReportLine Cause
 judged r (told.Opening k) = counted MOST_OPENING (length r.history.opening.keys) (told.Opening k) >>= increasing r k
 judged r (told.Call number x) = counted MOST_CALLS (length r.history.calls) (told.Call number x) >>= following r number x
@@ -282,9 +286,9 @@ ReportsReadBack = (r : ReportValue) (bytes : List ℕ)
 
 -- ---- Errors from failed allocations
 
--- The result of a failed allocation: the error Memory, at a line that passed all other checks. `parts` are the lines of
--- the text from line `first` on, followed by the bytes after the last newline. `read` is the result if no allocation
--- fails.
+-- Holds if reading can fail with this error because of a failed allocation: the error Memory, at a line that passed all
+-- other checks. `parts` are the lines of the text from line `first` on, followed by the bytes after the last newline.
+-- `read` is the result if no allocation fails.
 pub record RunsOut (first : ℕ) (parts : List (List ℕ)) (read : Result ReportValue LineFault) (e : LineFault) : Type 0 where
   pub cause : e.cause ≡ wrong.Memory
   -- An allocation can fail at the last line of the header or at a later line. Earlier lines need no memory.

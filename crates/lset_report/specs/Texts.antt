@@ -22,7 +22,8 @@ title Two = codes "listset-report 2"
 abbrev pub header_in : ReportValue → Header
 header_in r = record { kind = r.kind; threads = r.history.opening.threads; quota = r.history.opening.quota }
 
--- Returns the text of the end of a call: the moment and the reply, or `open` if the call is pending.
+-- Returns the text of the end of a call: the moment (a position in the history) and the reply, or `open` if the call is
+-- pending.
 abbrev pub end_pieces : Option (ℕ × Reply) → List (List ℕ)
 end_pieces (Some end) = decimal end.0 ∷ reply_text end.1 ∷ []
 end_pieces None = codes "open" ∷ []
@@ -66,7 +67,7 @@ HasWordsIn One calls order = AllByRecursion (λ (x : CallRecord). HasCall One x.
 HasWordsIn Two calls order = Unit {0}
 
 -- Holds if the report's version of the format has words for everything in the report. Version 1 has no words for
--- opening keys (the keys at the start), for `ceiling` and for the replies of `ceiling`. Version 2 can express every
+-- opening keys (the keys at the start), for `ceiling`, or for the replies of `ceiling`. Version 2 can express every
 -- report.
 pub record HasWordsOfVersion (r : ReportValue) : Type 0 where
   pub opening : HasOpening r.version r.history.opening.keys

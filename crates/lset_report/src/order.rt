@@ -12,7 +12,8 @@ pub struct Pointed {
 }
 
 impl Pointed {
-    /// Returns the sort key: twice the moment, plus 1 if the call does not change the set.
+    /// Returns the sort key: twice the moment (event number) of the linearization point, plus 1 if the call does not
+    /// change the set.
     fn rank(&self) -> u64
         ensures { result ≡ rank_of self.now }
     {

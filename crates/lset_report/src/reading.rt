@@ -90,8 +90,8 @@ impl Reader {
     }
 
     /// Returns the line if it can follow the lines read so far, otherwise the cause of the error. A line can follow if
-    /// its section is not full. In addition, an opening key must be greater than the previous one, and a call must be
-    /// able to follow the previous calls.
+    /// its section is not full. In addition, an opening key (a key at the start) must be greater than the previous one,
+    /// and a call must be able to follow the previous calls.
     fn judged(&self, line: Line) -> Result<Line, Cause>
         ensures { result ≡ judged (so_far self.now) line }
     {

@@ -6,7 +6,8 @@ use lset_text::Version;
 /// The first line of a report in version 1 of the format.
 const TITLE_ONE: &str = "listset-report 1";
 
-/// The first line of a report in version 2 of the format, which adds opening keys, `ceiling` and its replies.
+/// The first line of a report in version 2 of the format, which adds opening keys (the keys at the start), `ceiling`
+/// and its replies.
 const TITLE_TWO: &str = "listset-report 2";
 
 /// Returns the first line of a report in this version of the format.

@@ -13,10 +13,10 @@ use std::alloc::{AllocError, Global};
 pub(crate) struct CallsSoFar {
     /// The calls read so far, as a history of a set that opens empty.
     pub history: History,
-    /// The moment when the last call started, or 0 before the first call.
+    /// The moment (a position in the history, from 1) when the last call started, or 0 before the first call.
     pub last_begun: u32,
-    /// For each thread, the moment when its last call ended. 0 if the thread has no call yet or its last call is
-    /// pending.
+    /// For each thread, the moment (a position in the history, from 1) when its last call ended. 0 if the thread has no
+    /// call yet or its last call is pending.
     pub last_ends: Vec<u32>,
     /// For each thread, whether its last call is pending.
     pub busy: Vec<bool>,
@@ -73,8 +73,8 @@ impl CallsSoFar {
     }
 
     /// Returns whether the call `made` can follow these calls. After the start of the last call, no call starts, and
-    /// only the last calls of threads end. It is therefore enough to compare the moments of `made` with these ends. No
-    /// set of moments is stored.
+    /// only the last calls of threads end. Therefore the start and the end of `made` are compared only with these ends.
+    /// The other positions in the history are not stored.
     pub fn may_follow(&self, made: CallRecord) -> bool
         ensures { result ≡ may_follow self.now.history.opening.threads self.now.history.calls made }
     {

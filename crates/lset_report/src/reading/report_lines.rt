@@ -23,8 +23,8 @@ pub enum Section {
     Done,
 }
 
-/// A line of a report after its header: an opening key, a numbered call, an entry of the order, a final key, or the
-/// line `end`.
+/// A line of a report after its header: an opening key (a key at the start), a numbered call, an entry of the order, a
+/// final key, or the line `end`.
 #[derive(Clone, Copy)]
 pub enum Line {
     Opening(u32),
