@@ -25,8 +25,8 @@ pub(crate) struct Mark {
     pub sign: Sign,
 }
 
-/// A column of the picture: the signs at one moment, the set as text (empty if the set is not printed here), and the
-/// width in characters.
+/// A column of the picture: the signs at one moment (a position in the history), the set as text (empty if the set is
+/// not printed in this column), and the width in characters.
 #[derive(Drop)]
 pub(crate) struct Column {
     pub moment: u32,
@@ -35,8 +35,8 @@ pub(crate) struct Column {
     pub width: usize,
 }
 
-/// The position of a bar or point relative to the drawn moments: before them, at least partly among them, or after
-/// them.
+/// The position of a bar or point relative to the drawn moments (positions in the history): before them, at least
+/// partly among them, or after them.
 #[derive(Clone, Copy)]
 pub(crate) enum Side {
     Before,
@@ -45,8 +45,8 @@ pub(crate) enum Side {
 }
 
 /// The columns of a picture, and what is left out. `known` is true if every linearization point is known. `from` and
-/// `last` are the first and the last drawn moment. `before` and `after` are true if something happens before `from` or
-/// after `last`.
+/// `last` are the first and the last drawn moment (positions in the history). `before` and `after` are true if
+/// something happens before `from` or after `last`.
 #[derive(Drop)]
 pub(crate) struct Drawing {
     pub columns: Vec<Column>,
@@ -58,14 +58,14 @@ pub(crate) struct Drawing {
 }
 
 impl Drawing {
-    /// Returns whether something happens at a moment that is not drawn.
+    /// Returns whether a call starts, takes effect or ends at a moment (a position in the history) that is not drawn.
     pub fn is_cut(&self) -> bool {
         self.before || self.after
     }
 
-    /// Returns a better range of moments for a rejected order: one that starts at the call that the reason for the
-    /// rejection names. Returns `None` if the order is accepted, if the history has no such call, if nothing happens
-    /// after the drawn moments, or if `window` excludes some moments.
+    /// Returns a range of moments (positions in the history) that shows why an order was rejected: it starts at the
+    /// call named in the reason. Returns `None` if the order is accepted, if the history has no such call, if nothing
+    /// happens after the drawn moments, or if `window` excludes some moments.
     pub fn window_of_clash(&self, picture: &Picture, window: Window) -> Option<Window> {
         if !(self.after && window.is_whole()) {
             return None;
@@ -74,8 +74,8 @@ impl Drawing {
         Some(Window { from, ..window })
     }
 
-    /// Returns the position of the moments `first` to `last` relative to the drawn moments. If `last` is `None`, the
-    /// range has no end.
+    /// Returns the position of a range relative to the drawn moments (positions in the history). The range is from
+    /// `first` to `last`, and has no end if `last` is `None`.
     pub fn side_of(&self, first: u32, last: Option<u32>) -> Side {
         match last {
             _ if self.last < first => Side::After,
@@ -84,7 +84,7 @@ impl Drawing {
         }
     }
 
-    /// Returns the position of a call's bar relative to the drawn moments.
+    /// Returns whether a call's bar is before, among or after the drawn moments (positions in the history).
     pub fn side_of_bar(&self, made: CallRecord) -> Side {
         match made.ended {
             Some((end, _)) => self.side_of(made.begun, Some(end)),
@@ -104,7 +104,7 @@ fn add_begun(marks: &mut Vec<Mark>, picture: &Picture, moment: u32) -> Result<()
     Ok(())
 }
 
-/// Adds the signs of all linearization points at `moment`. Returns whether a call with such a point changes the set.
+/// Adds a sign for each linearization point at `moment`. Returns whether a call with such a point changes the set.
 fn add_points(marks: &mut Vec<Mark>, picture: &Picture, moment: u32) -> Result<bool, AllocError> {
     let mut changes = false;
     for (index, point) in points_of(picture).iter().enumerate() {
@@ -189,8 +189,8 @@ fn width_of(alloc: Global, moment: u32, marks: &[Mark], set: &str) -> Result<usi
     Ok(most.min(MOST_WIDTH))
 }
 
-/// Computes one column for each of these moments. If all linearization points are known, the first column and each
-/// column with a change contain the set.
+/// Computes one column for each of these moments (positions in the history). If all linearization points are known, the
+/// first column and each column with a change contain the set.
 fn columns_at(
     alloc: Global,
     picture: &Picture,

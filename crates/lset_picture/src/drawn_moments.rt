@@ -20,7 +20,7 @@ fn sooner(best: Option<u32>, from: u64, moment: u32) -> Option<u32> {
     }
 }
 
-/// Returns the first moment, not before `from`, when a call starts, takes effect or ends.
+/// Returns the first moment (a position in the history), not before `from`, when a call starts, takes effect or ends.
 pub(crate) fn next_moment(picture: &Picture, from: u64) -> Option<u32> {
     let mut best = None;
     for made in picture.history.calls() {
@@ -35,7 +35,7 @@ pub(crate) fn next_moment(picture: &Picture, from: u64) -> Option<u32> {
     best
 }
 
-/// Returns the moments in `window` that are drawn as a column, at most `MOST_COLUMNS`.
+/// Returns the moments (positions in the history) in `window` that get a column, at most `MOST_COLUMNS`.
 pub(crate) fn moments_shown(
     alloc: Global,
     picture: &Picture,

@@ -48,7 +48,7 @@ fn settled(standing: Standing, moment: u32) -> Option<Option<Call>> {
     }
 }
 
-/// Applies the changes of all entries up to `moment` to the set.
+/// Applies further entries of the order to the set: all entries whose linearization points are not after `moment`.
 pub(crate) fn go_on(
     reached: &mut Reached,
     picture: &Picture,

@@ -28,8 +28,8 @@ pub(crate) fn put_heading(out: &mut String, picture: &Picture) -> Result<(), All
     Ok(())
 }
 
-/// Appends the range of drawn moments, and the command-line options that draw the moments before and after them.
-/// Example: `moments 20 to 33 of 35; earlier: --to 19; later: --from 34`.
+/// Appends the range of drawn moments (positions in the history), and the command-line options that draw the moments
+/// before and after them. Example: `moments 20 to 33 of 35; earlier: --to 19; later: --from 34`.
 pub(crate) fn put_cut(
     out: &mut String,
     picture: &Picture,
@@ -81,8 +81,9 @@ fn put_place(out: &mut String, number: usize, standing: Standing) -> Result<(), 
     writeln!(out, " {reply}{no_change}{pending}")
 }
 
-/// Returns the position of an entry relative to the drawn moments: the position of its linearization point if this
-/// point is known, otherwise the position of its call's bar. Returns `None` if the call is not in the history.
+/// Returns whether an entry of the order is before, among or after the drawn moments (positions in the history). Uses
+/// the linearization point of the entry if it is known, otherwise the bar of its call. Returns `None` if the call is
+/// not in the history.
 fn side_of(standing: Standing, drawing: &Drawing) -> Option<Side> {
     match standing.point {
         Some(point) => Some(drawing.side_of(point.moment, Some(point.moment))),
@@ -165,7 +166,7 @@ fn put_order(out: &mut String, picture: &Picture, drawing: &Drawing) -> Result<(
     put_left_out(out, left)
 }
 
-/// Appends the lines below the rows: the order, how many entries are left out, the final keys, `legend` if the
+/// Appends the lines below the rows: the order, how many entries are left out, and the final keys. Adds `legend` if the
 /// linearization points are known, and the first event of the schedule that is not enabled, if any.
 pub(crate) fn put_lines_below(
     out: &mut String,

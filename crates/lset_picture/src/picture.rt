@@ -21,8 +21,8 @@ pub struct Picture {
     pub refused: Option<(u64, &'static str)>,
 }
 
-/// The range of moments to draw, counted from 1. A moment is drawn only if a call starts, takes effect or ends at it.
-/// Only the first 64 such moments in the range are drawn.
+/// The range of moments to draw. A moment is a position in the history, counted from 1, and is drawn only if a call
+/// starts, takes effect or ends at it. Only the first 64 such moments in the range are drawn.
 #[derive(Clone, Copy)]
 pub struct Window {
     pub from: u32,

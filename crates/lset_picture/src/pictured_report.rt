@@ -5,8 +5,8 @@ use lset_report::Report;
 use lset_words::{Effect, Point};
 use std::alloc::{AllocError, Global};
 
-/// Computes a linearization point for each entry of an order that explains the history: the start of the entry's call,
-/// or the point of the previous entry if that is later.
+/// Computes a linearization point for each entry of an order that explains the history. The point is the start of the
+/// entry's call, or the point of the previous entry if that is later.
 fn first_points(
     alloc: Global,
     history: &History,

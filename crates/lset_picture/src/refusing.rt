@@ -78,8 +78,8 @@ fn too_early(history: &History, order: &[Placed], call: u32) -> Option<Refusal> 
     None
 }
 
-/// Finds the reply that contradicts the reply of `call` in the order: the reply in the history or, if the history
-/// agrees with the order, the reply of the sequential set.
+/// Finds the reply that contradicts the reply of `call` in the order. This is the reply in the history or, if the
+/// history agrees with the order, the reply of the sequential set.
 fn wrong_reply(
     alloc: Global,
     history: &History,

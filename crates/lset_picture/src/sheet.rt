@@ -2,7 +2,7 @@
 use crate::columns::Column;
 use std::alloc::AllocError;
 
-/// The CSS classes for the threads' colours. Eight threads have different colours, then the colours repeat.
+/// The CSS classes for the threads' colors. Eight threads have different colors, then the colors repeat.
 const THREADS: [&str; 8] = [
     "thread-0", "thread-1", "thread-2", "thread-3", "thread-4", "thread-5", "thread-6", "thread-7",
 ];
@@ -60,7 +60,7 @@ pub(crate) fn put_text(
     )
 }
 
-/// Appends a text element in the default colour.
+/// Appends a text element in the default color.
 pub(crate) fn put_plain(out: &mut String, x: u64, y: u64, text: &str) -> Result<(), AllocError> {
     put_text(out, "plain", "", Spot { x, y }, text)
 }
@@ -80,7 +80,7 @@ pub(crate) fn put_line(
     )
 }
 
-/// Appends a circle element with these classes, centred at `centre`.
+/// Appends a circle element with these classes and with its center at `centre`.
 pub(crate) fn put_circle(
     out: &mut String,
     kind: &str,

@@ -1,7 +1,7 @@
 /// The style sheet in every SVG. Its rules only apply inside the SVG, even if the SVG is embedded in a page.
 ///
-/// Colour-blind readers can distinguish the colours of the threads, and each colour has a contrast of at least 4.5
-/// against the background. A call that contradicts the order is drawn thick as well as red.
+/// Color-blind readers can distinguish the colors of the threads, and each color has a contrast of at least 4.5 against
+/// the background. A call that contradicts the order is drawn thick as well as red.
 pub(crate) const STYLE: &str = "\
 <style>
 .listset { color: #1b1f24 }

@@ -250,11 +250,11 @@ fn put_below(out: &mut String, threads: u32, below: &str) -> Result<(), AllocErr
     Ok(())
 }
 
-/// Draws a picture as an SVG. Draws the moments in `window`, counted from 1, when a call starts, takes effect or
-/// ends, but at most the first 64 such moments.
+/// Draws a picture as an SVG. Draws the moments in `window` when a call starts, takes effect or ends, but at most the
+/// first 64 such moments. A moment is a position in the history, counted from 1.
 ///
 /// If `window` includes all moments and they do not fit, the drawing of a rejected order starts at the call that caused
-/// the rejection. A call is a line in the colour of its thread: dashed if the call is pending, thick if it contradicts
+/// the rejection. A call is a line in the color of its thread: dashed if the call is pending, thick if it contradicts
 /// the order (`is_clash`). A linearization point is a circle, filled if the call changes the set, with a thin line down
 /// to the set. The order is below, as text. The style sheet has a dark background for readers who prefer one. The SVG
 /// has no script and no external references. Returns `AllocError` if an allocation fails.

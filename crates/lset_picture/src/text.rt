@@ -60,7 +60,7 @@ fn put_cell(
     Ok(drawn)
 }
 
-/// Returns whether the thread had a pending call just before a moment.
+/// Returns whether the thread had a pending call just before a moment (a position in the history).
 fn is_spanned(calls: &[CallRecord], thread: u32, moment: u32) -> bool {
     for made in calls {
         if made.thread == thread
@@ -219,11 +219,11 @@ fn put_drawn_rows(
 /// Draws a picture as text: a row for each thread with its calls and their linearization points, the set, and the
 /// order.
 ///
-/// The picture has the moments from `window.from` to `window.to`, counted from 1, when a call starts, takes effect
-/// or ends. At most the first 64 such moments are drawn, and only moments that fit into rows of `width` characters, but
-/// at least one. If `window` includes all moments and they do not fit, the drawing of a rejected order starts at the
-/// call that caused the rejection. Returns `AllocError` if an allocation fails. (Pictures with bars and points are due
-/// to Herlihy and Wing.)
+/// The picture has the moments from `window.from` to `window.to` when a call starts, takes effect or ends. A moment is
+/// a position in the history, counted from 1. At most the first 64 such moments are drawn, and only moments that fit
+/// into rows of `width` characters, but at least one. If `window` includes all moments and they do not fit, the drawing
+/// of a rejected order starts at the call that caused the rejection. Returns `AllocError` if an allocation fails.
+/// (Pictures with bars and points are due to Herlihy and Wing.)
 pub fn write_picture(
     alloc: Global,
     picture: &Picture,
