@@ -44,8 +44,8 @@ drop_more (x ∷ es) (suc k) next rest e = drop_more es k next rest e
 abbrev pub no_line : Line
 no_line = line.Begin 0 (call.Add (record { 0 = 0 }))
 
--- Returns the remaining events while the loop executes the events of line i: `times` events of line i, then all events
--- of later lines.
+-- Returns the remaining events while the loop executes the events of line i (counted from 0): `times` events of line i,
+-- then all events of later lines.
 abbrev pub rest_of : ℕ → List Line → ℕ → ℕ → LineEvent → List LineEvent
 rest_of n ls i times next = replicate times next ++ events_from (n + (i + 1)) (drop (i + 1) ls)
 

@@ -44,8 +44,8 @@ abbrev moment_of : Option Linearized → Option ℕ
 moment_of None = None
 moment_of (Some p) = Some p.moment
 
--- Returns whether a call has changed the set. The argument is the moment of the change, or None if the call made no
--- change.
+-- Returns whether a call has changed the set. The argument is the moment (event number) of the change, or None if the
+-- call made no change.
 changes : Option ℕ → Bool
 changes None = false
 changes (Some m) = true
@@ -191,8 +191,8 @@ replay_is T accounts p w r order keys h o c =
 module _ (T : Table) (headline : PlacementExplainsRuns T) (op : Opening) (events : List Event) (history : List CallRecord)
     (order : List Placed) (keys : List ℕ)
     (h : IsReportOf T op events history order keys) where
-  -- The order in the report explains the run, because it is the placement: the calls sorted by the moments when they
-  -- take effect.
+  -- The order in the report explains the run, because it is the placement: the calls sorted by their linearization
+  -- points.
   run_explained : ExplainsRun T op (event_at events) (length events) order
   run_explained =
       let found : (o : List Placed) × ExplainsRun T op (event_at events) (length events) o

@@ -18,8 +18,8 @@ use Rattle.lset_replay.proofs.ReplayKept.{Follows}
 use Rattle.lset_replay.proofs.KeyChanges.{HoldsKeys}
 use Rattle.lset_replay.proofs.RecorderReady.{follows}
 
--- A run without its words and private states: its log (the effect of each event) and, for each moment, the keys in the
--- set and the number of keys that each thread has added.
+-- A run without its words and private states. It has a log (the effect of each event). For each moment, it has the keys
+-- in the set and the number of keys that each thread has added. A moment is the number of events so far.
 pub record Shown : Type 1 where
   pub log : Log
   pub contents : Contents
@@ -32,7 +32,7 @@ shown T op events = record {
   counts = counts_of (views T op (event_at (only_events events)));
 }
 
--- Assumptions of a replay about a list: each run has an account (how each event changes the keys in the set), and all
+-- What a replay assumes about a list: each run has an account (how each event changes the keys in the set), and all
 -- keys in the set are below 2^32.
 pub record TellsKeys (T : Table) : Type 0 where
   pub account : HasAccount T

@@ -1,4 +1,4 @@
--- Proof: the recorded changes of a key determine at each moment whether the key is in the set.
+-- Proof: the recorded changes of a key determine, after each event, whether the key is in the set.
 use Rattle.std.proofs.Common.{◌≡◌, ◌≢◌, ℕ, suc, ◌<◌, ◌≤◌, ◌^◌, [], ◌∷◌, ◌++◌, ◌⊎◌, inl, inr, Bool, true, false, not, List, sym}
 use Rattle.std.proofs.Common.{refl, subst, ap, ◌∙◌, arith}
 use Rattle.std.specs.Prelude.{All, Option, Some, None}
@@ -11,11 +11,11 @@ use Rattle.lset_history.proofs.ChangeLaws.{others_stay, earlier_stays, turns_the
 use Rattle.lset_history.proofs.ChangeLaws.{all_upto_change}
 use Rattle.lset_replay.specs.Trace.{MayChange}
 
--- Holds if all keys in the set are below 2^32 at each moment up to `last`.
+-- Holds if all keys in the set are below 2^32, at the start and after each of the first `last` events.
 abbrev pub HoldsKeys : ℕ → Contents → Type 0
 HoldsKeys last contents = (k j : ℕ) → k ≤ last → contents k j → j < 2 ^ 32
 
--- C holds if b is true, and does not hold if b is false.
+-- Holds if the Boolean b decides the proposition C: C is true if b is true, and false if b is false.
 abbrev pub Tells : Bool → Type 0 → Type 0
 Tells b C = (b ≡ true → C) × (b ≡ false → C → ⊥)
 

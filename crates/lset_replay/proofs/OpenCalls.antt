@@ -1,4 +1,4 @@
--- Lemmas: an event appends a call to the list of calls, or changes the pending call of its thread.
+-- Lemmas: an event either appends a call to the list of calls, or changes the pending call of its thread.
 use Rattle.std.proofs.lemmas.Grind.{common_steps}
 use Rattle.std.proofs.Common.{◌≡◌, ◌≢◌, ℕ, zero, suc, ◌+◌, ◌<◌, ◌≤◌, ◌⊎◌, true, false, inl, inr, List, [], ◌∷◌, ◌++◌, length, map}
 use Rattle.std.proofs.Common.{set, sym, refl, subst, ap, ◌∙◌, arith}

@@ -25,16 +25,16 @@ use Rattle.lset_history.specs.Changes.{is_present, IsBounded}
 use Rattle.lset_history.proofs.ChangeLaws.{all_upto_later}
 use Rattle.lset_replay.proofs.KeyChanges.{Tells, changes_by, quiet_keys}
 
--- Holds if, at moment k, o is the pending call of thread t, with its number, operation and start.
+-- Holds if, after the first k events, o is the pending call of thread t, with its number, operation and start.
 pub record IsWatched (log : Log) (contents : Contents) (counts : Counts) (k t : ℕ) (o : OpenCall) : Type 0 where
   pub here : OpenNumber (calls_at log k) t o.number o.call o.begun
   pub since : o.begun ≤ k
   -- As long as the pending call has not changed the set, its thread has added no key since the call started.
   pub steady : has_changed log t k ≡ false → (m : ℕ) → o.begun ≤ m → m ≤ k → counts m t ≡ counts k t
 
--- Holds if p is the linearization point of a call: the moment of its change or, for a completed call without a change,
--- the first moment during the call when its reply is correct. A pending call without a change has no linearization
--- point.
+-- Holds if p is the linearization point of a call. If the call changed the set, the point is at this change. If a
+-- completed call changed nothing, the point is the first moment (event number) during the call when its reply is
+-- correct. A pending call without a change has no linearization point.
 abbrev pub PlaceBy : ℕ → Contents → Counts → TracedCall → Option ℕ → Option (ℕ × Reply) → Option Linearized → Type 0
 PlaceBy q contents counts x (Some m) ended p = p ≡ Some (changed_at m)
 PlaceBy q contents counts x None None p = p ≡ None
@@ -137,7 +137,7 @@ module _ (m t : ℕ) where
 pub calls_are : (log : Log) (k : ℕ) (e : Entry) → log k ≡ e → calls_at log (suc k) ≡ calls_after (suc k) e (calls_at log k)
 calls_are log k e at = ap (λ z. calls_after (suc k) z (calls_at log k)) at
 
--- Lemmas about a pending call of thread u: `IsWatched` still holds for the call at the next moment, if u adds no key
+-- Lemmas about a pending call of thread u. `IsWatched` still holds for the call after the next event, if u adds no key
 -- before the call changes the set.
 module _ (log : Log) (contents : Contents) (counts : Counts) (k u : ℕ) (o : OpenCall)
     (quiet : has_changed log u (suc k) ≡ false → (has_changed log u k ≡ false) × (counts (suc k) u ≡ counts k u))

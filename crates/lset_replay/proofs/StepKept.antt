@@ -104,11 +104,11 @@ module _ (op : Opening) (last : ℕ) (log : Log) (contents : Contents) (counts :
   number : OpenNumber (calls_at log k) t number_here watching.call watching.begun
   number = open_now.2.here
 
-  -- `changed` is the recorder's content after the change of the call, and `kept` the content after the end of the
-  -- call.
+  -- Returns what the recorder contains after the change of the call.
   abbrev changed : Trace
   changed = changed_on (suc k) t ch s
 
+  -- Returns what the recorder contains after the change and the end of the call.
   abbrev kept : Trace
   kept = ended_on (suc k) t r changed
 

@@ -22,8 +22,8 @@ events_from number (l ∷ ls) = events_of_line number l ++ events_from (number +
 abbrev pub events_of : Plan → List LineEvent
 events_of p = events_from (first_event_line p) p.lines
 
--- Holds if a schedule can be replayed: its sizes and opening keys are within the limits, and it has at most
--- MOST_EVENTS events. The events are otherwise arbitrary.
+-- Holds if a schedule can be replayed: its sizes and its opening keys (the keys at the start) are within the limits,
+-- and it has at most MOST_EVENTS events. The events are otherwise arbitrary.
 pub record IsInLimits (p : Plan) : Type 0 where
   pub opens : Opens (opening_in p)
   pub few : sum_by event_count p.lines ≤ MOST_EVENTS
@@ -34,6 +34,6 @@ event_in e = e.event
 abbrev pub only_events : List LineEvent → List Event
 only_events es = map event_in es
 
--- Returns the line number of the event with this index, counted from 0.
+-- Returns the line number of event `index`, counted from 0.
 abbrev pub line_at : List LineEvent → ℕ → ℕ
 line_at es index = (slice_index_or es index (record { line = 0; event = event.Go 0 })).line

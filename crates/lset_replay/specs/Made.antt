@@ -8,8 +8,8 @@ use Rattle.lset_steps.specs.declared.world.StepFault.TheVariants as step
 use Rattle.lset_steps.specs.Steps.{Table, Enabled, after, told}
 use Rattle.lset_steps.specs.Worlds.{WorldState, Refused}
 
--- The effect of an event. An enabled event is executed and its effect is returned. Any other event changes nothing,
--- and an error is returned.
+-- Holds if this is the effect of an event on the world w (the words and threads of a list). An enabled event is
+-- executed, and its effect is returned. Any other event changes nothing, and an error is returned.
 abbrev pub HasMade : Table → WorldState → Event → Result Told Cause → WorldState → Type 0
 HasMade T w e (Ok answer) w' = Enabled w.state e × (w' ≡ record w { state = after T w.state e }) × (answer ≡ told T w.state e)
 HasMade T w e (Err cause.NoThread) w' = Refused w e step.NoThread × (w' ≡ w)

@@ -29,7 +29,7 @@ pub record IsReportOf (T : Table) (op : Opening) (events : List Event)
   pub run : Run T op (event_at events) (length events)
   -- The history in the report is the history of the run.
   pub history_is : history ≡ history_of T op (event_at events) (length events)
-  -- The order in the report is the [Placement]: the calls sorted by the moments when they take effect.
+  -- The order in the report is the [Placement]: the calls sorted by their linearization points.
   pub placement : IsPlacedBy T op (event_at events) (length events) order
   -- The final keys in the report are the keys of the set after the last event.
   pub content : IsContent (views T op (event_at events) (length events)) keys
@@ -38,8 +38,7 @@ pub record IsReportOf (T : Table) (op : Opening) (events : List Event)
 abbrev pub world_after : Table → Opening → List Event → ℕ → WorldState
 world_after T op events k = record { sizes = sizes op; state = state_at T op (event_at events) k }
 
--- Holds if line number `line` contains the first event that is not enabled. `cause` is the first cause that applies to
--- this event.
+-- Holds if this line has the first event that is not enabled. `cause` is the first cause that applies to this event.
 pub record IsFirstRefused (T : Table) (op : Opening) (events : List LineEvent)
     (line : ℕ) (cause : StepFault) : Type 0 where
   pub index : ℕ
@@ -48,7 +47,8 @@ pub record IsFirstRefused (T : Table) (op : Opening) (events : List LineEvent)
   pub before : Run T op (event_at (only_events events)) index
   pub refused : Refused (world_after T op (only_events events) index) (event_at (only_events events) index) cause
 
--- The reason why a replay fails: the first event that is not enabled, with its line and cause, or a failed allocation.
+-- Holds if a replay can fail for this reason: the first event that is not enabled, with its line and cause, or a failed
+-- allocation.
 abbrev pub IsRefusal : Table → Opening → List LineEvent → ReplayFault → Type 0
 IsRefusal T op events (fault.NoThread line) = IsFirstRefused T op events line step.NoThread
 IsRefusal T op events (fault.Busy line) = IsFirstRefused T op events line step.Busy
@@ -62,13 +62,14 @@ pub record IsReplay (T : Table) (p : Plan) (r : ReportValue) : Type 0 where
   pub opening_is : r.history.opening ≡ opening_in p
   pub report : IsReportOf T (opening_in p) (only_events (events_of p)) r.history.calls r.order r.keys
 
--- The result of a replay on the step table T: the report of the schedule, the error of its first event that is not
--- enabled, or `Memory` for a failed allocation.
+-- Holds if a replay on the step table T can have this result: the report of the schedule, the error of its first event
+-- that is not enabled, or `Memory` for a failed allocation.
 abbrev pub Replays : Table → Plan → Result Report ReplayFault → Type 0
 Replays T p (Ok r) = IsReplay T p (view r)
 Replays T p (Err refusal) = IsRefusal T (opening_in p) (events_of p) refusal
 
--- [Headline, of a report]: the order linearizes the history and leaves the final keys.
+-- [Headline, of a report]: holds if the order in the report linearizes the history and leaves the final keys, which are
+-- in strictly increasing order.
 pub record IsExplained (r : ReportValue) : Type 0 where
   pub linearizes : Linearizes r.history.opening.quota (opening_set r.history.opening) r.history.calls r.order
   pub leaves : keys_left r.history.opening r.history.calls r.order ≡ r.keys

@@ -1,4 +1,4 @@
--- The content of a recorder after some events, computed from the effects of these events.
+-- What a recorder contains after some events, computed from the effects of these events.
 use Rattle.std.specs.Prelude.{◌≡◌, ℕ, zero, suc, ◌-◌, ◌<◌, ◌≤◌, Bool, true, false, not, List, [], ◌∷◌, ◌++◌, length, replicate}
 use Rattle.std.specs.Prelude.{Option, Some, None, slice_index_or, slice_set, IsSomeAnd}
 use Rattle.lset_words.specs.declared.Call.{Call}
@@ -23,7 +23,7 @@ use Rattle.lset_replay.specs.declared.recorder.Recorder.{Recorder}
 -- ---- The reply of a pending call
 
 -- Returns whether the reply of a call that changed nothing requires the call's key to be present. If not, the reply
--- requires the key to be absent. Always true for a `ceiling`, since `shows` tests its whole reply.
+-- requires the key to be absent. Always true for a `ceiling`, because `shows` tests the whole reply of a `ceiling`.
 abbrev pub needs_key : Call → Reply → Bool
 needs_key (call.Add k) reply.False = true
 needs_key (call.Contains k) reply.True = true
@@ -38,16 +38,16 @@ found_in reply.True = None
 found_in reply.False = None
 found_in reply.Full = None
 
--- Returns a test of moments: whether the key of the call is present at a moment or, for a `ceiling`, whether the reply
--- is correct at this moment.
+-- Returns a function that tests a moment (an event number). The test is whether the key of the call is present at this
+-- moment or, for a `ceiling`, whether the reply is correct at this moment.
 abbrev pub shows : (ℕ → List ℕ) → Call → Reply → ℕ → Bool
 shows changes (call.Add k) r = λ m. is_present changes k.0 m
 shows changes (call.Remove k) r = λ m. is_present changes k.0 m
 shows changes (call.Contains k) r = λ m. is_present changes k.0 m
 shows changes (call.Ceiling k) r = has_ceiling changes k.0 (found_in r)
 
--- Returns the first moment, from the start of the call up to `last`, when the reply is correct. The call must change
--- nothing.
+-- Returns the first moment (event number), from the start of the call up to `last`, when the reply is correct. The call
+-- must change nothing.
 abbrev pub fit : (ℕ → List ℕ) → OpenCall → Reply → ℕ → Option ℕ
 fit changes o reply last = first_passing (needs_key o.call reply) (shows changes o.call reply) o.begun (last - o.begun)
 
@@ -56,15 +56,15 @@ fit changes o reply last = first_passing (needs_key o.call reply) (shows changes
 abbrev pub changed_at : ℕ → Linearized
 changed_at moment = record { moment = moment; reply = reply.True; change = true }
 
--- Returns the linearization point of a call that changes nothing: the first moment during the call when its reply is
--- correct. Each call on a list has such a moment. If a call on a broken list has none, its linearization point is its
--- end.
+-- Returns the linearization point of a call that changes nothing: the first moment (event number) during the call when
+-- its reply is correct. Each call on a list has such a moment. If a call on a broken list has none, its linearization
+-- point is its end.
 abbrev pub read_at : Option ℕ → ℕ → Reply → Linearized
 read_at None end reply = record { moment = end; reply = reply; change = false }
 read_at (Some moment) end reply = record { moment = moment; reply = reply; change = false }
 
--- Returns the linearization point of a completed call: the moment of its change or, if the call made no change, the
--- point that `read_at` returns.
+-- Returns the linearization point of a completed call. It is the event that changed the set or, if the call made no
+-- change, the point that `read_at` returns.
 abbrev pub settled : Option Linearized → Option ℕ → ℕ → Reply → Option Linearized
 settled (Some p) moment end reply = Some p
 settled None moment end reply = Some (read_at moment end reply)
@@ -152,15 +152,15 @@ abbrev pub entry_told : Event → Told → Entry
 entry_told (event.Begin thread call) told = began thread call
 entry_told (event.Go thread) told = stepped thread told.change told.answer
 
--- Holds if the thread has a pending call that can change the set or end at this moment.
+-- Holds if the thread has a pending call that can change the set or end at this moment (event number).
 pub record MayStep (h : HistoryValue) (under_way : List (Option OpenCall)) (places : List (Option Linearized))
     (thread moment : ℕ) : Type 0 where
   pub of_a_thread : thread < length under_way
   pub goes : IsSomeAnd (open_call_at under_way thread) (λ o.
       (o.number < length places) × (o.begun ≤ moment) × MayEnd h o.number moment)
 
--- Holds if a change can be recorded: its moment is after every recorded change, and it adds an absent key or removes a
--- present key.
+-- Holds if a change can be recorded: its moment (event number) is after every recorded change, and it adds an absent
+-- key or removes a present key.
 abbrev pub MayChange : (ℕ → List ℕ) → ℕ → Option Change → Type 0
 MayChange changes moment None = Unit {0}
 MayChange changes moment (Some (k, present)) =

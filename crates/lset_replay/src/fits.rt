@@ -1,4 +1,4 @@
-//! Finds the first moment during a call when its reply is correct.
+//! Finds the first moment (event number) during a call when its reply is correct.
 ghost use Rattle.std.specs.Prelude.{◌≡◌, ◌≢◌, ◌≤◌};
 ghost use Rattle.lset_words.specs.declared.Key.{Key};
 ghost use Rattle.lset_words.specs.declared.Call.TheVariants.{Ceiling};
@@ -9,8 +9,9 @@ use crate::places::{OpenCall, found_in, needs_key};
 use lset_history::Changes;
 use lset_words::{Call, Reply};
 
-/// Returns the first moment when `reply` is correct for the pending call `made`, from the start of the call up to
-/// `last`. The call must not have changed the set. Returns `None` if `reply` is correct at none of these moments.
+/// Returns the first moment (event number) when `reply` is correct for the pending call `made`, from the start of the
+/// call up to `last`. The call must not have changed the set. Returns `None` if `reply` is correct at none of these
+/// moments.
 pub fn fit(changes: &Changes, made: OpenCall, reply: Reply, last: u32) -> Option<u32>
     requires { made.begun ≤ last }
     ensures { result ≡ fit (moments_of changes.now) made reply last }

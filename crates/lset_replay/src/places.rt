@@ -3,7 +3,7 @@ ghost use Rattle.lset_replay.specs.Trace.{needs_key, found_in, changed_at, read_
 
 use lset_words::{Call, Effect, Presence, Reply};
 
-/// A pending call, with its number in the history and the moment when it started.
+/// A pending call, with its number in the history and the moment (event number) when it started.
 #[derive(Clone, Copy)]
 pub(crate) struct OpenCall {
     pub number: u32,
@@ -30,8 +30,8 @@ pub(crate) fn found_in(reply: Reply) -> Option<u32>
     }
 }
 
-/// The linearization point of a call: its moment, the call's reply, and whether the call changes the set at this
-/// moment.
+/// The linearization point of a call: its moment (event number), the call's reply, and whether the call changes the set
+/// at this moment.
 #[derive(Clone, Copy)]
 pub(crate) struct Linearized {
     pub moment: u32,

@@ -37,8 +37,8 @@ fn is_there(changes: &Changes, key: u32, moment: u32) -> bool
     changes.first(key, true, moment, moment).0.is_some()
 }
 
-/// Records that a key was added (if `present` is true) or removed at this moment. Records nothing if the key already
-/// was in this state, which only happens on broken lists.
+/// Records that a key was added (if `present` is true) or removed by the event with number `moment`. Records nothing if
+/// the key already was in this state, which only happens on broken lists.
 fn note_key(changes: &mut Changes, key: u32, present: bool, moment: u32) -> Result<(), AllocError>
     requires { IsLaterThanAll (moments_of changes.old) moment }
     ensures upto { (k : ℕ) → All (λ m. m ≤ moment) (moments_of changes.new k) }
@@ -77,7 +77,7 @@ impl Recorder {
         Some(open.number)
     }
 
-    /// Returns the moment of a call's linearization point, or `None` if this point is not known yet.
+    /// Returns the moment (event number) of a call's linearization point, or `None` if this point is not known yet.
     pub fn moment_of(&self, call: u32) -> Option<u32> {
         let place = (*self.places.get(call as usize)?)?;
         Some(place.moment)

@@ -9,18 +9,18 @@ pub enum Deed {
     Access(Action, u64),
 }
 
-/// The end of a call: its reply, and the moment when it takes effect.
+/// The end of a call: its reply, and the moment (event number) when it takes effect.
 #[derive(Clone, Copy, Debug, PartialEq, Eq)]
 pub struct CallEnd {
     pub reply: Reply,
     pub moment: u32,
 }
 
-/// An event of a run, as a trace shows it: the number of its line in the schedule's text, its effect, and the state of
-/// its thread before and after the event. `moment` is the number of the event, counted from 1. `call` is the number,
-/// counted from 0, of the call that the event started, continued or ended. `change` is the key that the event added
-/// (`true`) or removed (`false`), if any. `end` describes the end of the call, if the event ended it. `chain` lists the
-/// nodes of the list from head to tail, if they were requested and the event changed them.
+/// An event of a run, as a trace shows it. It has the number of its line in the schedule's text, its effect, and the
+/// state of its thread before and after the event. `moment` is the number of the event, counted from 1. `call` is the
+/// number, counted from 0, of the call that the event started, continued or ended. `change` is the key that the event
+/// added (`true`) or removed (`false`), if any. `end` describes the end of the call, if the event ended it. `chain`
+/// lists the nodes of the list from head to tail, if they were requested and the event changed them.
 #[derive(Drop)]
 pub struct TracedEvent {
     pub line: u64,

@@ -114,7 +114,8 @@ impl<W: Steps + Drop> TracedRun<W> {
         Some((self.world.held(thread_of(event))?, deed))
     }
 
-    /// Returns the reply of a call and the moment when it takes effect, if the last event ended the call.
+    /// Returns the reply of a call and the moment (event number) when it takes effect. Returns `None` if the last event
+    /// did not end the call.
     fn end_of(&self, call: u32, told: Told) -> Option<CallEnd> {
         Some(CallEnd {
             reply: told.answer?,
