@@ -27,8 +27,8 @@ fn with_one_lock(call: Call, local: Local) -> Local {
     }
 }
 
-/// Returns a thread's state after a step of a broken FineList: its `remove` locks `pred` but not `curr`. `seen` is the
-/// value that the step read or wrote.
+/// Returns a thread's state after a step of a FineList whose `remove` locks `pred` but not `curr`. `seen` is the value
+/// that the step read or wrote.
 pub(crate) fn fed_with_one_lock(local: &Local, seen: u64) -> Fed
     requires { IsSmall local.now }
 {
@@ -47,8 +47,8 @@ fn through_row_14(local: Local) -> Local {
     }
 }
 
-/// Returns a thread's state after a step of a broken FineList: its walk releases the lock of `pred` before it takes the
-/// lock of `curr`. Row 14 of this list's step table releases `pred`. `seen` is the value that the step read or wrote.
+/// Returns a thread's state after a step of a FineList whose walk releases the lock of `pred` before it takes the lock
+/// of `curr`. Row 14 of this list's step table releases `pred`. `seen` is the value that the step read or wrote.
 pub(crate) fn fed_pred_first(local: &Local, seen: u64) -> Fed
     requires { IsSmall local.now }
 {

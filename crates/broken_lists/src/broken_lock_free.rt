@@ -1,5 +1,5 @@
-//! Implements the steps of two broken LockFreeLists. In the first list, `add` also replaces a marked link. In the
-//! second list, `remove` never marks a node.
+//! Implements the steps of two broken LockFreeLists. In the first list, `add` replaces the link of a node even if the
+//! link is marked. In the second list, `remove` never marks a node.
 ghost use Rattle.lset_steps.specs.Rows.{IsSmall};
 
 use lset_lock_free::{effect_of, fed_by, next_action};
@@ -8,13 +8,14 @@ use lset_steps::rows::{link_index, own_slot};
 use lset_steps::{Action, Fed, Local};
 use lset_words::{Key, Reply};
 
-/// Returns a link word that leads to `node`, with the mark that the thread has read before and stored in `pkey`.
+/// Returns a link word that leads to `node`. Its mark is the mark that the thread has read earlier and stored in
+/// `pkey`.
 fn marked_as_seen(node: u64, local: &Local) -> u64 {
     node.wrapping_mul(2).wrapping_add(local.pkey)
 }
 
-/// Returns a thread's next access on a broken LockFreeList: its `add` replaces the link of `pred` even if this link is
-/// marked.
+/// Returns the next access to a word by a thread of a LockFreeList whose `add` replaces the link of `pred` even if this
+/// link is marked.
 pub(crate) fn next_whatever_mark(local: &Local) -> Action
     requires { IsSmall local.now }
 {
@@ -62,8 +63,7 @@ pub(crate) fn effect_whatever_mark(local: &Local, seen: u64) -> Option<(Key, boo
     }
 }
 
-/// Returns a thread's state after a step of a broken LockFreeList: its `remove` unlinks a node without marking it
-/// first.
+/// Returns a thread's state after a step of a LockFreeList whose `remove` unlinks a node without marking it first.
 pub(crate) fn fed_without_mark(local: &Local, seen: u64) -> Fed
     requires { IsSmall local.now }
 {

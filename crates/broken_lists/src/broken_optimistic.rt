@@ -12,8 +12,8 @@ fn past_the_walk(local: Local) -> Local {
     }
 }
 
-/// Returns a thread's state after a step of a broken OptimisticList. This list has no second traversal: its validation
-/// only checks that `pred` links to `curr`.
+/// Returns a thread's state after a step of an OptimisticList without a second traversal. Its validation only checks
+/// that `pred` links to `curr`.
 pub(crate) fn fed_without_walk(local: &Local, seen: u64) -> Fed
     requires { IsSmall local.now }
 {
@@ -24,8 +24,8 @@ pub(crate) fn fed_without_walk(local: &Local, seen: u64) -> Fed
     }
 }
 
-/// Returns a thread's state after its second traversal has loaded a key, on a broken OptimisticList that compares keys
-/// instead of nodes. This traversal ends at the first key that is not below the key of `pred`.
+/// Returns a thread's state after its second traversal has loaded a key, in an OptimisticList that compares keys
+/// instead of nodes. This traversal ends at the first key that is not smaller than the key of `pred`.
 pub(crate) fn arrived_by_key(seen: u64, local: &Local) -> Local {
     if local.pkey < seen {
         Local {

@@ -11,7 +11,7 @@ use std::collections::BTreeSet;
 /// An invalid node number: no list has this many nodes. A walk along the links stops at this number.
 const NO_NODE: u64 = 1 << 32;
 
-/// A node that a walk has reached: its key, its mark, and the number of the next node.
+/// A node that a walk along the links has reached: its key, its mark, and the number of the next node.
 #[derive(Clone, Copy)]
 struct Met {
     place: ChainKey,

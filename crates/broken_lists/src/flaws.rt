@@ -26,7 +26,7 @@ fn without_mark(row: u8, local: &Local, seen: u64) -> u64 {
     }
 }
 
-/// Starts `call` as the intact list does.
+/// Returns a thread's state after the start of `call`. A broken list starts a call as the intact list does.
 pub fn begun(broken: BrokenList, call: Call, local: &Local) -> Local {
     match broken {
         Lock | SecondLock | HandOverHand | SecondWalk | SameNode => begun_at(1, call, local),
