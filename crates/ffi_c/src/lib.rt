@@ -1,5 +1,6 @@
 //! Exports the functions of `ffi_sets` to C: sets of keys that threads share, used through handles (`CSeat`). A handle
-//! is empty, or owns a seat (one thread's access to the set), a receipt, or a closed set.
+//! is empty, or owns a seat (one thread's access to the set), a receipt (a record of the calls that a seat has seen),
+//! or a closed set.
 //!
 //! Each function calls the function of `ffi_sets` with the same contract. The parameter `alloc` has size zero: C passes
 //! no argument for it.
@@ -15,13 +16,14 @@ ghost use Rattle.ffi_sets.specs.Sets.{GathersAt};
 use ffi_sets::CSeat;
 use std::alloc::Global;
 
-/// Opens a set of the list `kind` (0 coarse, 1 fine, 2 optimistic, 3 lazy, 4 lock-free) with 1 to 64 `seats`, a `quota`
-/// of 0 to 16,384, and at most 1,048,576 `keys` in strictly increasing order. Stores a seat (one thread's access to the
-/// set) in `out`, which must be empty. All other seats can be split off this seat. No other open set may have the same
-/// `number`, because `listset_gather` uses it to compare the sets of two seats.
+/// Opens a set of the list `kind`: 0 coarse, 1 fine, 2 optimistic, 3 lazy, 4 lock-free. The set has 1 to 64 `seats`
+/// (one for each thread), a `quota` of 0 to 16,384 successful adds for each seat, and at most 1,048,576 opening `keys`
+/// in strictly increasing order. Stores one seat in the handle `out`, which must be empty. All other seats can be split
+/// off this seat. No other open set may have the same `number`, because `listset_gather` uses it to compare the sets of
+/// two seats.
 ///
-/// Returns `DONE`. On an error, changes nothing and returns `IS_SEAT` if `out` is not empty, `BAD_KIND`, `BAD_SEATS`,
-/// `BAD_QUOTA`, `BAD_KEYS`, or `OUT_OF_MEMORY` if an allocation failed. Does not block.
+/// Returns `DONE`. On an error, changes nothing and returns the error: `IS_SEAT` if `out` is not empty, `BAD_KIND`,
+/// `BAD_SEATS`, `BAD_QUOTA`, `BAD_KEYS`, or `OUT_OF_MEMORY` if an allocation failed. Does not block.
 #[unsafe(no_mangle)]
 pub extern "C" fn listset_open(
     alloc: Global,
@@ -35,19 +37,20 @@ pub extern "C" fn listset_open(
     ffi_sets::open_set(alloc, kind, seats, quota, number, keys, out)
 }
 
-/// Splits a seat (one thread's access to the set) off `seat` and stores it in `out`, which must be empty.
+/// Splits a seat (one thread's access to the set) off the handle `seat` and stores it in the handle `out`, which must
+/// be empty.
 ///
-/// Returns `DONE`. On an error, changes nothing and returns the first that applies: `IS_SEAT` if `out` is not empty,
-/// `NO_SEAT` if `seat` is empty, `NO_MORE` if no seat can be split off it, or it contains a receipt or a closed set,
-/// `OUT_OF_MEMORY` if an allocation failed. Does not block.
+/// Returns `DONE`. On an error, changes nothing and returns the first error that applies: `IS_SEAT` if `out` is not
+/// empty, `NO_SEAT` if `seat` is empty, `NO_MORE` if no seat can be split off `seat`, `OUT_OF_MEMORY` if an allocation
+/// failed. Does not block.
 #[unsafe(no_mangle)]
 pub extern "C" fn listset_split(alloc: Global, seat: &mut CSeat, out: &mut CSeat) -> u8 {
     ffi_sets::split_seat(alloc, seat, out)
 }
 
 /// Adds `key` to the set. Returns 1 if the key was absent, 0 if it was present, and 2 if it is absent but the seat has
-/// used up its quota of adds. Returns 255 if `seat` is empty, a receipt or a closed set. Blocks while another thread
-/// holds a lock that the call needs. Does not allocate.
+/// used up its quota of adds. Returns 255 if the handle `seat` owns no seat (one thread's access to a set). Blocks
+/// while another thread holds a lock that the call needs. Does not allocate.
 #[unsafe(no_mangle)]
 pub extern "C" fn listset_add(alloc: Global, seat: &mut CSeat, key: u32) -> u8
     ensures { HasMade seat.old.full seat.old.held (Add (record { 0 = key })) result seat.new.full seat.new.held }
@@ -55,8 +58,9 @@ pub extern "C" fn listset_add(alloc: Global, seat: &mut CSeat, key: u32) -> u8
     ffi_sets::add_key(alloc, seat, key)
 }
 
-/// Removes `key` from the set. Returns 1 if the key was present, 0 if it was absent, and 255 if `seat` is empty or
-/// contains a receipt or a closed set. Blocks while another thread holds a lock that the call needs. Does not allocate.
+/// Removes `key` from the set. Returns 1 if the key was present, 0 if it was absent, and 255 if the handle `seat` owns
+/// no seat (one thread's access to a set). Blocks while another thread holds a lock that the call needs. Does not
+/// allocate.
 #[unsafe(no_mangle)]
 pub extern "C" fn listset_remove(alloc: Global, seat: &mut CSeat, key: u32) -> u8
     ensures { HasMade seat.old.full seat.old.held (Remove (record { 0 = key })) result seat.new.full seat.new.held }
@@ -64,8 +68,9 @@ pub extern "C" fn listset_remove(alloc: Global, seat: &mut CSeat, key: u32) -> u
     ffi_sets::remove_key(alloc, seat, key)
 }
 
-/// Returns 1 if `key` is in the set, 0 if it is not, and 255 if `seat` is empty, a receipt or a closed set. On a
-/// coarse, fine or optimistic list, blocks while another thread holds a lock that the call needs. Does not allocate.
+/// Returns 1 if `key` is in the set, 0 if it is not, and 255 if the handle `seat` owns no seat (one thread's access to
+/// a set). On a coarse, fine or optimistic list, blocks while another thread holds a lock that the call needs. Does not
+/// allocate.
 #[unsafe(no_mangle)]
 pub extern "C" fn listset_contains(alloc: Global, seat: &mut CSeat, key: u32) -> u8
     ensures { HasMade seat.old.full seat.old.held (Contains (record { 0 = key })) result seat.new.full seat.new.held }
@@ -74,9 +79,9 @@ pub extern "C" fn listset_contains(alloc: Global, seat: &mut CSeat, key: u32) ->
 }
 
 /// Finds the smallest key of the set that is at least `key`. Returns 3 and writes the key to `at`, or returns 4 if the
-/// set has no such key. Returns 255 if `seat` is empty or contains a receipt or a closed set. On a coarse, fine or
-/// optimistic list the call blocks while another thread holds a lock that it needs. On a lock-free list it can wait
-/// until another thread adds or removes a key. Does not allocate.
+/// set has no such key. Returns 255 if the handle `seat` owns no seat (one thread's access to a set). On a coarse, fine
+/// or optimistic list, blocks while another thread holds a lock that the call needs. On a lock-free list, the call can
+/// wait until another thread adds or removes a key. Does not allocate.
 #[unsafe(no_mangle)]
 pub extern "C" fn listset_ceiling(alloc: Global, seat: &mut CSeat, key: u32, at: &mut u32) -> u8
     ensures { HasCeiling seat.old.full seat.old.held (Ceiling (record { 0 = key })) result at.old at.new seat.new.full seat.new.held }
@@ -86,7 +91,7 @@ pub extern "C" fn listset_ceiling(alloc: Global, seat: &mut CSeat, key: u32, at:
 
 /// Returns 1 if `key` is in the set, 0 if it is not, without blocking: whatever other threads do, the call takes at
 /// most `listset_most_reads` steps. Makes no call on a coarse, fine or optimistic list, and returns 254. Returns 255 if
-/// `seat` is empty, a receipt or a closed set. Does not allocate.
+/// the handle `seat` owns no seat (one thread's access to a set). Does not allocate.
 #[unsafe(no_mangle)]
 pub extern "C" fn listset_contains_now(alloc: Global, seat: &mut CSeat, key: u32) -> u8
     ensures made { result < 254 → HasMade seat.old.full seat.old.held (Contains (record { 0 = key })) result seat.new.full seat.new.held }
@@ -95,9 +100,9 @@ pub extern "C" fn listset_contains_now(alloc: Global, seat: &mut CSeat, key: u32
     ffi_sets::contains_key_now(alloc, seat, key)
 }
 
-/// Returns the maximum number of steps that a `contains` takes in any run of a lazy or lock-free list opened with
-/// `seats` seats, this quota and `opening` keys. Returns 0 if no set can be opened with these. Does not block or
-/// allocate.
+/// Returns the maximum number of steps that a `contains` takes in any run of a lazy or lock-free list that opens for
+/// this number of threads (`seats`), with this quota and this number of keys (`opening`). Returns 0 if no set can be
+/// opened with these numbers. Does not block or allocate.
 #[unsafe(no_mangle)]
 pub extern "C" fn listset_most_reads(seats: u32, quota: u32, opening: u32) -> u64
     ensures { IsWithin (record { threads = seats; quota = quota; opening = opening })
@@ -106,12 +111,12 @@ pub extern "C" fn listset_most_reads(seats: u32, quota: u32, opening: u32) -> u6
     ffi_sets::most_reads(seats, quota, opening)
 }
 
-/// Stores a receipt in `out`, which must be empty. The receipt covers everything that `seat` (one thread's access to
-/// the set) has seen: its own calls, and everything seen by the seats merged into it and by the receipts that it
-/// accepted. `seat` does not change.
+/// Stores a receipt in the handle `out`, which must be empty. The receipt covers everything that `seat` (one thread's
+/// access to the set) has seen: its own calls, and everything seen by the seats merged into it and by the receipts that
+/// it accepted. `seat` does not change.
 ///
-/// Returns `DONE`. On an error, changes nothing and returns the first that applies: `IS_SEAT` if `out` is not empty,
-/// `NO_SEAT` if `seat` is empty, a receipt or a closed set, `OUT_OF_MEMORY` if an allocation failed. Does not block.
+/// Returns `DONE`. On an error, changes nothing and returns the first error that applies: `IS_SEAT` if `out` is not
+/// empty, `NO_SEAT` if the handle `seat` owns no seat, `OUT_OF_MEMORY` if an allocation failed. Does not block.
 #[unsafe(no_mangle)]
 pub extern "C" fn listset_receipt_of(alloc: Global, seat: &mut CSeat, out: &mut CSeat) -> u8
     ensures { result ≡ 0 → HasGiven seat.old.full seat.old.held out.new.full out.new.held seat.new.full seat.new.held }
@@ -119,12 +124,12 @@ pub extern "C" fn listset_receipt_of(alloc: Global, seat: &mut CSeat, out: &mut 
     ffi_sets::give_receipt(alloc, seat, out)
 }
 
-/// Passes the receipt `given` to `seat` (one thread's access to the set). In the order of all calls, later calls of
-/// `seat` follow every call that the receipt covers. `given` is empty afterwards. The caller must ensure that a seat
-/// and a receipt with the same list and number belong to the same set.
+/// Passes the receipt `given` (a record of the calls that a seat has seen) to `seat` (one thread's access to the set).
+/// In the order of all calls, later calls of `seat` follow every call that the receipt covers. `given` is empty
+/// afterwards. The caller must ensure that a seat and a receipt with the same list and number belong to the same set.
 ///
-/// Returns `DONE`. On an error, changes nothing and returns `NO_SEAT` if `seat` or `given` is empty, or `NO_GATHER` if
-/// they are not a seat and a receipt with the same list and number. Does not block or allocate.
+/// Returns `DONE`. On an error, changes nothing. The error is `NO_SEAT` if `seat` or `given` is empty, and `NO_GATHER`
+/// if they are not a seat and a receipt with the same list and number. Does not block or allocate.
 #[unsafe(no_mangle)]
 pub extern "C" fn listset_after(alloc: Global, seat: &mut CSeat, given: &mut CSeat) -> u8
     requires { GathersAt seat.old.full seat.old.held given.old.full given.old.held }
@@ -133,8 +138,8 @@ pub extern "C" fn listset_after(alloc: Global, seat: &mut CSeat, given: &mut CSe
     ffi_sets::take_receipt(alloc, seat, given)
 }
 
-/// Returns the number of seats that `seat` contains, itself included. Writes the number of all seats of the set to
-/// `all`. Both numbers are 0 if `seat` is empty, a receipt or a closed set. Does not block or allocate.
+/// Returns the number of seats (one for each thread) that `seat` contains, itself included. Writes the number of all
+/// seats of the set to `all`. Both numbers are 0 if the handle `seat` owns no seat. Does not block or allocate.
 #[unsafe(no_mangle)]
 pub extern "C" fn listset_seats_within(alloc: Global, seat: &mut CSeat, all: &mut u32) -> u64 {
     ffi_sets::count_seats(alloc, seat, all)
@@ -143,8 +148,8 @@ pub extern "C" fn listset_seats_within(alloc: Global, seat: &mut CSeat, all: &mu
 /// Merges the seat `from` (one thread's access to the set), including all seats that it contains, into `into`. `from`
 /// is empty afterwards. The caller must ensure that two seats with the same list and number belong to the same set.
 ///
-/// Returns `DONE`. On an error, changes nothing and returns `NO_SEAT` if `into` or `from` is empty, or `NO_GATHER` if
-/// they are not two seats with the same list and number. Does not block or allocate.
+/// Returns `DONE`. On an error, changes nothing. The error is `NO_SEAT` if `into` or `from` is empty, and `NO_GATHER`
+/// if they are not two seats with the same list and number. Does not block or allocate.
 #[unsafe(no_mangle)]
 pub extern "C" fn listset_gather(alloc: Global, into: &mut CSeat, from: &mut CSeat) -> u8
     requires { GathersAt into.old.full into.old.held from.old.full from.old.held }
@@ -152,24 +157,26 @@ pub extern "C" fn listset_gather(alloc: Global, into: &mut CSeat, from: &mut CSe
     ffi_sets::gather_seats(alloc, into, from)
 }
 
-/// Closes the set. `seat` must contain all seats of the set. Afterwards, `seat` is a closed set with the final keys.
+/// Closes the set. The handle `seat` must contain all seats of the set (one for each thread). Afterwards, the handle
+/// owns a closed set with the final keys.
 ///
-/// Returns `DONE`. On an error, changes nothing and returns `NO_SEAT` if `seat` is empty, a receipt or a closed set,
-/// `SEATS_OUT` if it does not contain all seats of the set, or `OUT_OF_MEMORY` if an allocation failed. Does not block.
+/// Returns `DONE`. On an error, changes nothing and returns the first error that applies: `NO_SEAT` if the handle
+/// `seat` owns no seat, `SEATS_OUT` if it does not contain all seats of the set, `OUT_OF_MEMORY` if an allocation
+/// failed. Does not block.
 #[unsafe(no_mangle)]
 pub extern "C" fn listset_close(alloc: Global, seat: &mut CSeat) -> u8 {
     ffi_sets::close_set(alloc, seat)
 }
 
-/// Copies the keys of the closed set `closed` to `room` in strictly increasing order, if they fit. Returns the number
-/// of keys, or 2^64 - 1 if `closed` is not a closed set. Does not block or allocate.
+/// Copies the keys of the closed set in the handle `closed` to `room` in strictly increasing order, if they fit.
+/// Returns the number of keys, or 2^64 - 1 if `closed` owns no closed set. Does not block or allocate.
 #[unsafe(no_mangle)]
 pub extern "C" fn listset_keys(alloc: Global, closed: &mut CSeat, room: &mut [u32]) -> usize {
     ffi_sets::give_keys(alloc, closed, room)
 }
 
-/// Drops the contents of `seat`, which is empty afterwards. A set cannot be closed once one of its seats (one for each
-/// thread) has been dropped. Does not block.
+/// Drops the value that the handle `seat` owns. The handle is empty afterwards. A set cannot be closed once one of its
+/// seats (one for each thread) has been dropped. Does not block.
 #[unsafe(no_mangle)]
 pub extern "C" fn listset_drop(alloc: Global, seat: &mut CSeat) {
     ffi_sets::let_go(alloc, seat);
