@@ -41,6 +41,6 @@ words_in bytes = cut_at 0 (utf8_lossy bytes)
 abbrev pub OfWords : (List (List ℕ) → Made → Type 0) → List ℕ → Made → Type 0
 OfWords Makes bytes made = (made ≡ Err Memory) ⊎ Makes (words_in bytes) made
 
--- Holds if the caller receives the text, the status and the text length of a result that the first argument accepts.
+-- Holds if the caller receives the text, the status and the text length of a result that satisfies `IsMade`.
 abbrev pub Hands : (Made → Type 0) → List ℕ → List ℕ → ℕ → ℕ → Type 0
 Hands IsMade old new status count = (made : Made) × IsMade made × IsHanded made old new status count

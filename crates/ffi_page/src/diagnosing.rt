@@ -50,7 +50,7 @@ fn explain_below<R: Read>(alloc: Global, input: &mut R, used: usize) -> Result<A
     }
 }
 
-/// Returns the number of lines in a refusal, or 0 for any other answer.
+/// Returns the number of lines of the answer `not linearizable`; 0 for any other answer.
 fn refused_lines(verdict: &Answer) -> usize {
     if verdict.status == 0 {
         return 0;

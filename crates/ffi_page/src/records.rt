@@ -28,7 +28,8 @@ fn put_clash(out: &mut String, clash: Clash) -> Result<(), AllocError> {
     put_side(out, "second", clash.second)
 }
 
-/// Writes a refusal: the key, the moment if the refusal has one, and the contradiction if one was found.
+/// Writes the verdict that no order explains the calls: the key, the moment (a time in the recording) up to which no
+/// order exists, if there is one, and the contradiction, if one was found.
 fn put_none(out: &mut String, refusal: Refusal, clash: Option<Clash>) -> Result<(), AllocError> {
     let key = refusal.key.0;
     writeln!(out, "verdict none\nkey {key}")?;
