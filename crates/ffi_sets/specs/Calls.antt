@@ -13,8 +13,8 @@ use Rattle.lset_live.specs.Explained.{HasAnswered, HasMadeAtMost}
 use Rattle.ffi_sets.specs.declared.held.Held.{Held}
 use Rattle.ffi_sets.specs.Sets.{table_in, set_in, seat_in, spare_in, keys_in, number_in, receipt_in, SameSet}
 
--- The effect of a call from a seat of a set (one thread's access to the set): the call returned this reply, or the call
--- gave up and the seat is lost, or the seat was already lost.
+-- Holds if a call from a seat of a set (one thread's access to the set) has one of these effects: the call returned
+-- this reply, or the call gave up and the seat is lost, or the seat was already lost.
 abbrev pub HasCalledOf : Table → SetValue → Option SeatValue → Call → Option Reply → Option SeatValue → Type 0
 HasCalledOf T set (Some old) c (Some r) (Some new) = HasAnswered T set old c r new
 HasCalledOf T set (Some old) c None None = Unit {0}
@@ -34,8 +34,9 @@ abbrev pub CallsIn : Option Table → Option SetValue → Option SeatValue → C
 CallsIn (Some T) (Some set) old c r new = HasCalledOf T set old c r new
 CallsIn T set old c r new = r ≡ None
 
--- The effect of call `c` on the value that a C handle owns. The list, the set, its number, and the seats that can be
--- split off do not change. A receipt or a closed set has no seat, so the reply is `None`.
+-- Holds if call `c` changes the value `h` of a C handle to `h'` and returns the reply `r`. The list, the set, its
+-- number, and the seats that can be split off do not change. A receipt or a closed set has no seat, so its reply is
+-- `None`.
 pub record HasCalledHeld (h : Held) (c : Call) (r : Option Reply) (h' : Held) : Type 0 where
   pub same : SameSet h h'
   pub spare : spare_in h' ≡ spare_in h

@@ -21,7 +21,7 @@ table_in (Lazy o) = Some lazy
 table_in (LockFree o) = Some lock_free
 table_in h = None
 
--- Returns the receipt if the value is a receipt, else None.
+-- Returns the receipt (a record of the events that a seat has seen) if the value is a receipt, otherwise None.
 abbrev pub receipt_in : Held → Option ReceiptValue
 receipt_in (CoarseReceipt o) = Some o.receipt
 receipt_in (FineReceipt o) = Some o.receipt
@@ -30,8 +30,9 @@ receipt_in (LazyReceipt o) = Some o.receipt
 receipt_in (LockFreeReceipt o) = Some o.receipt
 receipt_in h = None
 
--- `set_in` returns the set of a seat or a receipt, else None. `number_in` returns the number that the C caller chose
--- for this set.
+-- The next two definitions return a part of a seat (one thread's access to a set) or of a receipt (the events that a
+-- seat has seen). `set_in` returns its set. `number_in` returns the number that the C caller chose for this set. For
+-- any other value they return None.
 abbrev pub set_in : Held → Option SetValue
 set_in (Coarse o) = Some (arc_value o.set)
 set_in (Fine o) = Some (arc_value o.set)
@@ -58,8 +59,8 @@ number_in (LazyReceipt o) = Some o.number
 number_in (LockFreeReceipt o) = Some o.number
 number_in h = None
 
--- `seat_in` returns the seat (one thread's access to the set) that a C handle owns, or None. `spare_in` returns the
--- seats that can be split off this seat.
+-- The next two definitions return a part of the value of a C handle. `seat_in` returns the seat (one thread's access to
+-- the set), or None. `spare_in` returns the seats that can be split off this seat.
 abbrev pub seat_in : Held → Option SeatValue
 seat_in (Coarse o) = o.seat
 seat_in (Fine o) = o.seat
@@ -86,12 +87,12 @@ pub record SameSet (h h' : Held) : Type 0 where
   pub set : set_in h' ≡ set_in h
   pub number : number_in h' ≡ number_in h
 
--- Holds if two values with the same number belong to the same set. A caller ensures this by giving each open set its
--- own number.
+-- Holds if the two values belong to the same set or have different numbers. A caller ensures this by giving each open
+-- set its own number.
 abbrev pub Gathers : Held → Held → Type 0
 Gathers h h' = number_in h ≡ number_in h' → set_in h ≡ set_in h'
 
--- If both C handles are full (each owns a value), `Gathers` holds for their values.
+-- Holds if `Gathers` holds for the values of the two C handles, or if one of the handles is empty.
 abbrev pub GathersAt : Bool → Held → Bool → Held → Type 0
 GathersAt true h true h' = Gathers h h'
 GathersAt into h from h' = Unit {0}

@@ -36,9 +36,9 @@ pub fn fault_code(fault: OpenFault) -> u8 {
     }
 }
 
-/// Makes a call from `seat` (one thread's access to the set) and returns its reply as a number. Returns 255 if `seat`
-/// is empty or contains a receipt or a closed set, or if the call stops after 2^64 - 1 rounds of a loop without a
-/// reply. In this case the seat is lost.
+/// Makes a call from the handle `seat` and returns its reply as a number. Returns 255 if the handle owns no seat (one
+/// thread's access to a set). Also returns 255 if the call stops after 2^64 - 1 rounds of a loop without a reply; the
+/// seat is then lost.
 pub fn call_from_seat(alloc: Global, seat: &mut CSeat, call: Call) -> u8
     ensures { HasMade seat.old.full seat.old.held call result seat.new.full seat.new.held }
 {
@@ -50,8 +50,8 @@ pub fn call_from_seat(alloc: Global, seat: &mut CSeat, call: Call) -> u8
     reply_code(reply)
 }
 
-/// Moves `held` into a new box and stores the box in `seat`, which must be empty. Returns `DONE`, or `OUT_OF_MEMORY` if
-/// the allocation fails; `seat` then stays empty.
+/// Moves `held` into a new box and stores the box in the handle `seat`, which must be empty. Returns `DONE`, or
+/// `OUT_OF_MEMORY` if the allocation fails; the handle then stays empty.
 pub fn put_new(alloc: Global, seat: &mut CSeat, held: Held) -> u8
     requires { seat.old.full ≡ false }
     ensures { result ≡ 0 → (seat.new.full ≡ true) × (seat.new.held ≡ held) }

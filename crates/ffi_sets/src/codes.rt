@@ -22,17 +22,18 @@ pub const BAD_KIND: u8 = 14;
 /// A `CSeat` that must be empty is not.
 pub const IS_SEAT: u8 = 15;
 
-/// The seat does not contain all seats of its set.
+/// The seat does not contain all seats of its set (one for each thread).
 pub const SEATS_OUT: u8 = 16;
 
-/// No other seat can be split off this seat.
+/// No other seat can be split off this seat (one thread's access to the set).
 pub const NO_MORE: u8 = 17;
 
-/// The arguments are neither two seats nor a seat and a receipt, or their lists or numbers differ.
+/// The arguments are neither two seats nor a seat and a receipt, or their lists or numbers differ. (A receipt contains
+/// the events that a seat, one thread's access to the set, has seen.)
 pub const NO_GATHER: u8 = 18;
 
 /// A `contains` on this list can block.
 pub const MAY_BLOCK: u8 = 254;
 
-/// The `CSeat` contains no seat (one thread's access to the set): it is empty, a receipt or a closed set.
+/// The handle `CSeat` owns no seat (one thread's access to the set).
 pub const NO_SEAT: u8 = 255;

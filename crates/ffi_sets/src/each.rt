@@ -47,8 +47,9 @@ pub fn call_held(held: &mut Held, call: Call) -> Option<Reply>
     }
 }
 
-/// Makes a `contains` from the seat in `held` without blocking, in at most `most_reads` steps. Returns an error and
-/// makes no call: `MAY_BLOCK` on a coarse, fine or optimistic list, `NO_SEAT` if `held` has no seat.
+/// Makes a `contains` from the seat (one thread's access to the set) in `held` without blocking, in at most
+/// `most_reads` steps. Returns an error and makes no call: `MAY_BLOCK` on a coarse, fine or optimistic list, `NO_SEAT`
+/// if `held` has no seat.
 pub fn read_held(held: &mut Held, key: Key) -> Result<Reply, u8>
     ensures called { IfOk result (λ r. HasCalledHeld held.old (Contains key) (Some r) held.new) }
     ensures within { IfOk result (λ r. HasReadHeld held.old held.new) }
@@ -153,8 +154,8 @@ pub fn gather_held(alloc: Global, into: &mut Held, from: Held) -> Option<Held>
 }
 
 /// Closes the set in `held` and returns its final keys. On an error, returns `held`, unchanged, and the number of the
-/// error: `NO_SEAT` if `held` has no seat, `SEATS_OUT` if it does not contain all seats of the set, `OUT_OF_MEMORY` if
-/// an allocation failed.
+/// error: `NO_SEAT` if `held` has no seat, `SEATS_OUT` if it does not contain all seats of the set (one for each
+/// thread), `OUT_OF_MEMORY` if an allocation failed.
 pub fn close_held(alloc: Global, held: Held) -> Result<Vec<u32>, (Held, u8)> {
     match held {
         Held::Coarse(of) => match of.close(alloc) {

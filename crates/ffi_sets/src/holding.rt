@@ -39,7 +39,7 @@ pub fn open_of<M: Bounded>(
     })
 }
 
-/// Merges all seats in `spare` into `seat`, and returns `seat`. All must belong to `set`.
+/// Merges all seats in `spare` (one for each thread) into `seat`, and returns `seat`. All must belong to `set`.
 fn gathered<M: Bounded>(set: &LiveSet<M>, seat: Seat<M>, spare: Vec<Seat<M>>) -> Seat<M>
     requires seat { seat.set ≡ set.now }
     requires spare { AreOf set.now spare.items }
@@ -53,7 +53,8 @@ fn gathered<M: Bounded>(set: &LiveSet<M>, seat: Seat<M>, spare: Vec<Seat<M>>) ->
     into
 }
 
-/// Closes the set and returns its final keys in `room`. `seat` and `spare` must contain all seats of the set.
+/// Closes the set and returns its final keys in `room`. `seat` and `spare` must contain all seats of the set (one for
+/// each thread).
 fn keys_left<M: Bounded>(
     set: LiveSet<M>,
     seat: Seat<M>,
@@ -107,8 +108,9 @@ impl<M: Bounded> SeatOfSet<M> {
         })
     }
 
-    /// Merges `from`, and all seats that can be split off it, into this seat. Returns `None` on success. If the numbers
-    /// of the two sets differ, or one of the two seats was lost, changes nothing and returns `from`.
+    /// Merges `from`, and all seats (one for each thread) that can be split off it, into this seat. Returns `None` on
+    /// success. If the numbers of the two sets differ, or one of the two seats was lost, changes nothing and returns
+    /// `from`.
     pub fn gather(&mut self, alloc: Global, from: SeatOfSet<M>) -> Option<SeatOfSet<M>>
         requires { self.old.number ≡ from.number → arc_value self.old.set ≡ arc_value from.set }
     {
@@ -149,9 +151,9 @@ impl<M: Bounded> SeatOfSet<M> {
         })
     }
 
-    /// Passes a receipt to this seat (one thread's access to the set), which has then seen everything that the receipt
-    /// covers. Returns `None` on success. If the numbers differ, or the seat was lost, changes nothing and returns
-    /// `given`.
+    /// Passes a receipt to this seat (one thread's access to the set). The seat has then seen all events of the
+    /// receipt. Returns `None` on success. If the numbers of the two sets differ, or the seat was lost, changes nothing
+    /// and returns `given`.
     pub fn after(&mut self, given: ReceiptOfSet<M>) -> Option<ReceiptOfSet<M>>
         requires { self.old.number ≡ given.number → arc_value self.old.set ≡ given.receipt.set }
         ensures set { arc_value self.new.set ≡ arc_value self.old.set }
@@ -171,8 +173,8 @@ impl<M: Bounded> SeatOfSet<M> {
         None
     }
 
-    /// Returns the number of seats that this seat contains, and the number of all seats of the set. A seat contains
-    /// itself, the seats merged into it, and the seats that can be split off it.
+    /// Returns the number of seats (one for each thread) that this seat contains, and the number of all seats of the
+    /// set. A seat contains itself, the seats merged into it, and the seats that can be split off it.
     pub fn counts(&self) -> (u64, u32) {
         let spare = self.spare.len() as u64;
         let held = match &self.seat {
@@ -182,7 +184,7 @@ impl<M: Bounded> SeatOfSet<M> {
         (spare.saturating_add(held), self.set.seats())
     }
 
-    /// Returns whether this seat contains all seats of the set.
+    /// Returns whether this seat contains all seats of the set (one for each thread).
     fn has_all(&self) -> bool
         ensures { IsTrue result ↔ IsWhole (arc_value self.now.set) self.now.seat self.now.spare.items }
     {
@@ -196,8 +198,9 @@ impl<M: Bounded> SeatOfSet<M> {
     }
 
     /// Closes the set and returns its final keys. On an error, returns this seat and the number of the error:
-    /// `SEATS_OUT` if this seat does not contain all seats, `OUT_OF_MEMORY` if no vector for the set's maximum number
-    /// of keys can be allocated. (`OUT_OF_MEMORY` is also returned if the set has another owner, which no run reaches.)
+    /// `SEATS_OUT` if it does not contain all seats of the set (one for each thread), `OUT_OF_MEMORY` if no vector for
+    /// the set's maximum number of keys can be allocated. (`OUT_OF_MEMORY` is also returned if the set has another
+    /// owner, which happens in no run.)
     pub fn close(self, alloc: Global) -> Result<Vec<u32>, (SeatOfSet<M>, u8)> {
         if !self.has_all() {
             return Err((self, SEATS_OUT));
@@ -229,8 +232,8 @@ impl<M: Bounded> SeatOfSet<M> {
 }
 
 impl<M: OpenContains> SeatOfSet<M> {
-    /// Makes a `contains` of `key` from this seat without blocking, in at most `most_reads` steps. Returns `None` if
-    /// the seat was lost in an earlier call.
+    /// Makes a `contains` of `key` from this seat (one thread's access to the set) without blocking, in at most
+    /// `most_reads` steps. Returns `None` if the seat was lost in an earlier call.
     pub fn contains_now(&mut self, key: Key) -> Option<Reply>
         ensures set { arc_value self.new.set ≡ arc_value self.old.set }
         ensures number { self.new.number ≡ self.old.number }

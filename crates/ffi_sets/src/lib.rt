@@ -1,13 +1,13 @@
 //! Running sets for C: functions on handles that C code keeps. The crate `ffi_c` exports them.
 //!
 //! A `CSeat` is a handle. It is empty, or owns a seat of a set (one thread's access to the set), a receipt (the events
-//! that a seat has seen), or the keys of a closed set. Each function accepts all arguments that its types allow, with
-//! one exception: seats and receipts with the same list and number must belong to the same set. `codes` defines the
-//! numbers of errors.
+//! that a seat has seen), or a closed set. Each function accepts all arguments that its types allow, with one
+//! exception: seats and receipts with the same list and number must belong to the same set. `codes` defines the numbers
+//! of errors.
 //!
-//! A call from a seat stops without a reply after 2^64 - 1 rounds of a loop (`lset_live::Bounded`), because waiting
-//! forever would need a runtime, which C code does not have. The seat is then lost, and each later call from the seat
-//! returns 255.
+//! A call from a seat stops without a reply after 2^64 - 1 rounds of a loop (`lset_live::Bounded`): waiting forever
+//! would need a runtime, which C code does not have. The seat is then lost, and each later call from the seat returns
+//! 255.
 #![tactic(auto)]
 
 mod answers; // replies and errors as numbers
@@ -41,13 +41,14 @@ use seat::{put, take};
 use std::alloc::Global;
 use std::mem::replace;
 
-/// Opens a set of the list `kind` (0 coarse, 1 fine, 2 optimistic, 3 lazy, 4 lock-free) with 1 to 64 `seats`, a `quota`
-/// of 0 to 16,384, and at most 1,048,576 `keys` in strictly increasing order. Stores a seat (one thread's access to the
-/// set) in `out`, which must be empty. All other seats can be split off this seat. No other open set may have the same
-/// `number`, because `gather_seats` uses it to compare the sets of two seats.
+/// Opens a set of the list `kind`: 0 coarse, 1 fine, 2 optimistic, 3 lazy, 4 lock-free. The set has 1 to 64 `seats`
+/// (one for each thread), a `quota` of 0 to 16,384 successful adds for each seat, and at most 1,048,576 opening `keys`
+/// in strictly increasing order. Stores one seat in the handle `out`, which must be empty. All other seats can be split
+/// off this seat. No other open set may have the same `number`, because `gather_seats` uses it to compare the sets of
+/// two seats.
 ///
-/// Returns `DONE`. On an error, changes nothing and returns `IS_SEAT` if `out` is not empty, `BAD_KIND`, `BAD_SEATS`,
-/// `BAD_QUOTA`, `BAD_KEYS`, or `OUT_OF_MEMORY` if an allocation failed. Does not block.
+/// Returns `DONE`. On an error, changes nothing and returns the error: `IS_SEAT` if `out` is not empty, `BAD_KIND`,
+/// `BAD_SEATS`, `BAD_QUOTA`, `BAD_KEYS`, or `OUT_OF_MEMORY` if an allocation failed. Does not block.
 pub fn open_set(
     alloc: Global,
     kind: u8,
@@ -68,11 +69,12 @@ pub fn open_set(
     }
 }
 
-/// Splits a seat (one thread's access to the set) off `seat` and stores it in `out`, which must be empty.
+/// Splits a seat (one thread's access to the set) off the handle `seat` and stores it in the handle `out`, which must
+/// be empty.
 ///
-/// Returns `DONE`. On an error, changes nothing and returns the first that applies: `IS_SEAT` if `out` is not empty,
-/// `NO_SEAT` if `seat` is empty, `NO_MORE` if `seat` is a receipt, a closed set, or a seat that cannot be split,
-/// `OUT_OF_MEMORY` if an allocation failed. Does not block.
+/// Returns `DONE`. On an error, changes nothing and returns the first error that applies: `IS_SEAT` if `out` is not
+/// empty, `NO_SEAT` if `seat` is empty, `NO_MORE` if no seat can be split off `seat`, `OUT_OF_MEMORY` if an allocation
+/// failed. Does not block.
 pub fn split_seat(alloc: Global, seat: &mut CSeat, out: &mut CSeat) -> u8 {
     if let Some(held) = take(alloc, out) {
         put(out, held);
@@ -85,7 +87,7 @@ pub fn split_seat(alloc: Global, seat: &mut CSeat, out: &mut CSeat) -> u8 {
         put(seat, held);
         return NO_MORE;
     }
-    // The box is allocated first, because a seat would be lost if the allocation failed later.
+    // Allocates the box before the split. If the allocation failed after the split, the new seat would be lost.
     let Ok(mut made) = Box::new(alloc, Held::Nothing) else {
         put(seat, held);
         return OUT_OF_MEMORY;
@@ -103,24 +105,26 @@ pub fn split_seat(alloc: Global, seat: &mut CSeat, out: &mut CSeat) -> u8 {
 }
 
 /// Adds `key` to the set. Returns 1 if the key was absent, 0 if it was present, and 2 if it is absent but the seat has
-/// used up its quota of adds. Returns 255 if `seat` is empty, a receipt or a closed set. Blocks while another thread
-/// holds a lock that the call needs. Does not allocate.
+/// used up its quota of adds. Returns 255 if the handle `seat` owns no seat (one thread's access to a set). Blocks
+/// while another thread holds a lock that the call needs. Does not allocate.
 pub fn add_key(alloc: Global, seat: &mut CSeat, key: u32) -> u8
     ensures { HasMade seat.old.full seat.old.held (Add (record { 0 = key })) result seat.new.full seat.new.held }
 {
     call_from_seat(alloc, seat, Call::Add(Key(key)))
 }
 
-/// Removes `key` from the set. Returns 1 if the key was present, 0 if it was absent, and 255 if `seat` is empty, a
-/// receipt or a closed set. Blocks while another thread holds a lock that the call needs. Does not allocate.
+/// Removes `key` from the set. Returns 1 if the key was present, 0 if it was absent, and 255 if the handle `seat` owns
+/// no seat (one thread's access to a set). Blocks while another thread holds a lock that the call needs. Does not
+/// allocate.
 pub fn remove_key(alloc: Global, seat: &mut CSeat, key: u32) -> u8
     ensures { HasMade seat.old.full seat.old.held (Remove (record { 0 = key })) result seat.new.full seat.new.held }
 {
     call_from_seat(alloc, seat, Call::Remove(Key(key)))
 }
 
-/// Returns 1 if `key` is in the set, 0 if it is not, and 255 if `seat` is empty, a receipt or a closed set. On a
-/// coarse, fine or optimistic list, blocks while another thread holds a lock that the call needs. Does not allocate.
+/// Returns 1 if `key` is in the set, 0 if it is not, and 255 if the handle `seat` owns no seat (one thread's access to
+/// a set). On a coarse, fine or optimistic list, blocks while another thread holds a lock that the call needs. Does not
+/// allocate.
 pub fn contains_key(alloc: Global, seat: &mut CSeat, key: u32) -> u8
     ensures { HasMade seat.old.full seat.old.held (Contains (record { 0 = key })) result seat.new.full seat.new.held }
 {
@@ -128,9 +132,9 @@ pub fn contains_key(alloc: Global, seat: &mut CSeat, key: u32) -> u8
 }
 
 /// Finds the smallest key of the set that is at least `key`. Returns 3 and writes the key to `at`, or returns 4 if the
-/// set has no such key. Returns 255 if `seat` is empty or contains a receipt or a closed set. On a coarse, fine or
-/// optimistic list the call blocks while another thread holds a lock that it needs. On a lock-free list it can wait
-/// until another thread adds or removes a key. Does not allocate.
+/// set has no such key. Returns 255 if the handle `seat` owns no seat (one thread's access to a set). On a coarse, fine
+/// or optimistic list, blocks while another thread holds a lock that the call needs. On a lock-free list, the call can
+/// wait until another thread adds or removes a key. Does not allocate.
 pub fn ceiling_at(alloc: Global, seat: &mut CSeat, key: u32, at: &mut u32) -> u8
     ensures { HasCeiling seat.old.full seat.old.held (Ceiling (record { 0 = key })) result at.old at.new seat.new.full seat.new.held }
 {
@@ -146,8 +150,8 @@ pub fn ceiling_at(alloc: Global, seat: &mut CSeat, key: u32, at: &mut u32) -> u8
 }
 
 /// Returns 1 if `key` is in the set, 0 if it is not, without blocking: whatever other threads do, the call takes at
-/// most `most_reads` steps. Returns 254 without a call on a coarse, fine or optimistic list, and 255 if `seat` is
-/// empty, a receipt or a closed set. Does not allocate.
+/// most `most_reads` steps. Makes no call on a coarse, fine or optimistic list, and returns 254. Returns 255 if the
+/// handle `seat` owns no seat (one thread's access to a set). Does not allocate.
 pub fn contains_key_now(alloc: Global, seat: &mut CSeat, key: u32) -> u8
     ensures made { result < 254 → HasMade seat.old.full seat.old.held (Contains (record { 0 = key })) result seat.new.full seat.new.held }
     ensures within { result < 254 → HasReadHeld seat.old.held seat.new.held }
@@ -163,9 +167,9 @@ pub fn contains_key_now(alloc: Global, seat: &mut CSeat, key: u32) -> u8
     }
 }
 
-/// Returns the maximum number of steps that a `contains` takes in any run of a lazy or lock-free list opened with
-/// `seats`, `quota` and `opening` keys. Returns 0 if no set can be opened with these values. Does not block or
-/// allocate.
+/// Returns the maximum number of steps that a `contains` takes in any run of a lazy or lock-free list that opens for
+/// this number of threads (`seats`), with this quota and this number of keys (`opening`). Returns 0 if no set can be
+/// opened with these numbers. Does not block or allocate.
 pub fn most_reads(seats: u32, quota: u32, opening: u32) -> u64
     ensures { IsWithin (record { threads = seats; quota = quota; opening = opening })
         → result ≡ bound (record { threads = seats; quota = quota; opening = opening }) }
@@ -176,13 +180,12 @@ pub fn most_reads(seats: u32, quota: u32, opening: u32) -> u64
     }
 }
 
-/// Stores a receipt in `out`, which must be empty. The receipt covers everything that `seat` (one thread's access to
-/// the set) has seen: its own calls, and everything seen by the seats merged into it and by the receipts that it
-/// accepted. `seat` does not change.
+/// Stores a receipt in the handle `out`, which must be empty. The receipt covers everything that `seat` (one thread's
+/// access to the set) has seen: its own calls, and everything seen by the seats merged into it and by the receipts that
+/// it accepted. `seat` does not change.
 ///
-/// Returns `DONE`. On an error, changes nothing and returns the first that applies: `IS_SEAT` if `out` is not empty,
-/// `NO_SEAT` if `seat` is empty or contains a receipt or a closed set, `OUT_OF_MEMORY` if an allocation failed. Does
-/// not block.
+/// Returns `DONE`. On an error, changes nothing and returns the first error that applies: `IS_SEAT` if `out` is not
+/// empty, `NO_SEAT` if the handle `seat` owns no seat, `OUT_OF_MEMORY` if an allocation failed. Does not block.
 pub fn give_receipt(alloc: Global, seat: &mut CSeat, out: &mut CSeat) -> u8
     ensures { result ≡ 0 → HasGiven seat.old.full seat.old.held out.new.full out.new.held seat.new.full seat.new.held }
 {
@@ -201,12 +204,12 @@ pub fn give_receipt(alloc: Global, seat: &mut CSeat, out: &mut CSeat) -> u8
     }
 }
 
-/// Passes the receipt `given` to `seat` (one thread's access to the set). In the order of all calls, later calls of
-/// `seat` follow every call that the receipt covers. `given` is empty afterwards. The caller must ensure that a seat
-/// and a receipt with the same list and number belong to the same set.
+/// Passes the receipt `given` (the events that a seat has seen) to `seat` (one thread's access to the set). In the
+/// order of all calls, later calls of `seat` follow every call that the receipt covers. `given` is empty afterwards.
+/// The caller must ensure that a seat and a receipt with the same list and number belong to the same set.
 ///
-/// Returns `DONE`. On an error, changes nothing and returns `NO_SEAT` if `seat` or `given` is empty, or `NO_GATHER` if
-/// they are not a seat and a receipt with the same list and number. Does not block or allocate.
+/// Returns `DONE`. On an error, changes nothing. The error is `NO_SEAT` if `seat` or `given` is empty, and `NO_GATHER`
+/// if they are not a seat and a receipt with the same list and number. Does not block or allocate.
 pub fn take_receipt(alloc: Global, seat: &mut CSeat, given: &mut CSeat) -> u8
     requires { GathersAt seat.old.full seat.old.held given.old.full given.old.held }
     ensures { result ≡ 0 → HasHeeded seat.old.full seat.old.held given.old.full given.old.held seat.new.full seat.new.held }
@@ -228,8 +231,8 @@ pub fn take_receipt(alloc: Global, seat: &mut CSeat, given: &mut CSeat) -> u8
     NO_GATHER
 }
 
-/// Returns the number of seats that `seat` contains, itself included. Writes the number of all seats of the set to
-/// `all`. Both numbers are 0 if `seat` is empty or contains a receipt or a closed set. Does not block or allocate.
+/// Returns the number of seats (one for each thread) that `seat` contains, itself included. Writes the number of all
+/// seats of the set to `all`. Both numbers are 0 if the handle `seat` owns no seat. Does not block or allocate.
 pub fn count_seats(alloc: Global, seat: &mut CSeat, all: &mut u32) -> u64 {
     let (within, of_set) = match take(alloc, seat) {
         Some(held) => {
@@ -246,8 +249,8 @@ pub fn count_seats(alloc: Global, seat: &mut CSeat, all: &mut u32) -> u64 {
 /// Merges the seat `from` (one thread's access to the set), including all seats that it contains, into `into`. `from`
 /// is empty afterwards. The caller must ensure that two seats with the same list and number belong to the same set.
 ///
-/// Returns `DONE`. On an error, changes nothing and returns `NO_SEAT` if `into` or `from` is empty, or `NO_GATHER` if
-/// they are not two seats with the same list and number. Does not block or allocate.
+/// Returns `DONE`. On an error, changes nothing. The error is `NO_SEAT` if `into` or `from` is empty, and `NO_GATHER`
+/// if they are not two seats with the same list and number. Does not block or allocate.
 pub fn gather_seats(alloc: Global, into: &mut CSeat, from: &mut CSeat) -> u8
     requires { GathersAt into.old.full into.old.held from.old.full from.old.held }
 {
@@ -268,10 +271,12 @@ pub fn gather_seats(alloc: Global, into: &mut CSeat, from: &mut CSeat) -> u8
     NO_GATHER
 }
 
-/// Closes the set. `seat` must contain all seats of the set. Afterwards, `seat` is a closed set with the final keys.
+/// Closes the set. The handle `seat` must contain all seats of the set (one for each thread). Afterwards, the handle
+/// owns a closed set with the final keys.
 ///
-/// Returns `DONE`. On an error, changes nothing and returns `NO_SEAT` if `seat` is empty, a receipt or a closed set,
-/// `SEATS_OUT` if it does not contain all seats of the set, or `OUT_OF_MEMORY` if an allocation failed. Does not block.
+/// Returns `DONE`. On an error, changes nothing and returns the first error that applies: `NO_SEAT` if the handle
+/// `seat` owns no seat, `SEATS_OUT` if it does not contain all seats of the set, `OUT_OF_MEMORY` if an allocation
+/// failed. Does not block.
 pub fn close_set(alloc: Global, seat: &mut CSeat) -> u8 {
     let Some(mut held) = take(alloc, seat) else {
         return NO_SEAT;
@@ -290,8 +295,8 @@ pub fn close_set(alloc: Global, seat: &mut CSeat) -> u8 {
     }
 }
 
-/// Copies the keys of the closed set `closed` to `room` in strictly increasing order, if they fit. Returns the number
-/// of keys, or 2^64 - 1 if `closed` is not a closed set. Does not block or allocate.
+/// Copies the keys of the closed set in the handle `closed` to `room` in strictly increasing order, if they fit.
+/// Returns the number of keys, or 2^64 - 1 if `closed` owns no closed set. Does not block or allocate.
 pub fn give_keys(alloc: Global, closed: &mut CSeat, room: &mut [u32]) -> usize {
     let Some(held) = take(alloc, closed) else {
         return usize::MAX;
@@ -301,8 +306,8 @@ pub fn give_keys(alloc: Global, closed: &mut CSeat, room: &mut [u32]) -> usize {
     count
 }
 
-/// Drops the contents of `seat`, which is empty afterwards. A set cannot be closed once one of its seats (one for each
-/// thread) has been dropped. Does not block.
+/// Drops the value that the handle `seat` owns. The handle is empty afterwards. A set cannot be closed once one of its
+/// seats (one for each thread) has been dropped. Does not block.
 pub fn let_go(alloc: Global, seat: &mut CSeat) {
     let _held = take(alloc, seat);
 }

@@ -61,7 +61,7 @@ impl CSeat {
     }
 }
 
-/// Moves the box out of `seat`, which is empty afterwards. Returns `None` if `seat` was empty.
+/// Moves the box out of the handle `seat`, which is empty afterwards. Returns `None` if the handle was empty.
 pub fn take(alloc: Global, seat: &mut CSeat) -> Option<Box<Held>>
     ensures told { MatchOption result (seat.old.full ≡ false) (λ b. (seat.old.full ≡ true) × (b.value ≡ seat.old.held)) }
     ensures left { seat.new.full ≡ false }
@@ -70,7 +70,7 @@ pub fn take(alloc: Global, seat: &mut CSeat) -> Option<Box<Held>>
     Some(held.into_box())
 }
 
-/// Stores a box in `seat`, which must be empty.
+/// Stores a box in the handle `seat`, which must be empty.
 pub fn put(seat: &mut CSeat, held: Box<Held>)
     requires { seat.old.full ≡ false }
     ensures { (seat.new.full ≡ true) × (seat.new.held ≡ held.value) }

@@ -1,4 +1,5 @@
--- Proof of the contract of `into_box`: it returns the box with this pointer. Assumes `Logic`.
+-- Proof of the contract of `into_box`: it returns the box with this pointer. Assumes `Logic`, the program logic of the
+-- toolchain.
 use contract.BorrowLft.{◌⊑◌}
 use denote.Triple.Clauses.{Lasts, lasts}
 use denote.Triple.Call.{calls_at_last}

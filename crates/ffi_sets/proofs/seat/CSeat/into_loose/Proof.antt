@@ -1,4 +1,5 @@
--- Proof of the contract of `into_loose`: it moves the pointer of a full handle into a box. Assumes `Logic`.
+-- Proof of the contract of `into_loose`: it moves the pointer of a full handle into a box. Assumes `Logic`, the program
+-- logic of the toolchain.
 use lib.Ieee.Bits.{is_true, is_false}
 use types.Match.{live}
 use denote.Signature.{type_at}
@@ -39,7 +40,6 @@ into_loose_spec 𝓤 𝓛 𝓜 𝓡 wired =
     let typed : Good (layout Out) made = (and_tt _ (freed_typed p).0, (record { fits = lit< tt }, ((freed_typed p).1, tt))) in
     qed 𝓛 ((raw (alive 𝓛 ended.signature z.0.0 z.0.1) ⊛ ‵ (owns (types_at ended.signature.params z.0.0) z.0.3 z.0.4)) ∷ ‵ ftrue ∷ []) ∵ move ! (1 ∷ []) $ drop ! $ split ! $ move ! (1 ∷ []) $
     fsplit ! $ fsplit ! $ drop ! $ move ! (1 ∷ []) $ fsplit ! $ move ! (1 ∷ []) $ drop ! $ move ! (1 ∷ []) $
-    -- The goal has, in this order: the box (if the handle is full), the allocator, the tokens.
     rewrite ! 1 (λ (us : List Val). ‵ ((HP.the_row).own_val alloc us)) fits refl $
     regoal ! (λ (us : List Val). prop (WpFn 𝓤 𝓛.H 𝓣.C 𝓣.Λ fn us Post)) (λ i. told i ++ (fits i ++ [])) refl $
     enter ! 𝓣.C 𝓣.Λ fn (seat_val t p ∷ heap_val ∷ []) Post $
