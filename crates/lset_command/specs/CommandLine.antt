@@ -38,7 +38,7 @@ rule_by name ValueOption = option_rule name
 abbrev pub Argument : Type 0
 Argument = Text × Form
 
--- A command, its name, and its arguments.
+-- A row of the table of commands: a command, its name, and its arguments.
 abbrev pub TableRow : Type 0
 TableRow = Command × Text × List Argument
 
@@ -46,11 +46,11 @@ TableRow = Command × Text × List Argument
 abbrev pub with_argument : App → Argument → App
 with_argument a argument = with_rule a (rule_by argument.0 argument.1)
 
--- Returns the parser's rules for the command in this row.
+-- Returns clap's rules for the command in this row of the table.
 abbrev pub app_in : TableRow → App
 app_in row = fold with_argument (new_app row.1) row.2
 
--- Returns the command with a subcommand for this row added.
+-- Returns the program's command with a subcommand for this row of the table added.
 abbrev pub with_command : App → TableRow → App
 with_command a row = with_subcommand a (app_in row).top
 
@@ -83,15 +83,16 @@ row_of row = (row.0, row.1.now, map argument_of row.3.now)
 abbrev pub IsApp : clap.Command → App → Type 0
 IsApp c a = (app_of c ≡ a) × ((out-Command c).has_globals ≡ false)
 
--- If clap's command was created, the `App` describes it.
+-- Holds if the `App` describes clap's command, or if this command could not be created.
 abbrev pub Makes : Result clap.Command AllocError → App → Type 0
 Makes made a = IfOk made (λ c. IsApp c a)
 
--- If the commands were created, the second command is the first command with this argument added.
+-- Holds if the second command is the first command with this argument added, or if a command could not be created.
 abbrev pub MakesWithArg : Result clap.Command AllocError → Arg → Result clap.Command AllocError → Type 0
 MakesWithArg old arg new = (a : App) (r : Rule) → Makes old a → rule_of arg ≡ r → arg.global ≡ false → Makes new (with_rule a r)
 
--- If the commands were created, the third command is the first command with the second added as a subcommand.
+-- Holds if the third command is the first command with the second added as a subcommand, or if a command could not be
+-- created.
 abbrev pub MakesWithSubcommand : Result clap.Command AllocError → Result clap.Command AllocError → Result clap.Command AllocError →
     Type 0
 MakesWithSubcommand old sub new = (a b : App) → Makes old a → Makes sub b → Makes new (with_subcommand a b.top)
@@ -144,7 +145,7 @@ options_in rows = record {
   lacks = first_of (codes "lacks") rows;
 }
 
--- Returns the command with this name in these rows, or `replay` if no row has this name.
+-- Returns the command with this name in these rows of the table, or `replay` if no row has this name.
 abbrev pub command_in : Text → List TableRow → Command
 command_in name [] = Replay
 command_in name (row ∷ rows) = if bytes_eq row.1 name then row.0 else command_in name rows
@@ -174,7 +175,7 @@ abbrev pub random : List Argument
 random = kind ∷ (codes "THREADS", Value) ∷ (codes "QUOTA", Value) ∷ (codes "CALLS", Value) ∷ (codes "KEYS", Value)
     ∷ (codes "SEED", Value) ∷ []
 
--- The commands have these names, arguments and forms of arguments.
+-- Holds if the commands have these names, arguments and forms of arguments.
 pub record CommandsAreNamed : Type 0 where
   pub replay : IsNamed (codes "replay") Replay (file ∷ lacks ∷ [])
   pub judge : IsNamed (codes "judge") Judge (file ∷ (codes "brief", Flag) ∷ (codes "only", ValueOption) ∷ [])
@@ -192,7 +193,7 @@ pub record CommandsAreNamed : Type 0 where
   pub faults : IsNamed (codes "faults") Faults ((codes "CAUSE", Value) ∷ [])
   pub explain : IsNamed (codes "explain") Explain (file ∷ [])
 
--- Holds if no two of these rows have the same name.
+-- Holds if no two of these rows of the table have the same name.
 abbrev pub AreApart : List TableRow → Type 0
 AreApart [] = ⊤
 AreApart (row ∷ rows) = (row_named row.1 rows ≡ None) × AreApart rows

@@ -34,7 +34,7 @@ pub struct Options {
     pub svg: bool,
     /// The first moment (number of an event in the run) that `show` draws.
     pub from: Option<String>,
-    /// The last moment that `show` draws.
+    /// The last moment (number of an event in the run) that `show` draws.
     pub to: Option<String>,
     /// The maximum length of the rows that `show` draws, in characters.
     pub width: Option<String>,
@@ -119,7 +119,7 @@ fn and_subcommand<'a>(
     command?.subcommand(subcommand?)
 }
 
-// Creates the argument that a row describes.
+// Creates the argument that a row of the table describes.
 fn arg_of<'a>(alloc: Global, row: &'a ArgumentRow, helps: Helps<'a>) -> Arg<'a>
     ensures rule { rule_of result ≡ rule_by row.entry.now.0.now row.entry.now.1 }
     ensures local { result.global ≡ false }
@@ -133,7 +133,7 @@ fn arg_of<'a>(alloc: Global, row: &'a ArgumentRow, helps: Helps<'a>) -> Arg<'a>
     }
 }
 
-// Adds an argument for each row to `command`, if this command was created.
+// Adds an argument for each row of the table to `command`, if this command was created.
 fn with_arguments<'a>(
     alloc: Global,
     command: Result<clap::Command<'a>, AllocError>,
@@ -182,7 +182,7 @@ fn bare_command<'a>(alloc: Global, row: &'a CommandRow, helps: Helps<'a>) -> cla
     with_help(command, name, helps)
 }
 
-// Creates the command that a row describes.
+// Creates the command that a row of the table describes.
 fn command_of<'a>(
     alloc: Global,
     row: &'a CommandRow,
@@ -194,7 +194,7 @@ fn command_of<'a>(
     with_arguments(alloc, Ok(command), row.3, helps)
 }
 
-// Adds a subcommand for each row to `program`, if this command was created.
+// Adds a subcommand for each row of the table to `program`, if this command was created.
 fn with_commands<'a>(
     alloc: Global,
     program: Result<clap::Command<'a>, AllocError>,

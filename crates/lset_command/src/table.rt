@@ -22,9 +22,9 @@ pub enum Command {
     Example,
     /// Generates a schedule.
     Gen,
-    /// Runs random programs in threads on one set.
+    /// Makes random calls in threads on one set.
     Run,
-    /// Serves sessions on one set.
+    /// Serves one set to clients on the loopback interface.
     Serve,
     /// Explains all error messages, or the error messages with one cause.
     Faults,
@@ -35,7 +35,7 @@ pub enum Command {
 /// How an argument is typed.
 #[derive(Clone, Copy)]
 pub enum Form {
-    /// A value, known by its place.
+    /// A value, identified by its position.
     Value,
     /// `--NAME`.
     Flag,
@@ -49,8 +49,8 @@ pub type ArgumentRow = (&'static str, Form, &'static str, &'static str);
 /// A command, with:
 /// - its name;
 /// - its line in the list of commands, which is also the first line of its help;
-/// - its arguments in the order of the help, in which values are typed;
-/// - its usage, or `None` if `clap` writes it (with each value in brackets);
+/// - its arguments, in the order of the help (values are typed in this order);
+/// - its usage, or `None` if `clap` writes the usage (with each value in brackets);
 /// - the end of its help: notes, an example and the form of an error.
 pub type CommandRow = (
     Command,
