@@ -29,7 +29,7 @@ abbrev pub EndsOnBytes : (List ℕ → Made → Type 0) → Option (List ℕ) �
 EndsOnBytes Makes input output_old output_new stderr_old stderr_new status =
     Ends (λ made. IfSome input (λ bytes. Makes bytes made)) output_old output_new stderr_old stderr_new status
 
--- Describes how a job of the program ends, depending on the bytes of its input.
+-- Holds if a job (a command with its checked arguments) ends correctly for the bytes of its input.
 abbrev pub JobEnds : Job → Option (List ℕ) → Ending
 JobEnds (Replay None) input output_old output_new stderr_old stderr_new status =
     EndsOnBytes Replays input output_old output_new stderr_old stderr_new status
@@ -43,8 +43,9 @@ JobEnds (Gen random) input output_old output_new stderr_old stderr_new status =
     Ends (Answers (Ok random)) output_old output_new stderr_old stderr_new status
 JobEnds job input output_old output_new stderr_old stderr_new status = Unit {0}
 
--- A job without a path ends with its result for standard input. A job with a path ends with its result for the bytes
--- of some file, or with `CannotRead`. (Nothing is proved about which file this is, or that it is read from its start.)
+-- Holds if a job ends correctly. Without a path, it ends with its result for standard input. With a path, it ends with
+-- its result for the bytes of some file, or with `CannotRead`. (Nothing is proved about which file this is, or that it
+-- is read from its start.)
 abbrev pub EndsOn : Option Text → Job → (Option (List ℕ) → Type 0) → Option (List ℕ) → Ending
 EndsOn None job IsFile input output_old output_new stderr_old stderr_new status =
     JobEnds job input output_old output_new stderr_old stderr_new status
@@ -52,8 +53,8 @@ EndsOn (Some path) job IsFile input output_old output_new stderr_old stderr_new 
     Ends (λ made. made ≡ Err CannotRead) output_old output_new stderr_old stderr_new status
     ⊎ ((bytes : Option (List ℕ)) × IsFile bytes × JobEnds job bytes output_old output_new stderr_old stderr_new status)
 
--- The job that a command line asks for ends as `EndsOn` describes. If an argument is wrong, the program reports this
--- argument.
+-- Holds if the program ends correctly for the job that a command line asks for: as `EndsOn` describes or, if an
+-- argument is wrong, with an error that names this argument.
 abbrev pub EndsAsked : Option Asked → Option Text → (Option (List ℕ) → Type 0) → Option (List ℕ) → Ending
 EndsAsked None path IsFile input output_old output_new stderr_old stderr_new status = Unit {0}
 EndsAsked (Some (Ok job)) path IsFile input output_old output_new stderr_old stderr_new status =
@@ -75,12 +76,13 @@ IsHelp kind = (kind ≡ DisplayHelp) ⊎ (kind ≡ DisplayVersion)
 abbrev pub IsMistake : ErrorKind → Type 0
 IsMistake kind = (kind ≢ OutOfMemory) × (kind ≢ DisplayHelp) × (kind ≢ DisplayVersion)
 
--- The result if the user asked for the help or the version: a text with status 0, or an error if an allocation failed.
+-- Holds if the result is correct for a user who asked for the help or the version: a text with status 0, or the error
+-- `Memory`.
 abbrev pub Helps : ErrorKind → Made → Type 0
 Helps kind made = (made ≡ Err Memory) ⊎ (IsHelp kind × (text : List ℕ) × (made ≡ Ok (record { text = text; status = 0 })))
 
--- A wrong command line writes nothing to the output and ends with status 2. clap writes a text on stderr. Nothing is
--- proved about this text.
+-- Holds if a wrong command line ends with status 2 and writes nothing to the output. clap writes a text on stderr.
+-- Nothing is proved about this text.
 abbrev pub Refuses : ErrorKind → Ending
 Refuses kind output_old output_new stderr_old stderr_new status =
     IsMistake kind × Keeps output_old output_new × (text : List ℕ) × AppendsFront stderr_old stderr_new text × (status ≡ 2)

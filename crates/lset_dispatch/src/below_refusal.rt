@@ -1,5 +1,5 @@
-//! Appends lines to a refusal of `judge`: an explanation, or the advice to use a file. An explanation requires that the
-//! recording is read a second time, which is not possible with a pipe.
+//! Appends lines to the answer `not linearizable` of `judge`: an explanation, or the advice to use a file. An
+//! explanation requires that the recording is read a second time, which is not possible with a pipe.
 
 ghost use Rattle.std.specs.Prelude.{ℕ, List};
 ghost use Rattle.tool_base.specs.Tools.{view};
@@ -18,7 +18,7 @@ const OF_A_FILE: &[u8] = b"\nto learn what is wrong, judge a file: listset judge
 const FAILED: &[u8] =
     b"\nno explanation: memory ran out, or the file has changed since it was judged\n";
 
-/// Returns the number of lines in a refusal; 0 for any other answer.
+/// Returns the number of lines of the answer `not linearizable`; 0 for any other answer.
 fn refused_lines(made: &Result<Answer, Trouble>) -> usize {
     match made {
         Ok(answer) if answer.status != 0 => {
