@@ -121,7 +121,7 @@ fn pass_receipts<M: Running>(
     Ok(())
 }
 
-/// Serves a session with lines from memory. Every kind of answer except `FULL` occurs.
+/// Serves a session that reads its lines from memory. Every kind of answer except `FULL` occurs.
 fn answer_session<M: Running, R: Wait>(
     rt: &R,
     alloc: Global,
@@ -201,8 +201,8 @@ fn fill_and_empty<M: Running, R: Wait>(rt: &R, set: &LiveSet<M>, seat: &mut Seat
     Ok(())
 }
 
-/// Makes more than a thousand calls of each operation, with small keys and the largest key, from a seat that has
-/// gathered the other seat.
+/// Makes more than a thousand calls of each operation, with small keys and the largest key. All calls are made from one
+/// seat (per-thread handle), into which the other seat was merged.
 fn many_calls<M: Running, R: Wait>(rt: &R, alloc: Global, calls: &mut Calls) -> Result<()> {
     let (set, mut seats) = answer!(calls, "open", OpenFault::Memory, open::<M>(alloc, 2, 1_101))?;
     let one = last_seat(&set, &mut seats)?;
