@@ -74,7 +74,8 @@ fn opening_and_final_keys_are_counted(rt: HostRuntime) -> Result<(), Fail> {
     Ok(())
 }
 
-/// Returns a random call on key 5 that runs between these two moments, with a random reply. Some calls are pending.
+/// Returns a random call on key 5 that runs between these two moments (times), with a random reply. Some calls are
+/// pending.
 fn any_call(random: &mut Pcg32, thread: u32, one: u64, other: u64) -> StreamCall {
     let call = match random.next_u32() % 4 {
         0 | 1 => Call::Add(FIVE),
@@ -95,7 +96,7 @@ fn any_call(random: &mut Pcg32, thread: u32, one: u64, other: u64) -> StreamCall
     }
 }
 
-/// Returns a few random calls on key 5, ordered by start. Moments count from 1.
+/// Returns a few random calls on key 5, ordered by start. Their moments (times) count from 1.
 fn any_calls(alloc: Global, random: &mut Pcg32) -> Result<Vec<StreamCall>, AllocError> {
     let count = 2 + random.next_u32() % 7;
     let mut moments: Vec<u64> = Vec::new(alloc);
@@ -134,8 +135,8 @@ fn is_explained(
     Ok(matches!(judge.close(keys_of(left))?, Verdict::Linearizable))
 }
 
-/// Returns `true` if the counted calls are among `calls` and prove a contradiction: too few calls can change the key
-/// back.
+/// Returns `true` if all calls in `count` are among `calls` and prove a contradiction: fewer calls can change the key
+/// back than are needed.
 fn names_enough(calls: &[StreamCall], count: &Count) -> bool {
     count.calls.iter().all(|call| calls.contains(call))
         && count.backs.iter().all(|call| calls.contains(call))

@@ -7,7 +7,7 @@ pub const CANNOT_READ: &[u8] = b"listset: cannot read\n";
 
 pub const CANNOT_WRITE: &[u8] = b"listset: cannot write\n";
 
-/// The number of a call that is never reached.
+/// A value of `Plan::fails_at` that no call reaches: the reader or writer never fails.
 pub const NEVER: usize = usize::MAX;
 
 /// How a read or a write fails.

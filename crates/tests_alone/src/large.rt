@@ -38,7 +38,7 @@ fn a_million_calls_are_judged(rt: HostRuntime) -> Result<(), Fail> {
     Ok(())
 }
 
-/// Returns `true` if the judge refuses the history and names this key and this moment.
+/// Returns `true` if the judge refuses the history and names this key and this moment (a time in the history).
 fn is_refused(
     alloc: Global,
     history: &History,

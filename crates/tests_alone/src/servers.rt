@@ -89,7 +89,8 @@ fn after_digits(text: &str) -> (&str, usize) {
     (rest, text.len().saturating_sub(rest.len()))
 }
 
-/// Returns `true` if the bytes are a prefix of the whole output: the first line, then `after`.
+/// Returns `Some(true)` if the bytes are a prefix of the whole output: the first line, then `after`. Returns `None` if
+/// they are not UTF-8.
 fn is_front(bytes: &[u8], after: &str) -> Option<bool> {
     let text = std::str::from_utf8(bytes).ok()?;
     let Some(named) = text.strip_prefix(LISTENING) else {
@@ -102,7 +103,8 @@ fn is_front(bytes: &[u8], after: &str) -> Option<bool> {
     }
 }
 
-/// Returns `true` if the bytes are the whole output: the first line, then `after`.
+/// Returns `Some(true)` if the bytes are the whole output: the first line, then `after`. Returns `None` if they are not
+/// UTF-8.
 fn is_whole(bytes: &[u8], after: &str) -> Option<bool> {
     let ends = bytes.ends_with(after.as_bytes());
     Some(ends && is_front(bytes, after)?)
