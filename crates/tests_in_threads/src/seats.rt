@@ -92,8 +92,8 @@ fn close_with_a_missing_seat_returns_set_and_seat(rt: HostRuntime) {
     at_each_list!(comes_back, rt);
 }
 
-/// Copies a receipt (the events that a seat has seen) three times. Of the four receipts, one is dropped, one is passed
-/// to the other seat, one is passed to the seat that issued it, and one still exists when the set is closed.
+/// Copies a receipt (the events that a seat has seen) three times. One of the four receipts is dropped. One is passed
+/// to the other seat, and one to the seat that issued it. The last one still exists when the set is closed.
 fn are_passed_on<M: Running, R: Host>(rt: &R, alloc: Global) {
     let (set, mut zero, mut one) = two_seats::<M, R>(rt, alloc);
     make_calls(rt, &set, &mut one, &ADDS);

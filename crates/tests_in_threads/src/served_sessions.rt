@@ -118,7 +118,7 @@ fn as_many_sessions_as_seats_are_served_at_once(rt: HostRuntime) {
     }
 }
 
-/// Opens a set with four seats (per-thread handles) and gathers them into two pairs.
+/// Opens a set with four seats (per-thread handles) and merges them into two pairs.
 fn two_pairs<R: Abort>(rt: &R, alloc: Global) -> (Set, Vec<Seat<LazyList>>) {
     let (set, mut seats) = opened(rt, alloc, 4);
     let three = last_of(rt, &set, &mut seats);

@@ -5,7 +5,7 @@ use crate::session_lines::{
     ANSWERS, CEILINGS, LINES, end, held, held_buffered, one_seat, was_held,
 };
 
-/// Asserts that a session ends when write number `at` fails, and that it has made `calls` calls before.
+/// Asserts that a session ends when write number `at` fails, and that it has made `calls` calls by then.
 fn write_fails<R: Host>(rt: &R, alloc: Global, lines: &[u8], answers: &[u8], at: u64, calls: u64) {
     let (set, mut seat) = one_seat(rt, alloc);
     let mut writer = FailingWriter::new(alloc, at);

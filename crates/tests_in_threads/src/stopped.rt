@@ -9,8 +9,8 @@ use crate::prelude::*;
 /// A step number that is never reached.
 const NEVER: u64 = u64::MAX;
 
-/// A thread of a test: the number of the step that it stops after (counted from 0), the numbers of all steps and of
-/// failed steps that its call has reported to the `Pause`, whether the thread has stopped, and whether its call has
+/// The state of a test thread: after which step (counted from 0) it stops, how many steps its call has reported to the
+/// `Pause`, and how many of these steps failed. Also has whether the thread has stopped, and whether its call has
 /// ended.
 #[derive(Drop)]
 struct Told {
@@ -143,8 +143,8 @@ fn both_call<M: Running + Send + Sync, R: Host>(
     )
 }
 
-/// A call from one seat (per-thread handle), the number of the step that it stops after (counted from 0), its reply,
-/// the number of its steps before the reply, and how many of these steps failed.
+/// A call from one seat (per-thread handle) and its expected results. The fields are the call, the step after which it
+/// stops (counted from 0), its reply, the number of its steps before the reply, and how many of these steps failed.
 type Part = (Call, u64, Reply, u64, u64);
 
 fn is_as_told<M: Running + Send + Sync, R: Host>(
