@@ -5,7 +5,7 @@ use crate::kinds::{Place, TextKind};
 use crate::lined::{Lines, field, moment_at, number_at};
 use std::alloc::AllocError;
 
-/// The indices of three fields in a call's line: the call's thread, start and end.
+/// The indices (from 0) of three fields in a call's line: the call's thread, start and end.
 #[derive(Clone, Copy)]
 pub(crate) struct CallFields {
     pub(crate) thread: usize,
@@ -19,7 +19,7 @@ const OF_REPORT: CallFields = CallFields {
     end: 6,
 };
 
-/// Explains a report's call that conflicts with the header or with an earlier call.
+/// Explains why a call in a report conflicts with the header or with an earlier call.
 pub(crate) fn put_report_history(
     out: &mut String,
     lines: &Lines<'_>,
@@ -53,7 +53,8 @@ pub(crate) fn is_call(line: &[u8]) -> bool {
     field(line, 0) == Some(b"call".as_slice())
 }
 
-/// Explains why the moments of a call conflict with each other, or with the moments of an earlier call.
+/// Explains why the moments of a call (its start and its end) conflict with each other, or with those of an earlier
+/// call.
 pub(crate) fn put_moments(
     out: &mut String,
     lines: &Lines<'_>,
