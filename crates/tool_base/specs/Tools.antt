@@ -25,7 +25,8 @@ view (Err t) = Err t
 abbrev pub Outcome : Type 0
 Outcome = Result ℕ Trouble
 
--- Describes how a result is written to an output. The two lists of bytes are the output before and after.
+-- Holds if writing a result to an output has this outcome. The two lists of bytes are the contents of the output before
+-- and after the write.
 abbrev pub Delivers : Made → Option (List ℕ) → Option (List ℕ) → Outcome → Type 0
 -- If no write fails, the whole text of an answer is written.
 Delivers (Ok answer) old new (Ok status) = (status ≡ answer.status) × Appends old new answer.text
@@ -48,15 +49,15 @@ line_of (Err t) = trouble_text t
 abbrev pub AppendsFront : Option (List ℕ) → Option (List ℕ) → List ℕ → Type 0
 AppendsFront old new text = (front : List ℕ) × (rest : List ℕ) × (text ≡ front ++ rest) × Appends old new front
 
--- How a command delivers its result. The text of an answer goes to the output. An error, including a failed write to
--- the output, goes to stderr as one line. If a write fails, only a prefix has been written. The exit status is the
--- status of the outcome.
+-- Holds if a command delivers its result to an output and to stderr. The text of an answer goes to the output. An
+-- error, including a failed write to the output, is printed on stderr as one line. If a write fails, only a prefix has
+-- been written. The exit status is the status of the outcome.
 abbrev pub IsDelivered : Made → Option (List ℕ) → Option (List ℕ) → Option (List ℕ) → Option (List ℕ) → ℕ → Type 0
 IsDelivered made output_old output_new faults_old faults_new status =
     (outcome : Outcome) × Delivers made output_old output_new outcome
     × AppendsFront faults_old faults_new (line_of outcome) × (status ≡ status_of outcome)
 
--- Holds if a command computes a result that the first argument accepts, and delivers this result.
+-- Holds if a command computes a result that satisfies `IsMade`, and delivers this result.
 abbrev pub Ends : (Made → Type 0) → Option (List ℕ) → Option (List ℕ) → Option (List ℕ) → Option (List ℕ) → ℕ → Type 0
 Ends IsMade output_old output_new faults_old faults_new status =
     (made : Made) × IsMade made × IsDelivered made output_old output_new faults_old faults_new status
@@ -69,8 +70,8 @@ IsTaken bytes = length bytes ≤ LONGEST
 abbrev pub IsTooLong : List ℕ → Trouble → Type 0
 IsTooLong bytes t = (t ≡ TooLong) × (LONGEST < length bytes)
 
--- Holds if a result is correct for a text. If the text is too long, the result is the error `TooLong`. Otherwise the
--- first argument accepts the result.
+-- Holds if a result is correct for a text. If the text is too long, the result is the error `TooLong`. Otherwise
+-- `Makes` holds for the text and the result.
 abbrev pub OnText : (List ℕ → Made → Type 0) → List ℕ → Made → Type 0
 OnText Makes bytes made = ((t : Trouble) × (made ≡ Err t) × IsTooLong bytes t) ⊎ (IsTaken bytes × Makes bytes made)
 
@@ -79,6 +80,6 @@ OnText Makes bytes made = ((t : Trouble) × (made ≡ Err t) × IsTooLong bytes 
 abbrev pub OnInput : (List ℕ → Made → Type 0) → List ℕ → Made → Type 0
 OnInput Makes bytes made = (made ≡ Err CannotRead) ⊎ ((made ≡ Err Memory) ⊎ OnText Makes bytes made)
 
--- Holds if all bytes of an input were read or, if the input is longer than `LONGEST`, more than `LONGEST` bytes.
+-- Holds if `read` contains all bytes of an input or, if the input is longer than `LONGEST`, more than `LONGEST` bytes.
 abbrev pub IsReadOf : List ℕ → List ℕ → Type 0
 IsReadOf read all = (read ≡ all) ⊎ ((LONGEST < length read) × (LONGEST < length all))

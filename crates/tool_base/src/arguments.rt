@@ -20,19 +20,19 @@ pub const MOST_SESSIONS_ASKED: u32 = 10_000;
 /// The largest port number.
 pub const MOST_PORT: u32 = 65_535;
 
-/// The arguments of the command `gen`, which are also the first six of `run`: a kind of list, the numbers of threads,
-/// keys and calls, and a random seed.
+/// The arguments of the command `gen`, which are also the first six arguments of `run`: a kind of list, the numbers of
+/// threads, calls and keys, a quota, and a random seed.
 #[derive(Clone, Copy)]
 pub struct RandomRequest {
     /// The kind of list.
     pub kind: Kind,
     /// The number of threads, 1 to `MOST_THREADS`.
     pub threads: u32,
-    /// The quota: the number of keys that each thread can add, 0 to `MOST_QUOTA`.
+    /// The quota: how many successful adds each thread can make, 0 to `MOST_QUOTA`.
     pub quota: u32,
     /// The number of calls, 0 to `MOST_CALLS_ASKED`.
     pub calls: u32,
-    /// The number of keys that calls choose from, at least 1. The keys are the numbers below it.
+    /// The number of different keys in the calls, at least 1. If it is `n`, the keys are 0 to `n - 1`.
     pub keys: u32,
     /// The random seed; any number is allowed.
     pub seed: u64,
@@ -48,14 +48,15 @@ pub struct LivesRequest {
     pub lives: u32,
 }
 
-/// The arguments of the command `serve`: a list, the size of its set, a port, and the number of sessions.
+/// The arguments of the command `serve`: a kind of list, the number of seats of its set and their quota, a port, and
+/// the number of connections to accept.
 #[derive(Clone, Copy)]
 pub struct ServeRequest {
     /// The kind of list.
     pub kind: Kind,
     /// The number of seats (per-thread handles), 1 to `MOST_THREADS`.
     pub seats: u32,
-    /// The quota: the number of keys that each seat can add, 0 to `MOST_QUOTA`.
+    /// The quota: how many successful adds each seat (per-thread handle) can make, 0 to `MOST_QUOTA`.
     pub quota: u32,
     /// The port, 0 to `MOST_PORT`. If it is 0, the system chooses one.
     pub port: u16,

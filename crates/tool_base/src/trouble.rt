@@ -33,8 +33,8 @@ pub enum ValueName {
     Cause,
 }
 
-/// Why the programs of `run` or the sessions of `serve` could not all be completed. A failed allocation is
-/// `Trouble::Memory` instead.
+/// Why `run` could not complete all calls of its threads, or `serve` could not complete all its connections. A failed
+/// allocation is `Trouble::Memory` instead.
 #[derive(Clone, Copy)]
 pub enum SystemCause {
     /// The number of programs (the calls of one thread each) differs from the number of seats, or some seats of the set
