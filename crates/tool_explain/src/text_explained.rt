@@ -25,7 +25,7 @@ pub fn explain_text(alloc: Global, file: &str, text: &[u8]) -> Result<Answer, Tr
     Ok(Answer { text, status: 0 })
 }
 
-/// Explains that a text is too long. Only `judge` reads texts of this length.
+/// Explains that a text is too long. Only `judge` and `stats` read texts of this length.
 fn put_too_long(out: &mut String, file: &str, text: &[u8]) -> Result<(), AllocError> {
     let first = match cut(text, b'\n') {
         Some((first, _)) => first,
