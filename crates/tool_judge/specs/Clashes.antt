@@ -125,8 +125,8 @@ abbrev pub nor_text : Presence → List ℕ
 nor_text Present = codes ", and no such add overlaps "
 nor_text Absent = codes ", and no such remove overlaps "
 
--- The text about two overlapping calls: no call can change the key between them. `turned_there` covers the order with
--- the first call first, `turned_back` the other order.
+-- The next two definitions are parts of the text about two overlapping calls: no call can change the key between them.
+-- `turned_there` is the part for the order with the first call first, `turned_back` the part for the other order.
 unfoldable pub turned_there : ℕ → Presence → ℕ → ℕ → List ℕ
 turned_there key need from to = no_change key need ++ codes "that returned true or is pending overlaps " ++ between from to
 

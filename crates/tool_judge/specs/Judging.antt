@@ -34,7 +34,8 @@ abbrev pub clash_text : ℕ → Option Clash → List ℕ
 clash_text key None = []
 clash_text key (Some c) = clash_lines key c
 
--- Returns the two lines of a refusal, and the three lines of a contradiction if one was found.
+-- Returns the two lines of the answer if no order explains the recording, and the three lines of a contradiction if one
+-- was found.
 abbrev pub refused_text : Refusal → Option Clash → List ℕ
 refused_text r clash = refused_lines r ++ clash_text r.key.0 clash
 
@@ -71,10 +72,11 @@ abbrev pub JudgesIn : Detail → List ℕ → Made → Type 0
 JudgesIn detail bytes (Ok answer) = (c : Recording) × Says bytes (Ok c) × (bytes ≡ recording_text c) × IsAnswerOn detail c answer
 JudgesIn detail bytes (Err t) = (t ≡ CannotRead) ⊎ ((t ≡ Memory) ⊎ ((fault : LineFault) × Says bytes (Err fault) × (t ≡ of_line_fault fault)))
 
--- Holds if the result is correct, and a refusal prints the contradiction of its verdict, if there is one.
+-- Holds if the result is correct. The lines of `not linearizable` are followed by the contradiction of the verdict, if
+-- it has one.
 abbrev pub Judges : List ℕ → Made → Type 0
 Judges bytes made = JudgesIn Whole bytes made
 
--- Holds if the result is correct, and a refusal prints no contradiction.
+-- Holds if the result is correct. The lines of `not linearizable` are not followed by a contradiction.
 abbrev pub JudgesBriefly : List ℕ → Made → Type 0
 JudgesBriefly bytes made = JudgesIn Brief bytes made

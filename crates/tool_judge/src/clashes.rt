@@ -366,8 +366,8 @@ fn needs_and_leaves(
     Ok(text)
 }
 
-/// Returns the words for the case that the second of two overlapping calls takes effect first: no `add` or `remove`
-/// that would bring the key into the state `need` overlaps the printed moments.
+/// Returns the words for the case that the second of two overlapping calls takes effect first. No `add` or `remove`
+/// that would bring the key into the state `need` overlaps the period that is printed next.
 fn nor_text(alloc: Global, need: Presence) -> Result<Vec<u8>, AllocError>
     ensures { IfOk result (λ text. text.items ≡ lines.nor_text need) }
 {
@@ -378,7 +378,7 @@ fn nor_text(alloc: Global, need: Presence) -> Result<Vec<u8>, AllocError>
 }
 
 /// Returns the words for the case that the first call takes effect first: no call that could bring the key into the
-/// state `need` overlaps the moments `from` to `to`.
+/// state `need` overlaps the time from `from` to `to`.
 #[tactic(auto, unfolding(crate::specs::Clashes::turned_there))]
 fn turned_there(
     alloc: Global,
@@ -396,7 +396,7 @@ fn turned_there(
 }
 
 /// Returns the words for the case that the second call takes effect first: no call that could bring the key into the
-/// state `back` overlaps the moments `from` to `to`.
+/// state `back` overlaps the time from `from` to `to`.
 #[tactic(auto, unfolding(crate::specs::Clashes::turned_back))]
 fn turned_back(alloc: Global, back: Presence, from: u64, to: u64) -> Result<Vec<u8>, AllocError>
     ensures { IfOk result (λ text. text.items ≡ lines.turned_back back from to) }

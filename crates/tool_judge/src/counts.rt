@@ -63,9 +63,9 @@ fn maker(count: &Count, state: Presence) -> Call {
     }
 }
 
-/// Writes the calls of a contradiction by counting, with the key's first or final state if it takes part. These calls
-/// need the key in the same state. If there are many, writes only the first and last calls, with the number of calls
-/// between them.
+/// Writes the calls of a contradiction by counting: together they need more changes of a key than other calls can make.
+/// If the key's first or final state takes part, writes this state too. If there are many calls, writes only the first
+/// and last ones, with the number of calls between them.
 fn put_calls(out: &mut String, count: &Count) -> Result<(), AllocError> {
     let (key, all) = (count.key.0, count.calls.len());
     let mut is_first = true;
@@ -101,8 +101,8 @@ fn put_calls(out: &mut String, count: &Count) -> Result<(), AllocError> {
     Ok(())
 }
 
-/// Writes how many times the key must change back between these calls, and between which moments (times in the
-/// recording).
+/// Writes how many times the key must change back between the calls of a contradiction by counting, and between which
+/// moments (times in the recording).
 fn put_need(out: &mut String, count: &Count) -> Result<(), AllocError> {
     let (key, state) = (count.key.0, state_word(other(count.was)));
     write!(out, "  need key {key} to become {state}")?;
@@ -119,7 +119,7 @@ fn put_need(out: &mut String, count: &Count) -> Result<(), AllocError> {
     Ok(())
 }
 
-/// Writes which moments a call must overlap to change the key back.
+/// Writes the period that a call must overlap to change the key back.
 fn put_stretch(out: &mut String, count: &Count, is_one: bool) -> Result<(), AllocError> {
     let s = if is_one { "s" } else { "" };
     match (count.since, count.until) {
@@ -131,7 +131,7 @@ fn put_stretch(out: &mut String, count: &Count, is_one: bool) -> Result<(), Allo
     Ok(())
 }
 
-/// Writes the calls that could have changed the key back. A contradiction has too few of them.
+/// Writes the calls that could have changed the key back. In a contradiction by counting, they are fewer than needed.
 fn put_backs(out: &mut String, count: &Count) -> Result<(), AllocError> {
     let (word, key) = (call_word(maker(count, other(count.was))), count.key.0);
     let all = count.backs.len();
@@ -161,9 +161,9 @@ fn put_backs(out: &mut String, count: &Count) -> Result<(), AllocError> {
     Ok(())
 }
 
-/// Writes the three lines of a contradiction by counting: the calls that need the key in one state, how many times the
-/// key must change back between these calls, and the calls that could have changed it back, which are fewer than
-/// needed. Shortens long lists of calls. Allocates.
+/// Writes the three lines of a contradiction by counting. Line 1 has the calls that need the key in one state. Line 2
+/// states how many times the key must change back between these calls. Line 3 has the calls that could have changed it
+/// back, which are fewer than needed. Shortens long lists of calls. Allocates.
 pub fn put_count(out: &mut String, count: &Count) -> Result<(), AllocError> {
     write!(out, "contradiction: ")?;
     put_calls(out, count)?;

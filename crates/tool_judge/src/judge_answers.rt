@@ -84,12 +84,12 @@ fn answer_of(alloc: Global, reader: RecordingReader, detail: Detail) -> Result<A
 /// the recording was cut off, its final keys are unknown. In this case the answer is `ok` if some order explains the
 /// replies, whatever its final keys are. Allocates. Does not block.
 ///
-/// After `ok N calls`, the answer states the number of calls that overlap a change of their key, advice if these are
-/// fewer than 5 of 100, and a remark if the recording was cut off. After `not linearizable`, the answer names a key
-/// with calls that no order explains, and a moment (a time in the recording): already the calls up to this moment have
-/// no order. If a contradiction was found, the answer also shows it: one call leaves the key in a state, another call
-/// needs the opposite state, and no call could have changed the state in between. The key's first or final state can
-/// take the place of a call.
+/// After `ok N calls`, the answer states how many calls overlap a change of their key. If these are fewer than 5 of
+/// 100, advice follows. If the recording was cut off, a remark follows. After `not linearizable`, the answer names a
+/// key and a moment (a time in the recording): no order explains the calls of this key up to this moment. If a
+/// contradiction was found, the answer also shows it: one call leaves the key in a state, another call needs the
+/// opposite state, and no call could have changed the state in between. The key's first or final state can take the
+/// place of a call.
 ///
 /// # Errors
 ///
@@ -147,12 +147,11 @@ pub fn judge_briefly<R: Read>(alloc: Global, input: &mut R) -> Result<Answer, Tr
     judge_in(alloc, input, Detail::Brief)
 }
 
-/// Lemma: the answers of `judge_bytes`, `judge_input` and `judge_briefly` are correct. Unless an allocation or a read
-/// fails, there are three cases:
-/// - the answer is `ok` with status 0 if and only if the bytes are a recording, and some order explains its calls and
-///   ends with its final keys (with any keys, if the recording was cut off);
-/// - the answer is `not linearizable` with status 1 if and only if the bytes are a recording, and no order explains its
-///   calls and ends with its final keys;
+/// Lemma: the answers of `judge_bytes`, `judge_input` and `judge_briefly` are correct. A recording has an order if some
+/// order explains its calls and ends with its final keys (with any keys, if the recording was cut off). Unless an
+/// allocation or a read fails, there are three cases:
+/// - the answer is `ok` with status 0 if and only if the bytes are a recording that has an order;
+/// - the answer is `not linearizable` with status 1 if and only if the bytes are a recording that has no order;
 /// - the result is an error with a line and a cause if and only if this is the first wrong line and its cause.
 pub fn answers_are_right()
     ensures { AnswersAreRight }

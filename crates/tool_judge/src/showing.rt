@@ -133,9 +133,9 @@ fn claim_text(alloc: Global, picture: &Picture) -> Result<Vec<u8>, AllocError> {
 /// status is 1 if the report's order is refused or an event of the schedule is not enabled, otherwise 0. A schedule is
 /// drawn up to the first event that is not enabled.
 ///
-/// If the order is refused and the picture is text, an empty line follows the picture, and then whether some other
-/// order explains the report and ends with its final keys. If no order does, the lines of `judge` follow. For a report
-/// with `ceiling` or `full`, this can be unknown.
+/// If the order is refused and the picture is text, an empty line and a statement follow the picture: whether some
+/// other order explains the report and ends with its final keys. If no order does, the lines of `judge` follow. For a
+/// report with `ceiling` or `full`, this can be unknown.
 ///
 /// The command fails as `Show::picture` does, with `Bad(From)` if the range of moments begins after everything in the
 /// picture, and with `Memory` if an allocation fails.

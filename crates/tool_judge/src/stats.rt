@@ -59,8 +59,8 @@ const NO_SPAN: Span = Span {
 };
 
 impl Span {
-    /// Adds the next call. Returns how many calls are now known to overlap another call, and were not before: of this
-    /// call and the call that began last. An earlier call that overlaps this call also overlaps the call that began
+    /// Adds the next call. Returns how many of two calls, the new one and the one before, are newly known to overlap
+    /// another call. No earlier call can be new: if it overlaps the new call, then it also overlaps the call that began
     /// after it.
     fn add(&mut self, begun: u64, end: u64) -> u64 {
         let overlaps = self.end > begun;
@@ -106,7 +106,7 @@ impl Counts {
         }
     }
 
-    /// Adds the next call. Calls must be added in the order of their begins.
+    /// Adds the next call. Calls must be added in the order in which they began.
     fn add(&mut self, call: StreamCall) -> Result<(), AllocError> {
         let begun = call.begun;
         let end = match call.ended {
@@ -171,7 +171,8 @@ fn put_replies(out: &mut String, word: &str, replies: Replies) -> Result<(), All
 }
 
 /// Counts the calls of a recording: by operation and reply, the pending calls, the threads and keys, the calls that
-/// overlap another call, and the most calls that are pending at one moment. Allocates. Blocks while reading the input.
+/// overlap another call, and the most calls that are pending at the same time. Allocates. Blocks while reading the
+/// input.
 ///
 /// # Errors
 ///

@@ -70,8 +70,8 @@ fn calls_of_key(alloc: Global, key: u32) -> Result<Vec<u8>, AllocError>
     Ok(text.into_bytes())
 }
 
-/// Returns the rest of the second line. It names the moment of the refusal (a time in the recording): already the
-/// key's calls up to this moment have no order. Without a moment, no order ends with the key's final state.
+/// Returns the rest of the second line. If a moment (a time in the recording) is given, no order explains the key's
+/// calls up to this moment. Without a moment, no order ends with the key's final state.
 fn extent(alloc: Global, moment: Option<u64>) -> Result<Vec<u8>, AllocError>
     ensures { IfOk result (λ text. text.items ≡ extent moment) }
 {
@@ -103,8 +103,8 @@ fn clash_text(alloc: Global, key: u32, clash: Option<Clash>) -> Result<Vec<u8>, 
     }
 }
 
-/// Returns the whole answer if no order explains the calls: `not linearizable`, the key and the moment, and the three
-/// lines of the contradiction if one was found. Allocates.
+/// Returns the whole answer if no order explains the calls: `not linearizable`, the key and the moment (a time in the
+/// recording), and the three lines of the contradiction if one was found. Allocates.
 fn refused_text(
     alloc: Global,
     refusal: Refusal,
@@ -124,8 +124,8 @@ fn end_of(clash: Option<Clash>) -> Option<u64> {
     Some(end)
 }
 
-/// Returns a note if the second call of the contradiction ended after the moment of the refusal: the judge found no two
-/// contradicting calls up to that moment. Otherwise returns an empty string.
+/// Returns a note if the second call of the contradiction ended after the moment (a time in the recording) of the
+/// refusal: the judge found no two contradicting calls up to that moment. Otherwise returns an empty string.
 fn later_note(alloc: Global, refusal: Refusal, clash: Option<Clash>) -> Result<String, AllocError> {
     match (refusal.moment, end_of(clash)) {
         (Some(moment), Some(end)) if moment < end => format!(in alloc;
