@@ -21,8 +21,8 @@ pub record IsRefused (r : ReportValue) (fault : OrderFault) : Type 0 where
   pub of_the_order : fault ≢ Memory
   pub not_explained : Explains r.history r.order r.keys → ⊥
 
--- The verdict on a report: `None` if the order explains the history and leaves exactly the final keys, otherwise the
--- order's first error.
+-- Holds if this verdict on a report is correct. `None` is correct if the order explains the history and leaves exactly
+-- the final keys. `Some` must contain the order's first error.
 abbrev pub IsVerdict : ReportValue → Option OrderFault → Type 0
 IsVerdict r None = Explains r.history r.order r.keys
 IsVerdict r (Some fault) = IsRefused r fault
@@ -52,8 +52,8 @@ abbrev pub IsFirstFault : Result ReportValue LineFault → Trouble → Type 0
 IsFirstFault (Err fault) t = t ≡ of_line_fault fault
 IsFirstFault (Ok r) t = ⊥
 
--- The contract of `check` for a text: the answer for the text's report, the first error of the text, or a failed
--- allocation.
+-- Holds if the result of `check` for a text is correct: the answer for the text's report, the first error of the text,
+-- or a failed allocation.
 abbrev pub ChecksText : List ℕ → Made → Type 0
 ChecksText bytes (Ok answer) = (r : ReportValue) × IsReport r × (bytes ≡ report_text r) × IsAnswerOn r answer
 ChecksText bytes (Err t) = (t ≡ trouble.Memory) ⊎ IsFirstFault (reading bytes) t

@@ -25,8 +25,8 @@ pub record IsRequested (T : Table) (request : RandomRequest) (p : Plan) : Type 0
   -- The random seed determines the lines of the schedule.
   pub drawn : AreOfSeed T request.threads request.quota request.calls request.keys request.seed p.lines
 
--- The contract of `gen` for a request: the text of a matching schedule, the argument that is wrong, or a failed
--- allocation.
+-- Holds if the result of `gen` for a request is correct: the text of a matching schedule, the argument that is wrong,
+-- or a failed allocation.
 abbrev pub Answers : Result RandomRequest ValueName → Made → Type 0
 Answers (Ok request) (Ok answer) =
     (p : Plan) × IsRequested (table_of request.kind) request p × (answer ≡ record { text = schedule_text p; status = 0 })

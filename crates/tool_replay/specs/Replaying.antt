@@ -36,7 +36,8 @@ abbrev pub IsFirstFault : Result Plan LineFault → Trouble → Type 0
 IsFirstFault (Err fault) t = t ≡ of_line_fault fault
 IsFirstFault (Ok p) t = (refusal : ReplayFault) × (t ≡ of_replay refusal) × IsRefusal (table_of p.kind) (opening_in p) (events_of p) refusal
 
--- The contract of `replay` for a text: the text of the report, the first error, or a failed allocation.
+-- Holds if the result of `replay` for a text is correct: the text of the report, the first error, or a failed
+-- allocation.
 abbrev pub ReplaysText : List ℕ → Made → Type 0
 ReplaysText bytes (Ok answer) =
     (p : Plan) × (r : ReportValue) × IsReported bytes p r × (answer ≡ record { text = report_text r; status = 0 })

@@ -13,5 +13,5 @@ pub enum DraftLine {
     To(u32, u32),
 }
 
-/// A draft of a schedule. The draft has at most 1,000,000 events if each line without a count is counted as one event.
+/// A draft of a schedule. The draft has at most 1,000,000 events if each `Out` or `To` line is counted as one event.
 pub type Draft = Body<DraftLine>;

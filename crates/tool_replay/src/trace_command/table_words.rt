@@ -1,7 +1,8 @@
 //! Names the shared words of a list: three words of the list itself, and three words for each node.
 use crate::trace_command::chunks::{Chunk, put, put_number};
 
-/// The value of the tail's key word. It is larger than every key.
+/// The value of the key word of the tail (the last node, which has no key). It is larger than the key word of every
+/// other node.
 const ABOVE_ALL_KEYS: u64 = 4_294_967_297;
 
 /// A shared word of a list: one of the list's own three words, or one of the three words of the node with this number.
