@@ -56,9 +56,9 @@ impl Show {
         Ok(picture_of_replay(alloc, &schedule)?)
     }
 
-    /// Draws a picture, limited to the range of moments in `self`. The exit status is 1 if the picture shows a
-    /// refused order or event, otherwise 0. Returns `Bad(From)` if the range begins after the last moment of the run, and
-    /// `Memory` if an allocation fails. Allocates.
+    /// Draws a picture, limited to the range of moments (positions in the history) in `self`. The exit status is 1 if
+    /// the picture shows a refused order or event, otherwise 0. Returns `Bad(From)` if the range begins after the last
+    /// moment of the run, and `Memory` if an allocation fails. Allocates.
     pub fn draw(self, alloc: Global, picture: &Picture) -> Result<Answer, Trouble> {
         if is_past_the_last(picture, self.window.from) {
             return Err(Trouble::Bad(ValueName::From));
