@@ -37,8 +37,9 @@ impl Counts {
     }
 }
 
-/// Runs the programs of one round in threads, on a set of the list `M` that opens with the keys `opening`. `M` must be
-/// the list that the request names. Returns the error `SystemCause::Opening` if there are more than 1,048,576 keys.
+/// Runs the programs of one round (each is the list of calls of one thread) in threads, on a set of the list `M` that
+/// opens with the keys `opening`. `M` must be the list that the request names. Returns the error `SystemCause::Opening`
+/// if there are more than 1,048,576 keys.
 fn run_round<M: Running + Send + Sync, R: Threads + Wait + Sync>(
     rt: &R,
     alloc: Global,
@@ -105,12 +106,13 @@ fn run_rounds<M: Running + Send + Sync, R: Threads + Wait + Sync>(
     Ok(summary_text(alloc, counts, &keys)?)
 }
 
-/// Runs random programs in threads, in rounds, with a new set for each round. The answer has exit status 0.
+/// Runs random programs (each is the list of calls of one thread) in threads, in rounds, with a new set for each round.
+/// The answer has exit status 0.
 ///
 /// All programs of a round run at the same time on one set. The programs of round `i`, counted from 0, are generated
 /// from the seed plus `64 * i` (wrapping). The first set opens empty, and every later set with the final keys of the
-/// previous round. The text consists of the lines `calls N`, `true N`, `false N`, `full N` and `keys N`, followed by
-/// `key k` for each final key of the last round, in increasing order. Allocates. Blocks until all threads have ended.
+/// previous round. The text begins with the lines `calls N`, `true N`, `false N`, `full N` and `keys N`. A line `key k`
+/// follows for each final key of the last round, in increasing order. Allocates. Blocks until all threads have ended.
 pub fn run_lives<R: Threads + Wait + Sync>(
     rt: &R,
     alloc: Global,

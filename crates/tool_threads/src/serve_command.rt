@@ -16,8 +16,8 @@ use std::thread::Threads;
 use std::time::Clock;
 use tool_base::{Answer, Input, ServeRequest, Trouble, put, read_all};
 
-/// Returns the lines that a server prints when it ends: the number of sessions, the number of calls, and the final
-/// keys.
+/// Returns the lines that a server prints when it ends: the number of sessions (accepted connections), the number of
+/// calls, and the final keys.
 fn served_text(alloc: Global, served: &Served) -> Result<Vec<u8>, AllocError> {
     let mut out = String::new(alloc);
     let (sessions, calls) = (served.sessions, served.calls);
