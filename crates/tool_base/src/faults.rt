@@ -45,7 +45,7 @@ listset: line L: CAUSE, in a report; exit status 1
   NotEnded  The input ends before the line 'end', or the line does not end with a newline.
 
 listset: line L: CAUSE, in recorded calls; exit status 1
-  Header    Line 1 must be 'listset-calls 1'. Only the command judge reads recorded calls.
+  Header    Line 1 must be 'listset-calls 1'. The commands judge, stats and explain read recorded calls.
   Line      Expected 'opening K', 'call T CALL K BEGIN END REPLY' and 'key K', in this order, then 'end'; or 'cut' for 'key' lines and 'end'.
             For example 'call 1 add 5 3 9 true', or while the call is pending 'call 1 add 5 3 - -'. CALL is add, remove or contains, a
             reply is true or false, and a line has at most 128 bytes. A ceiling, and an add that returned full, are not judged. To
