@@ -48,8 +48,8 @@ def below(names, root=TOP, lines=None):
 
 
 def lay_out(to, names, is_whole=False):
-    """Creates a repository with these crates in a folder, without their must-fail edits. If `is_whole`, the copy also has
-    these edits and all files outside of the crates, so that rt ci checks them.
+    """Creates a repository with these crates in a folder, without their must-fail edits (edits that the prover must
+    refuse). If `is_whole`, the copy also has the files outside of the crates, so that rt ci checks them.
     """
     to.mkdir(parents=True, exist_ok=True)
     (to / ".git").mkdir()
