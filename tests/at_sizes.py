@@ -74,7 +74,8 @@ def log_uniform(draw, most, least=1):
     return most if draw.random() < 0.1 else min(most, int(math.exp(draw.uniform(math.log(least), math.log(most + 1)))))
 
 
-# ---- Calls of many shapes. A shape returns the opening keys, each call with its key and reply, and the final keys.
+# ---- Calls of many shapes. A shape returns the opening keys (the keys at the start), each call with its key and reply,
+# and the final keys.
 
 def shuffled(things):
     return random.Random(1).sample([*things], len(things))

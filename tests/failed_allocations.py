@@ -26,8 +26,8 @@ PROCESSOR_SECONDS = 5  # the limit for one run
 CALLS = TOP / "crates/memory_calls/out/unproved/memory_calls"
 
 # The commands to test. They run on files in examples/; on a random schedule (DRAWN); on schedules with many opening
-# keys, with steps after the end of a call (OPENING) or without (ENDED); on a schedule with many attempts to acquire a lock
-# (TRIES); and on a schedule with long chains of nodes (CHAIN).
+# keys (keys at the start), with steps after the end of a call (OPENING) or without (ENDED); on a schedule with many
+# attempts to acquire a lock (TRIES); and on a schedule with long chains of nodes (CHAIN).
 ASKED = """
 replay opens-with-keys.schedule | replay ceiling-left-in-chain.schedule | replay DRAWN | replay OPENING | replay refused.schedule |
 judge ../../tests/transcripts/data/recorded/seen.calls | judge ../../tests/transcripts/data/recorded/lost.calls |

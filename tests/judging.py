@@ -1,5 +1,5 @@
-"""Compares `judge` with a search through all orders: the verdict, and the key and the moment that a refusal names. Also
-tests texts that arrive in pieces. `--few` tries a tenth of the texts.
+"""Compares `judge` with a search through all orders: the verdict, and the key and the moment (a time in the recording) that
+a refusal names. Also tests texts that arrive in pieces. `--few` tries a tenth of the texts.
 """
 
 import collections
@@ -21,8 +21,8 @@ Call = collections.namedtuple("Call", "thread word key begin end reply")
 
 
 def drawn(rng, calls):
-    """Returns random overlapping calls of threads, ordered by their start, and the opening keys and the final keys. The
-    set occasionally returns a wrong reply. Moments are 1, 2, 3 and so on.
+    """Returns random overlapping calls of threads, ordered by their start, with the keys of the set at the start and at
+    the end. The set occasionally returns a wrong reply. The starts and ends of calls are the moments 1, 2, 3 and so on.
     """
     opening = sorted(rng.sample(range(KEYS), rng.randrange(KEYS)))
     opened, found, pending, moment = SetModel(keys=opening), [], {}, 0
@@ -109,8 +109,8 @@ def ways_left(calls, is_there):
 
 
 def known_at(calls, moment):
-    """Returns the calls as a judge knows them at a moment. A change that has begun but not ended at this moment is pending.
-    Any other call that has not ended is left out.
+    """Returns the calls as a judge knows them at a moment (a time in the recording). A change that has begun but not
+    ended at this moment is pending. Any other call that has not ended is left out.
     """
     ended = [it for it in calls if it.end and it.end <= moment]
     return ended + [it._replace(end=None, reply=None) for it in calls if it.begin <= moment and it not in ended and changes(it)]
@@ -216,7 +216,7 @@ def is_true(lines, key, judged):
 
 
 def ends_after(line, moment):
-    """Returns whether the second call of a contradiction, described by this line, ends after a moment."""
+    """Returns whether the second call of a contradiction, described by this line, ends after a moment (a time)."""
     return any(int(end) > moment for end in re.findall(r", \d+ to (\d+), needs", line))
 
 

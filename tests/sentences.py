@@ -170,8 +170,8 @@ class Reported:
         return (self.calls[number].reply or reply) != reply or self.answer_at(place) != reply
 
     def explains(self):
-        """Returns whether the report's order explains its calls: each completed call has one place, no call precedes a call that
-        ended before it began, the replies are right, and the order leaves the report's final keys.
+        """Returns whether the report's order explains its calls: the order has each completed call once, no call
+        precedes a call that ended before it began, the replies are right, and the order leaves the report's final keys.
         """
         numbers = [number for number, _ in self.order]
         completed = {number for number, it in enumerate(self.calls) if it.end}
@@ -454,8 +454,8 @@ def test_each_line_of_show_about_a_report_is_true(program, cases, few, seed):
 
 
 def ends_of_trace(trace):
-    """Returns, for each call in a trace, its reply and the moment of its effect. A pending call has a moment if it has
-    changed the set.
+    """Returns, for each call in a trace, its reply and the moment of its effect (a number of events). A pending call
+    has a moment if it has changed the set.
     """
     ends, begun = {}, {}
     for line in trace.splitlines():
@@ -474,14 +474,16 @@ def ends_of_trace(trace):
 
 
 def order_of(ends):
-    """Returns the calls ordered by the moments of their effects. If two calls have the same moment, a call that changed the
-    set precedes a call that did not; otherwise the lower number precedes.
+    """Returns the calls ordered by the moments of their effects (numbers of events). If two calls have the same moment,
+    a call that changed the set precedes a call that did not; otherwise the lower number precedes.
     """
     return sorted(ends, key=lambda it: (ends[it][1], not ends[it][2], it))
 
 
 def compare_run(program, text, *words):
-    """Checks that the trace and the picture of a run have the calls of its report. Returns each call's reply and moment."""
+    """Checks that the trace and the picture of a run have the calls of its report. Returns each call's reply, and the
+    moment of its effect (a number of events).
+    """
     report, trace = ran(program, "replay", *words, text=text).stdout, ran(program, "trace", *words, text=text).stdout
     ends, places = ends_of_trace(trace), [tuple(it.split()[1:]) for it in report.splitlines() if it.startswith("place ")]
     assert places == [(str(it), ends[it][0]) for it in order_of(ends)], text

@@ -1,5 +1,5 @@
-"""Tests how `listset serve` answers clients, at the same time and one after another. A server has one seat
-for each of its threads, and each seat serves one client at a time.
+"""Tests how `listset serve` answers clients, at the same time and one after another. A server has one seat (handle on the
+set) for each of its threads, and each seat serves one client at a time.
 
 Only the loopback is used. All waits are bounded, and a server that does not end is killed by its process id.
 """

@@ -1,5 +1,5 @@
-"""Compares the counts of `stats` with counts over all pairs of calls and all moments. Its errors must be those of `judge`.
-`--few` tries a tenth of the recordings.
+"""Compares the counts of `stats` with counts over all pairs of calls and all moments (times in the recording). Its errors must
+be those of `judge`. `--few` tries a tenth of the recordings.
 """
 
 import random

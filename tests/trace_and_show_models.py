@@ -87,8 +87,8 @@ class Compared:
         assert texts <= {it.text for it in svg.iter()}, f"{' '.join(words)} of {self.text!r}"
 
     def pictures(self, picture, below=()):
-        """Compares three text pictures and two SVGs. One picture and one SVG show all moments. The others begin or end
-        near the start, effect or end of a call. Options are left out at random.
+        """Compares three text pictures and two SVGs. One picture and one SVG show the whole run. The others begin or
+        end near the start, effect or end of a call. Options are left out at random.
         """
         draw = random.Random(self.name)
         moments = Drawn(picture, 1, GREATEST).all or [1]
@@ -102,8 +102,8 @@ class Compared:
 
 
 def options(words, asked):
-    """Returns a command with its options, and the moments and the width that they select. None means that an option is
-    missing.
+    """Returns a command with its options, the first and last moment (position in the history) that they select, and the
+    width. None means that an option is missing.
     """
     given_words = [it for name, value in zip(["--from", "--to", "--width"], asked) if value is not None for it in (name, str(value))]
     first, last, width = (default if it is None else it for it, default in zip(asked, [1, GREATEST, 100]))
@@ -111,7 +111,9 @@ def options(words, asked):
 
 
 def is_past(picture, first):
-    """Returns whether all starts, effects and ends of calls in a picture are before a moment."""
+    """Returns whether all starts, effects and ends of calls in a picture are before a moment (a position in the
+    history).
+    """
     return bool(picture.calls) and first > max(Drawn(picture, 1, GREATEST).all)
 
 

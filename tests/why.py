@@ -22,7 +22,7 @@ def path(tmp_path):
 
 
 def recordings(seed, count):
-    """Yields random recordings, each with its calls, opening keys and final keys."""
+    """Yields random recordings, each with its calls, and its keys at the start and at the end."""
     rng = random.Random(seed)
     for _ in range(count):
         yield spread(rng, *drawn(rng, rng.randrange(3, 10)))

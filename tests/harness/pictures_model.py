@@ -8,12 +8,13 @@ import collections
 import functools
 
 GREATEST = 4294967295
-# The contents of a picture: the list; the number of events (None for a report); the calls; each call's end and reply, keyed
-# by the call's number; the entries of the order; the set at each moment; the final keys; why the order is refused, or None;
-# and the refused event, or None.
+# The contents of a picture: the list; the number of events (None for a report); the calls; each call's end and reply,
+# keyed by the call's number; the entries of the order; the set at each moment (position in the history); the final
+# keys; why the order is refused, or None; and the refused event, or None.
 Picture = collections.namedtuple("Picture", "kind threads quota events calls ends order sets keys refusal refused")
 Place = collections.namedtuple("Place", "number reply at change")  # an entry of the order; it has no moment if the order is refused
-# Why an order is refused: the message, the first moment of the picture, and the number of an unknown call.
+# Why an order is refused: the message, the first moment (position in the history) of the picture, and the number of an
+# unknown call.
 Refusal = collections.namedtuple("Refusal", "said begun unknown")
 
 
@@ -30,8 +31,8 @@ def keys_text(keys, separator=","):
 
 
 class Drawn:
-    """A picture limited to the moments from `first` to `last`. It has at most 64 columns, one for each of these moments at
-    which a call begins, takes effect or ends.
+    """A picture limited to the moments (positions in the history) from `first` to `last`. It has at most 64 columns,
+    one for each of these moments at which a call begins, takes effect or ends.
     """
 
     def __init__(self, picture, first, last):

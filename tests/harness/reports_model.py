@@ -89,7 +89,7 @@ def first_fault(report):
 
 
 class Sets:
-    """The set at each moment, computed from the entries of an order."""
+    """The set at each moment (position in the history), computed from the entries of an order."""
 
     def __init__(self, report, places):
         self.opening, self.changes = report.opening, [(it.at, report.calls[it.number]) for it in places if it.change]
@@ -102,8 +102,8 @@ class Sets:
 
 
 def places_of(report):
-    """Returns the entries of an order with their moments. An entry is at the start of its call or, if the previous
-    entry is later, at the moment of the previous entry.
+    """Returns the entries of an order, each with its moment (position in the history). An entry is at the start of its
+    call or, if the previous entry is later, at the moment of the previous entry.
     """
     at = 0
     for it, reply in report.order:
@@ -121,7 +121,9 @@ def picture_of_report(it):
 
 
 def spread(it):
-    """Multiplies the moments of a report by a factor, so that the last moment is about 400,000,000."""
+    """Multiplies the moments (starts and ends of calls) of a report by a factor, so that the last moment is about
+    400,000,000.
+    """
     last = max([1, *(one.begun for one in it.calls), *(end for end, _ in it.ends.values())])
     it.calls[:] = [one._replace(begun=one.begun * 400_000_000 // last) for one in it.calls]
     it.ends.update({number: (end * 400_000_000 // last, reply) for number, (end, reply) in it.ends.items()})

@@ -9,8 +9,8 @@ from harness.lists_model import REGISTERS, TAIL_KEY, Call, List
 from harness.set_model import fits_without_change
 
 Schedule = collections.namedtuple("Schedule", "version kind threads quota opening lines")
-# A run: the lines of its trace with chains, the calls and their ends, the set at each moment, the linearization points of
-# the calls, and the refused event.
+# A run: the lines of its trace with chains, the calls and their ends, the set at each moment (number of events so far),
+# the linearization points of the calls, and the refused event.
 Run = collections.namedtuple("Run", "trace calls ends sets points refused events")
 
 
