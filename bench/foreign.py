@@ -1,5 +1,5 @@
-"""Measures the calls of a running set from C, C++, Rust, Java and Python, and compares each with a set that the language's
-threads can share.
+"""Measures the calls of a set in liblistset from C, C++, Rust, Java and Python, and compares each with a set that the
+language's threads can share.
 """
 
 import os

@@ -1,4 +1,4 @@
-"""Executes the calls of foreign_calls.c from Python, on a running set or on a Python set under a lock."""
+"""Executes the calls of foreign_calls.c from Python, on a set of liblistset or on a Python set under a lock."""
 
 import random
 import sys
