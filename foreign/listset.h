@@ -77,19 +77,20 @@ enum {
   LISTSET_NO_MEMORY = 3    ///< An allocation failed.
 };
 
-/// Returns four constant lines about this library: `listset` and the version; the kit and the logic; `commit` and the
-/// commit of the sources (40 zeros if they were not committed); and `proof checked` if the library is proved, otherwise
-/// `proof missing`.
+/// Returns four constant lines about this library: `listset` and the version; the version and the logic of the Rattle
+/// toolchain (the kit); `commit` and the commit of the sources (40 zeros if they were not committed); and `proof
+/// checked` if the library is proved, otherwise `proof missing`.
 const char *listset_version(void);
 
 /// Returns the library's version as a number in the format of LISTSET_VERSION_NUMBER.
 uint32_t listset_version_number(void);
 
-/// Runs a schedule and returns its report.
+/// Runs a schedule (calls, and the order of the threads' steps) and returns its report (the calls with their replies,
+/// and an order that explains them).
 size_t listset_replay(const char *schedule, size_t length, char *room, size_t size, uint8_t *status);
 
-/// Judges a recording. Returns `ok N calls` and LISTSET_OK if some order explains its calls. Otherwise returns `not
-/// linearizable`, calls that show why, and LISTSET_WRONG_TEXT.
+/// Judges a recording (calls of any set, with their replies and times). Returns `ok N calls` and LISTSET_OK if some
+/// order explains its calls. Otherwise returns `not linearizable`, calls that show why, and LISTSET_WRONG_TEXT.
 size_t listset_judge(const char *recording, size_t length, char *room, size_t size, uint8_t *status);
 
 /// Judges the recording that is read from the descriptor `file`. The recording can have any length. Reads to its end or
@@ -104,17 +105,18 @@ size_t listset_why(const char *recording, size_t length, char *room, size_t size
 /// Returns `ok` if the order in a report explains its calls, otherwise the first error of the order.
 size_t listset_check(const char *report, size_t length, char *room, size_t size, uint8_t *status);
 
-/// Returns the trace of a schedule.
+/// Returns the trace of a schedule: a line for each event (a step, or the start of a call).
 size_t listset_trace(const char *schedule, size_t length, char *room, size_t size, uint8_t *status);
 
-/// Returns the trace of a schedule, with the chain of nodes after each event that changed the chain.
+/// Returns the trace of a schedule (a line for each event: a step, or the start of a call), with the chain of nodes
+/// after each event that changed the chain.
 size_t listset_trace_with_chains(const char *schedule, size_t length, char *room, size_t size, uint8_t *status);
 
-/// Expands a draft into a schedule.
+/// Expands a draft (a schedule that states where threads stop instead of numbers of steps) into a schedule.
 size_t listset_draft(const char *draft, size_t length, char *room, size_t size, uint8_t *status);
 
-/// The part of a run to draw: the first and the last moment, and the number of columns. 0 selects the default for each of
-/// these numbers.
+/// The part of a run to draw: the first and the last moment (numbers of events in the run), and the number of columns.
+/// 0 selects the default for each of these numbers.
 typedef struct {
   uint32_t from, to, width;
 } listset_window;
@@ -126,8 +128,9 @@ typedef struct {
   uint64_t seed;
 } listset_plan;
 
-/// Draws a schedule or a report as text. `options` are the values of --from, --to and --width, separated by zero bytes;
-/// each is empty, or `=` and a number. `listset_draw` has a `listset_window` as its argument instead of `options`.
+/// Draws a schedule or a report as text. `options` contains the values of --from, --to and --width, separated by zero
+/// bytes. Each value is empty, or `=` and a number. `listset_draw` has a `listset_window` as its argument instead of
+/// `options`.
 size_t listset_show(const char *text, size_t length, const char *options, size_t options_length, char *room, size_t size,
                     uint8_t *status);
 
@@ -153,8 +156,8 @@ size_t listset_broken_example(const char *name, size_t length, char *room, size_
 /// Returns a line about each error message, and a sentence about each cause.
 size_t listset_faults(char *room, size_t size, uint8_t *status);
 
-/// A seat of a set, the keys of a closed set, or nothing. A call writes to its seat, so calls of two threads are faster
-/// if their seats are at least 128 bytes apart.
+/// A seat of a set (one thread's access to the set), the keys of a closed set, or nothing. A call writes to its seat,
+/// so calls of two threads are faster if their seats are at least 128 bytes apart.
 typedef struct {
   bool full;
   void *at;
@@ -162,10 +165,10 @@ typedef struct {
 
 #define LISTSET_NONE {false, NULL}
 
-/// A receipt, or nothing. A seat issues a receipt for its calls so far. In the order of all calls, these calls precede the
-/// later calls of each seat that accepts the receipt. The receipt also covers the calls of the seats that the issuing seat had
-/// gathered, and the calls covered by the receipts that it had accepted. A receipt is initialized with LISTSET_NONE, and can
-/// be passed to any thread.
+/// A receipt, or nothing. A seat issues a receipt for its calls so far. In the order of all calls, these calls precede
+/// the later calls of each seat that accepts the receipt. The receipt also covers the calls of the seats that had been
+/// merged into the issuing seat, and the calls covered by the receipts that it had accepted. A receipt is initialized
+/// with LISTSET_NONE, and can be passed to any thread.
 typedef struct {
   bool full;
   void *at;
@@ -211,14 +214,15 @@ typedef enum LISTSET_BYTE listset_fault {
 /// Returns a constant sentence that describes a fault.
 const char *listset_fault_text(listset_fault fault);
 
-/// Opens a set with `seats` seats and with the `count` keys in `keys`, which must be in strictly increasing order. Each seat
-/// may add `quota` keys. Stores in `out`, which must be empty, a seat that contains all other seats of the set. No other open
-/// set may have the same `number`, because `listset_gather` uses it to compare the sets of two seats.
+/// Opens a set with `seats` seats (one for each thread) and with the `count` keys in `keys`, which must be in strictly
+/// increasing order. Each seat may add `quota` keys. Stores in `out`, which must be empty, a seat that contains all
+/// other seats of the set. No other open set may have the same `number`, because `listset_gather` uses it to compare
+/// the sets of two seats.
 LISTSET_USED listset_fault listset_open(listset_list kind, uint32_t seats, uint32_t quota, uint64_t number, const uint32_t *keys,
                                         size_t count, listset_seat *out);
 
 /// Splits a seat (one thread's access to the set) off `seat` and stores it in `out`, which must be empty. Returns
-/// LISTSET_NO_MORE if no seat can be split off: `seat` contains no other seat, or has gathered a seat.
+/// LISTSET_NO_MORE if no seat can be split off: `seat` contains no other seat, or a seat was merged into it.
 LISTSET_USED listset_fault listset_split(listset_seat *seat, listset_seat *out);
 
 /// Adds a key. Replies LISTSET_TRUE if the key was absent, LISTSET_FALSE if it was present, and LISTSET_FULL if it is absent
@@ -240,41 +244,42 @@ LISTSET_USED listset_reply listset_ceiling(listset_seat *seat, uint32_t key, uin
 /// the list.
 LISTSET_USED listset_reply listset_contains_now(listset_seat *seat, uint32_t key);
 
-/// Returns the maximum number of steps of `listset_contains_now` on a list that was opened with `seats` seats, this
-/// quota and `opening` keys. Returns 0 if no set can be opened with these.
+/// Returns the maximum number of steps of `listset_contains_now` on a list that opens for this number of threads
+/// (`seats`), with this quota and this number of keys (`opening`). Returns 0 if no set can be opened with these
+/// numbers.
 uint64_t listset_most_reads(uint32_t seats, uint32_t quota, uint32_t opening);
 
-/// Stores in `out`, which must be empty, a receipt that covers the calls of `seat` so far. The receipt can be sent to another
-/// thread with any message.
+/// Stores a receipt, a record of the calls of `seat` so far, in `out`, which must be empty. The receipt can be sent to
+/// another thread with any message.
 LISTSET_USED listset_fault listset_receipt_of(listset_seat *seat, listset_receipt *out);
 
 /// Passes a receipt of this set to `seat` (one thread's access to the set). In the order of all calls, later calls of
 /// `seat` follow every call that the receipt covers. `given` is empty afterwards.
 LISTSET_USED listset_fault listset_after(listset_seat *seat, listset_receipt *given);
 
-/// Returns how many seats of its set `seat` contains, including itself. Writes the number of all seats of the set to
-/// `*all`. Both numbers are 0 if `seat` is empty or a closed set.
+/// Returns how many seats (one for each thread) of its set `seat` contains, including itself. Writes the number of all
+/// seats of the set to `*all`. Both numbers are 0 if `seat` is empty or a closed set.
 uint64_t listset_seats_within(listset_seat *seat, uint32_t *all);
 
 /// Merges `from`, including all seats (one for each thread) that it contains, into `into`. `from` is empty afterwards.
 LISTSET_USED listset_fault listset_gather(listset_seat *into, listset_seat *from);
 
-/// Closes the set. `seat` must contain all seats of the set, and contains the final keys afterwards. If the allocation
-/// of these keys fails, the set stays open.
+/// Closes the set. `seat` must contain all seats of the set (one for each thread), and contains the final keys
+/// afterwards. If the allocation of these keys fails, the set stays open.
 LISTSET_USED listset_fault listset_close(listset_seat *seat);
 
 /// Copies the keys of a closed set to `room` in strictly increasing order, if they fit in the `places` elements of
 /// `room`. Returns the number of keys, or SIZE_MAX if `closed` is not a closed set.
 size_t listset_keys(listset_seat *closed, uint32_t *room, size_t places);
 
-/// Gathers all seats (one for each thread) in the array `seats`, which has `places` elements, into its first element,
+/// Merges all seats (one for each thread) in the array `seats`, which has `places` elements, into its first element,
 /// and closes the set. Elements of the array may be empty. If a seat of the set is missing, returns LISTSET_SEATS_OUT
 /// and changes nothing. After LISTSET_OUT_OF_MEMORY nothing is lost, and the call can be repeated.
 LISTSET_USED listset_fault listset_close_all(listset_seat *seats, size_t places);
 
-/// Closes a set, and opens a set of the list `kind` with the same keys. The array `seats` must contain all seats of the old
-/// set. Afterwards the first `count` elements of the array (`count` is at most `places`) contain the seats of the new set,
-/// each with this quota. During the call, no other thread may use any of the seats.
+/// Closes a set, and opens a set of the list `kind` with the same keys. The array `seats` must contain all seats of the
+/// old set (one for each thread). Afterwards the first `count` elements of the array (`count` is at most `places`)
+/// contain the seats of the new set, each with this quota. During the call, no other thread may use any of the seats.
 ///
 /// Returns the errors of `listset_open` and `listset_close_all`. After LISTSET_OUT_OF_MEMORY, and after LISTSET_BAD_KEYS
 /// because there are more than 1,048,576 final keys, nothing is lost: the array still contains the seats, or its first element
@@ -313,7 +318,7 @@ static inline size_t listset_draw_svg(const char *text, size_t length, const lis
   return listset_drawn(listset_show_svg, text, length, window, room, size, status);
 }
 
-/// Generates a schedule.
+/// Generates a random schedule.
 static inline size_t listset_generate(const listset_plan *plan, char *room, size_t size, uint8_t *status) {
   char values[128];
   int count = snprintf(values, sizeof values, "%.32s%c%lu%c%lu%c%lu%c%lu%c%llu", plan->kind, 0, (unsigned long)plan->threads, 0,

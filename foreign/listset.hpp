@@ -63,10 +63,11 @@ inline said of_text(listset_function *function, std::string_view given) {
   return said_by([&](char *room, size_t size, uint8_t *status) { return function(text.data(), text.size(), room, size, status); });
 }
 
-/// Runs a schedule and returns its report.
+/// Runs a schedule (calls, and the order of the threads' steps) and returns its report (the calls with their replies,
+/// and an order that explains them).
 inline said replay(std::string_view schedule) { return of_text(listset_replay, schedule); }
-/// Judges a recording. Returns `ok N calls` if some order explains its calls, otherwise calls that show that no order
-/// does.
+/// Judges a recording (calls of any set, with their replies and times). Returns `ok N calls` if some order explains its
+/// calls, otherwise calls that show that no order does.
 inline said judge_text(std::string_view recording) { return of_text(listset_judge, recording); }
 /// Diagnoses a recording that `judge_text` refuses. The result has the status LISTSET_WRONG_TEXT and a text that names
 /// the calls that show the error, the operation that is wrong and how often, and a likely cause. The text is empty if
@@ -74,7 +75,7 @@ inline said judge_text(std::string_view recording) { return of_text(listset_judg
 inline said why(std::string_view recording) { return of_text(listset_why, recording); }
 /// Returns `ok` if the order in a report explains its calls, otherwise the first error of the order.
 inline said check(std::string_view report) { return of_text(listset_check, report); }
-/// Expands a draft into a schedule.
+/// Expands a draft (a schedule that states where threads stop instead of numbers of steps) into a schedule.
 inline said draft(std::string_view draft) { return of_text(listset_draft, draft); }
 /// Returns the schedule of the example with this name.
 inline said example(std::string_view name) { return of_text(listset_example, name); }
@@ -86,13 +87,14 @@ inline said examples() { return said_by(listset_examples); }
 /// Returns a line about each error message, and a sentence about each cause.
 inline said faults() { return said_by(listset_faults); }
 
-/// Returns the trace of a schedule. If `with_chains`, includes the chain of nodes after each event that changed it.
+/// Returns the trace of a schedule: a line for each event (a step, or the start of a call). If `with_chains`, includes
+/// the chain of nodes after each event that changed it.
 inline said trace(std::string_view schedule, bool with_chains = false) {
   return of_text(with_chains ? listset_trace_with_chains : listset_trace, schedule);
 }
 
-/// The part of a run to draw: the first and the last moment, and the number of columns. 0 selects the default for each of
-/// these numbers.
+/// The part of a run to draw: the first and the last moment (numbers of events in the run), and the number of columns.
+/// 0 selects the default for each of these numbers.
 using window = listset_window;
 
 /// Draws a schedule or a report, as text or as an SVG.
@@ -103,7 +105,7 @@ inline said show(std::string_view given, const window &asked = {}, bool as_svg =
   });
 }
 
-/// Generates a schedule. `kind` is coarse, fine, optimistic, lazy or lock-free.
+/// Generates a random schedule. `kind` is coarse, fine, optimistic, lazy or lock-free.
 inline said gen(const std::string &kind, uint32_t threads, uint32_t quota, uint32_t calls, uint32_t keys, uint64_t seed) {
   const listset_plan plan = {kind.c_str(), threads, quota, calls, keys, seed};
   return said_by([&](char *room, size_t size, uint8_t *status) { return listset_generate(&plan, room, size, status); });
@@ -132,10 +134,10 @@ inline std::vector<uint32_t> keys_of(listset_seat &closed) {
   return keys;
 }
 
-/// A receipt, or nothing. A seat issues a receipt for its calls so far. In the order of all calls, these calls precede the
-/// later calls of each seat that accepts the receipt. The receipt also covers the calls of the seats that the issuing seat had
-/// gathered, and the calls covered by the receipts that it had accepted. A receipt can be moved but not copied, and can be
-/// passed to any thread.
+/// A receipt, or nothing. A seat issues a receipt for its calls so far. In the order of all calls, these calls precede
+/// the later calls of each seat that accepts the receipt. The receipt also covers the calls of the seats that had been
+/// merged into the issuing seat, and the calls covered by the receipts that it had accepted. A receipt can be moved but
+/// not copied, and can be passed to any thread.
 class receipt {
 public:
   receipt() = default;
@@ -151,8 +153,9 @@ private:
   friend class seat;
 };
 
-/// Returns the maximum number of steps of `seat::contains_now` on a list that was opened with `seats` seats, this quota
-/// and `opening` keys. Returns 0 if no set can be opened with these values.
+/// Returns the maximum number of steps of `seat::contains_now` on a list that opens for this number of threads
+/// (`seats`), with this quota and this number of keys (`opening`). Returns 0 if no set can be opened with these
+/// numbers.
 inline uint64_t most_reads(uint32_t seats, uint32_t quota, uint32_t opening) { return listset_most_reads(seats, quota, opening); }
 
 /// A thread's seat (its access to a set), or nothing. It can be moved but not copied, and only one thread at a time may
@@ -169,7 +172,7 @@ public:
   }
   ~seat() { listset_drop(&raw); }
 
-  /// Splits a seat off this one for another thread.
+  /// Splits a seat (one thread's access to the set) off this one for another thread.
   seat split() {
     use held(*this);
     seat made;
@@ -204,7 +207,7 @@ public:
     return replied(listset_ceiling(&raw, key, &at)) == LISTSET_AT ? std::optional<uint32_t>(at) : std::nullopt;
   }
 
-  /// Returns a receipt that covers this seat's calls so far. Pass the receipt to `after` of another thread's seat.
+  /// Returns a receipt (a record of this seat's calls so far). Pass the receipt to `after` of another thread's seat.
   listset::receipt receipt() {
     use held(*this);
     listset::receipt made;
@@ -226,8 +229,8 @@ public:
     tell(listset_gather(&raw, &from.raw));
   }
 
-  /// Closes the set and returns its final keys. This seat must contain all other seats. If this function throws, nothing is
-  /// lost, and the call can be repeated.
+  /// Closes the set and returns its final keys. This seat must contain all other seats (one for each thread). If this
+  /// function throws, nothing is lost, and the call can be repeated.
   std::vector<uint32_t> close() {
     use held(*this);
     const listset_fault code = listset_close(&raw);
@@ -328,7 +331,7 @@ class renewed_set {
   std::mutex renewing; // A thread locks this before it locks all places (the seats with their locks).
   std::atomic<bool> is_wanted{false}; // Whether a thread has waited so long for the locks that other threads' calls must wait.
   std::deque<place> places;
-  // The stage and the number of opening keys change only while all places (the seats with their locks) are locked.
+  // The stage and the number of keys at the start change only while all places (the seats with their locks) are locked.
   stage now = stage::open;
   size_t opened_with;
 
@@ -510,7 +513,7 @@ public:
     for (place &it : places) listset_drop(&it.raw);
   }
 
-  /// Returns a seat for a thread. Throws with LISTSET_NO_MORE if all seats are in use.
+  /// Returns a seat (one thread's access to the set). Throws with LISTSET_NO_MORE if all seats are in use.
   own_seat split() {
     for (place &it : places)
       if (!it.is_taken.exchange(true)) {
@@ -553,7 +556,8 @@ class shared {
   };
   std::deque<place> places;
 
-  // Returns the place (a seat with its lock) that gathers all seats when the set is closed. Throws if the set was moved from.
+  // Returns the place (a seat with its lock) into which all seats are merged when the set is closed. Throws if the set
+  // was moved from.
   place &first() {
     if (places.empty()) throw fault(LISTSET_NONE_THERE);
     return places.front();

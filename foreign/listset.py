@@ -79,8 +79,8 @@ _LIBRARY = _library()
 
 
 def version():
-    """Returns four lines about the library: its version; the kit and the logic; the commit of its sources; and "proof
-    checked" if it is proved, otherwise "proof missing".
+    """Returns four lines about the library: its version; the version and the logic of the Rattle toolchain (the kit);
+    the commit of its sources; and "proof checked" if it is proved, otherwise "proof missing".
     """
     function = _LIBRARY.listset_version
     function.restype = ctypes.c_char_p
@@ -121,13 +121,15 @@ def _words(values):
 
 
 def replay(schedule):
-    """Runs a schedule and returns its report."""
+    """Runs a schedule (calls, and the order of the threads' steps) and returns its report (the calls with their
+    replies, and an order that explains them).
+    """
     return _asked("replay", schedule)
 
 
 def judge_text(recording):
-    """Judges a recording. Returns `ok N calls` if some order explains its calls. Otherwise raises `Wrong` with calls that
-    show that no order does.
+    """Judges a recording (calls of any set, with their replies and times). Returns `ok N calls` if some order explains
+    its calls. Otherwise raises `Wrong` with calls that show that no order does.
     """
     return _asked("judge", recording)
 
@@ -168,18 +170,20 @@ def trace(schedule, with_chains=False):
 
 
 def draft(text):
-    """Expands a draft into a schedule."""
+    """Expands a draft (a schedule that states where threads stop instead of numbers of steps) into a schedule."""
     return _asked("draft", text)
 
 
 def show(text, as_svg=False, *, first=None, last=None, width=None):
-    """Draws a schedule or a report, as text or as an SVG, from the moment `first` to the moment `last`."""
+    """Draws a schedule or a report, as text or as an SVG, from the moment `first` to the moment `last` (numbers of
+    events in the run).
+    """
     options = _words("" if it is None else f"={it}" for it in (first, last, width))
     return _asked("show_svg" if as_svg else "show", text, options)
 
 
 def gen(kind, threads, quota, calls, keys, seed):
-    """Generates a schedule. `kind` is coarse, fine, optimistic, lazy or lock-free."""
+    """Generates a random schedule. `kind` is coarse, fine, optimistic, lazy or lock-free."""
     return _asked("gen", _words([kind, threads, quota, calls, keys, seed]))
 
 
@@ -302,9 +306,9 @@ def _closed_keys(closed):
 
 
 class Receipt:
-    """A receipt, issued by a seat for its calls so far. In the order of all calls, these calls precede the later calls of
-    each seat that accepts the receipt. The receipt also covers the calls of the seats that the issuing seat had gathered,
-    and the calls covered by the receipts that it had accepted. A receipt can be passed to any thread.
+    """A receipt, issued by a seat for its calls so far. In the order of all calls, these calls precede the later calls
+    of each seat that accepts the receipt. The receipt also covers the calls of the seats that had been merged into the
+    issuing seat, and the calls covered by the receipts that it had accepted. A receipt can be passed to any thread.
     """
 
     def __init__(self):
@@ -318,9 +322,8 @@ class Receipt:
 
 
 class Seat:
-    """A thread's seat (its access to a set), or nothing after it has been gathered or
-    closed. Only one thread at a time may use it: a call raises `Fault` if another thread is in a call from the same
-    seat.
+    """A thread's seat (its access to a set), or nothing after it was merged into another seat or closed. Only one
+    thread at a time may use it: a call raises `Fault` if another thread is in a call from the same seat.
     """
 
     def __init__(self):
@@ -348,7 +351,9 @@ class Seat:
         return reply
 
     def split(self):
-        """Splits a seat off this one for another thread. No seat can be split off a seat that has gathered another seat."""
+        """Splits a seat (one thread's access to the set) off this one for another thread. No seat can be split off a
+        seat that another seat was merged into.
+        """
         made = Seat()
         with self._used():
             _told(_SPLIT(self.raw, made.raw))
@@ -400,7 +405,9 @@ class Seat:
         return at.value if self._reply(_CEILING, key, at) == AT else None
 
     def receipt(self):
-        """Returns a receipt that covers this seat's calls so far. Pass the receipt to `after` of another thread's seat."""
+        """Returns a receipt (a record of this seat's calls so far). Pass the receipt to `after` of another thread's
+        seat.
+        """
         made = Receipt()
         with self._used():
             _told(_RECEIPT_OF(self.raw, made.raw))
@@ -419,8 +426,8 @@ class Seat:
             _told(_GATHER(self.raw, other.raw))
 
     def close(self):
-        """Closes the set and returns its final keys. This seat must contain all other seats. If `close` raises, nothing is
-        lost, and the call can be repeated.
+        """Closes the set and returns its final keys. This seat must contain all other seats (one for each thread). If
+        `close` raises, nothing is lost, and the call can be repeated.
         """
         with self._used():
             code = _CLOSE(self.raw)
@@ -438,8 +445,8 @@ class Seat:
 
 
 def most_reads(seats, quota, keys=0):
-    """Returns the maximum number of steps of `Seat.contains_now` on a list that was opened with `seats` seats, this
-    quota and `keys` keys. Returns 0 if no set can be opened with these values.
+    """Returns the maximum number of steps of `Seat.contains_now` on a list that opens for this number of threads
+    (`seats`), with this quota and this number of keys (`keys`). Returns 0 if no set can be opened with these numbers.
     """
     return _MOST_READS(_number(seats, "number of seats"), _number(quota, "quota"), _number(keys, "number of keys"))
 
@@ -593,7 +600,7 @@ class RenewedSet:
         self._is_wanted = False  # Whether a thread has waited so long for the locks that new calls of other threads must wait.
 
     def split(self):
-        """Returns a seat for a thread. Raises `Fault` if all seats are in use."""
+        """Returns a seat (one thread's access to the set). Raises `Fault` if all seats are in use."""
         with self._splitting:
             place = next((it for it in self._places if not it.is_taken), None)
             if place is None or self._stage == "closed":

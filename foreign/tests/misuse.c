@@ -273,8 +273,7 @@ static void seats_within(uint8_t kind) {
   listset_drop(&opener);
 }
 
-// Opens a set with the maximum number of opening keys, and calls the set with its last key and with the largest possible
-// key.
+// Opens a set with the maximum number of keys, and calls the set with its last key and with the largest possible key.
 static void most_keys(uint8_t kind) {
   listset_seat seat = LISTSET_NONE;
   uint32_t at = 0;

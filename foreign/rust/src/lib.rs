@@ -46,32 +46,35 @@ impl Display for Wrong {
 
 impl Error for Wrong {}
 
-/// The part of a run to draw. A field that is `None` selects the first moment, the last moment, or the default width.
+/// The part of a run to draw. A moment is the number of an event in the run. A field that is `None` selects the first
+/// moment, the last moment, or the default width.
 #[derive(Clone, Copy, Debug, Default)]
 pub struct Window {
-    /// The first moment to draw.
+    /// The first moment (number of an event) to draw.
     pub from: Option<u32>,
-    /// The last moment to draw.
+    /// The last moment (number of an event) to draw.
     pub to: Option<u32>,
     /// The number of columns of the picture.
     pub width: Option<u32>,
 }
 
-/// Returns four lines about the library: `listset` and the version; the kit and the logic; `commit` and the commit of
-/// the sources (or 40 zeros); and `proof checked` if the library is proved, otherwise `proof missing`.
+/// Returns four lines about the library: `listset` and the version; the version and the logic of the Rattle toolchain
+/// (the kit); `commit` and the commit of the sources (or 40 zeros); and `proof checked` if the library is proved,
+/// otherwise `proof missing`.
 pub fn version() -> &'static str {
     // SAFETY: the function returns a constant text that ends with a zero byte.
     let told = unsafe { CStr::from_ptr(calls::listset_version()) };
     told.to_str().expect("the version is of ASCII")
 }
 
-/// Runs a schedule and returns its report.
+/// Runs a schedule (calls, and the order of the threads' steps) and returns its report (the calls with their replies,
+/// and an order that explains them).
 pub fn replay(schedule: impl AsRef<[u8]>) -> Result<String, Wrong> {
     of_text(calls::listset_replay, schedule.as_ref())
 }
 
-/// Judges a recording. Returns `ok N calls` if some order explains its calls, otherwise an error with calls that show
-/// that no order does.
+/// Judges a recording (calls of any set, with their replies and times). Returns `ok N calls` if some order explains its
+/// calls, otherwise an error with calls that show that no order does.
 pub fn judge_text(recording: impl AsRef<[u8]>) -> Result<String, Wrong> {
     of_text(calls::listset_judge, recording.as_ref())
 }
@@ -91,17 +94,18 @@ pub fn check(report: impl AsRef<[u8]>) -> Result<(), Wrong> {
     of_text(calls::listset_check, report.as_ref()).map(|_| ())
 }
 
-/// Returns the trace of a schedule: a line for each event.
+/// Returns the trace of a schedule: a line for each event (a step, or the start of a call).
 pub fn trace(schedule: impl AsRef<[u8]>) -> Result<String, Wrong> {
     of_text(calls::listset_trace, schedule.as_ref())
 }
 
-/// Returns the trace of a schedule, with the chain of nodes after each event that changed the chain.
+/// Returns the trace of a schedule (a line for each event), with the chain of nodes after each event that changed the
+/// chain.
 pub fn trace_with_chains(schedule: impl AsRef<[u8]>) -> Result<String, Wrong> {
     of_text(calls::listset_trace_with_chains, schedule.as_ref())
 }
 
-/// Expands a draft into a schedule.
+/// Expands a draft (a schedule that states where threads stop instead of numbers of steps) into a schedule.
 pub fn draft(draft: impl AsRef<[u8]>) -> Result<String, Wrong> {
     of_text(calls::listset_draft, draft.as_ref())
 }
@@ -120,7 +124,7 @@ fn options(Window { from, to, width }: Window) -> String {
     [from, to, width].map(|it| it.map_or(String::new(), |number| format!("={number}"))).join("\0")
 }
 
-/// Generates a schedule. `kind` is coarse, fine, optimistic, lazy or lock-free.
+/// Generates a random schedule. `kind` is coarse, fine, optimistic, lazy or lock-free.
 pub fn generated(kind: &str, threads: u32, quota: u32, calls: u32, keys: u32, seed: u64) -> Result<String, Wrong> {
     let values = format!("{kind}\0{threads}\0{quota}\0{calls}\0{keys}\0{seed}");
     of_text(calls::listset_gen, values.as_bytes())

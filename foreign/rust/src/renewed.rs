@@ -74,7 +74,8 @@ enum Stage {
     Closed,
 }
 
-/// The locks of all places (the seats of the set), and the index of the caller's place. The fields are dropped in this order.
+/// The locks of all places (the seats of the set), and the index (from 0) of the caller's place. The fields are dropped
+/// in this order.
 struct All<'a> {
     parts: Vec<MutexGuard<'a, Part>>,
     mine: usize,
@@ -166,7 +167,7 @@ impl RenewedSet {
         RenewedSet { patience, ..self }
     }
 
-    /// Returns a seat for a thread, or [`Fault::NoMore`] if all seats are in use.
+    /// Returns a seat (one thread's access to the set), or [`Fault::NoMore`] if all seats are in use.
     pub fn split(&self) -> Result<OwnSeat<'_>, Fault> {
         let is_free = |it: &&Place| !it.is_taken.swap(true, Ordering::AcqRel);
         let found = self.places.iter().position(|it| is_free(&it));
@@ -226,7 +227,8 @@ impl RenewedSet {
         }
     }
 
-    /// Locks all places (the seats of the set). The caller's place, which has the index `mine`, is locked first.
+    /// Locks all places (the seats of the set). The caller's place, which has the index `mine` (from 0), is locked
+    /// first.
     fn all(&self, mine: usize) -> Result<All<'_>, Fault> {
         let wanted = Wanted { set: self, _one: self.taken(&self.renewing, None)? };
         let mut own = self.taken(&self.places[mine].part, None)?;
@@ -277,7 +279,7 @@ impl RenewedSet {
     }
 }
 
-/// A thread's seat in a [`RenewedSet`].
+/// A thread's seat (its access to the set) in a [`RenewedSet`].
 #[derive(Debug)]
 pub struct OwnSeat<'a> {
     set: &'a RenewedSet,

@@ -80,7 +80,7 @@ pub enum Fault {
     Keys,
     /// An allocation failed.
     Memory,
-    /// Some seats (one for each thread) of the set have not been gathered.
+    /// Some seats of the set (one for each thread) have not been merged into the seat that is to be closed.
     SeatsOut = 16,
     /// No seat (one thread's access to the set) can be split off.
     NoMore,
@@ -168,9 +168,9 @@ unsafe impl Send for Seat {}
 // requires `Sync`.)
 unsafe impl Sync for Seat {}
 
-/// A receipt, issued by a seat for its calls so far. In the order of all calls, these calls precede the later calls of each
-/// seat that accepts the receipt. The receipt also covers the calls of the seats that the issuing seat had gathered, and the
-/// calls covered by the receipts that it had accepted. A receipt can be passed to any thread.
+/// A receipt, issued by a seat for its calls so far. In the order of all calls, these calls precede the later calls of
+/// each seat that accepts the receipt. The receipt also covers the calls of the seats that had been merged into the
+/// issuing seat, and the calls covered by the receipts that it had accepted. A receipt can be passed to any thread.
 #[derive(Debug)]
 pub struct Receipt {
     raw: Raw,
@@ -182,8 +182,8 @@ unsafe impl Send for Receipt {}
 // SAFETY: apart from `Debug`, no function takes a `&Receipt`, so threads that share a receipt can only print it.
 unsafe impl Sync for Receipt {}
 
-/// Returns the maximum number of steps of [`Seat::contains_now`] on a list that was opened with `seats` seats, this
-/// quota and `keys` keys. Returns 0 if no set can be opened with these.
+/// Returns the maximum number of steps of [`Seat::contains_now`] on a list that opens for this number of threads
+/// (`seats`), with this quota and this number of keys (`keys`). Returns 0 if no set can be opened with these numbers.
 pub fn most_reads(seats: u32, quota: u32, keys: u32) -> u64 {
     // SAFETY: all parameters of the function are numbers.
     unsafe { listset_most_reads(seats, quota, keys) }
@@ -248,15 +248,15 @@ pub fn renew(seats: Vec<Seat>, list: List, count: u32, quota: u32) -> Result<Vec
     }
 }
 
-/// Renews a set. The slice `places` must contain all seats of the set, or begin with the closed set. All other elements may be
-/// empty.
+/// Renews a set: closes it, and opens a set of the list `list` with the same keys. The slice `places` must contain all
+/// seats of the set (one for each thread), or begin with the closed set. All other elements may be empty.
 pub(crate) fn renew_in(places: &mut [Seat], list: List, count: u32, quota: u32) -> Result<(), Fault> {
     // SAFETY: the pointers point to an array of seats that only the caller has. No other set in this program has this number.
     by_all(places, |raws, many| unsafe { listset_renew(raws, many, list as u8, count, quota, next_number()) })
 }
 
-/// Closes a set. The slice `places` must contain all seats of the set; all other elements may be empty. Afterwards, the first
-/// element is the closed set.
+/// Closes a set. The slice `places` must contain all seats of the set (one for each thread); all other elements may be
+/// empty. Afterwards, the first element is the closed set.
 pub(crate) fn close_in(places: &mut [Seat]) -> Result<(), Fault> {
     // SAFETY: the pointer points to an array of seats that only the caller has.
     by_all(places, |raws, many| unsafe { listset_close_all(raws, many) })
@@ -285,8 +285,8 @@ pub(crate) fn keys_of(closed: &mut Raw) -> Option<Vec<u32>> {
 
 // SAFETY of each call below: `&mut self` is a seat that only this thread uses.
 impl Seat {
-    /// Splits a seat off this one. Returns [`Fault::NoMore`] if no seat can be split off, because this seat contains no
-    /// other seat or has [gathered](Seat::gather) a seat.
+    /// Splits a seat (one thread's access to the set) off this one. Returns [`Fault::NoMore`] if no seat can be split
+    /// off, because this seat contains no other seat or a seat was [merged](Seat::gather) into it.
     pub fn split(&mut self) -> Result<Seat, Fault> {
         let mut made = Seat { raw: NONE };
         told(unsafe { listset_split(&mut self.raw, &mut made.raw) })?;
@@ -323,7 +323,8 @@ impl Seat {
         }
     }
 
-    /// Returns a receipt that covers this seat's calls so far. Pass the receipt to [`Seat::after`] of another thread's seat.
+    /// Returns a receipt (a record of this seat's calls so far). Pass the receipt to [`Seat::after`] of another
+    /// thread's seat.
     pub fn receipt(&mut self) -> Result<Receipt, Fault> {
         let mut made = Receipt { raw: NONE };
         told(unsafe { listset_receipt_of(&mut self.raw, &mut made.raw) })?;
@@ -349,8 +350,8 @@ impl Seat {
         told(code).map_err(|fault| Refused { back: from, fault })
     }
 
-    /// Closes the set and returns its final keys. If this seat does not contain all other seats, or if an allocation fails,
-    /// the error returns the seat.
+    /// Closes the set and returns its final keys. If this seat does not contain all other seats (one for each thread),
+    /// or if an allocation fails, the error returns the seat.
     pub fn close(mut self) -> Result<Vec<u32>, Refused<Seat>> {
         match told(unsafe { listset_close(&mut self.raw) }) {
             Ok(()) => Ok(keys_of(&mut self.raw).expect("the set is closed")),

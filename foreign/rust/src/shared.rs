@@ -59,8 +59,8 @@ impl Shared {
         self.by(|seat| seat.ceiling(key))
     }
 
-    /// Closes the set and returns its final keys. If an allocation fails, the error contains the seat that has gathered
-    /// all other seats.
+    /// Closes the set and returns its final keys. If an allocation fails, the error contains the seat into which all
+    /// other seats were merged.
     pub fn close(self) -> Result<Vec<u32>, Refused<Seat>> {
         let mut seats = self.seats.into_iter().map(|it| it.into_inner().unwrap_or_else(PoisonError::into_inner));
         let mut all = seats.next().expect("a set has a seat");
