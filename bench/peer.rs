@@ -1,4 +1,4 @@
-//! The baseline for running sets: the lists of `lists.rs`, and std's tree under one lock.
+//! The baseline for sets that threads call: the lists of `lists.rs`, and std's tree under one lock.
 //!   rustc -O peer.rs
 //!   peer each KIND THREADS QUOTA CALLS KEYS SEED     times each call, like `bench_calls KIND each ..`
 //!   peer whole KIND ..                               times rounds of all calls, like `bench_calls KIND whole ..`; here KIND can also be
