@@ -215,14 +215,14 @@ typedef enum LISTSET_BYTE listset_fault {
 const char *listset_fault_text(listset_fault fault);
 
 /// Opens a set with `seats` seats (one for each thread) and with the `count` keys in `keys`, which must be in strictly
-/// increasing order. Each seat may add `quota` keys. Stores in `out`, which must be empty, a seat that contains all
-/// other seats of the set. No other open set may have the same `number`, because `listset_gather` uses it to compare
+/// increasing order. Each seat may add `quota` keys. Stores a seat in `out`, which must be empty. All other seats can
+/// be split off this seat. No other open set may have the same `number`, because `listset_gather` uses it to compare
 /// the sets of two seats.
 LISTSET_USED listset_fault listset_open(listset_list kind, uint32_t seats, uint32_t quota, uint64_t number, const uint32_t *keys,
                                         size_t count, listset_seat *out);
 
 /// Splits a seat (one thread's access to the set) off `seat` and stores it in `out`, which must be empty. Returns
-/// LISTSET_NO_MORE if no seat can be split off: `seat` contains no other seat, or a seat was merged into it.
+/// LISTSET_NO_MORE if no seat can be split off: all have been split off, or a seat was merged into `seat`.
 LISTSET_USED listset_fault listset_split(listset_seat *seat, listset_seat *out);
 
 /// Adds a key. Replies LISTSET_TRUE if the key was absent, LISTSET_FALSE if it was present, and LISTSET_FULL if it is absent
@@ -264,8 +264,8 @@ uint64_t listset_seats_within(listset_seat *seat, uint32_t *all);
 /// Merges `from`, including all seats (one for each thread) that it contains, into `into`. `from` is empty afterwards.
 LISTSET_USED listset_fault listset_gather(listset_seat *into, listset_seat *from);
 
-/// Closes the set. `seat` must contain all seats of the set (one for each thread), and contains the final keys
-/// afterwards. If the allocation of these keys fails, the set stays open.
+/// Closes the set. All seats of the set (one for each thread) must be in `seat`: never split off, or merged back.
+/// Afterwards, `seat` contains the final keys. If the allocation of these keys fails, the set stays open.
 LISTSET_USED listset_fault listset_close(listset_seat *seat);
 
 /// Copies the keys of a closed set to `room` in strictly increasing order, if they fit in the `places` elements of

@@ -229,8 +229,8 @@ public:
     tell(listset_gather(&raw, &from.raw));
   }
 
-  /// Closes the set and returns its final keys. This seat must contain all other seats (one for each thread). If this
-  /// function throws, nothing is lost, and the call can be repeated.
+  /// Closes the set and returns its final keys. All seats (one for each thread) must be in this one: never split off,
+  /// or merged back. If this function throws, nothing is lost, and the call can be repeated.
   std::vector<uint32_t> close() {
     use held(*this);
     const listset_fault code = listset_close(&raw);
@@ -282,8 +282,8 @@ inline uint64_t next_number() {
   return sets++;
 }
 
-/// Opens a set with keys in strictly increasing order. Returns a seat (one thread's access to the set) that contains
-/// all other seats.
+/// Opens a set with keys in strictly increasing order. Returns a seat (one thread's access to the set). All other seats
+/// can be split off this seat.
 inline seat open(list kind, uint32_t seats, uint32_t quota, const std::vector<uint32_t> &keys = {}) {
   seat made;
   uint32_t none = 0;

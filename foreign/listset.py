@@ -426,8 +426,8 @@ class Seat:
             _told(_GATHER(self.raw, other.raw))
 
     def close(self):
-        """Closes the set and returns its final keys. This seat must contain all other seats (one for each thread). If
-        `close` raises, nothing is lost, and the call can be repeated.
+        """Closes the set and returns its final keys. All seats (one for each thread) must be in this one: never split
+        off, or merged back. If `close` raises, nothing is lost, and the call can be repeated.
         """
         with self._used():
             code = _CLOSE(self.raw)
@@ -452,8 +452,8 @@ def most_reads(seats, quota, keys=0):
 
 
 def open_set(kind, seats, quota, keys=()):
-    """Opens a set with keys in strictly increasing order. Returns a seat (one thread's access to the set) that contains all
-    other seats.
+    """Opens a set with keys in strictly increasing order. Returns a seat (one thread's access to the set). All other
+    seats can be split off this seat.
     """
     made, keys, index = Seat(), list(keys), LISTS.index(_list(kind))
     sizes = _number(seats, "number of seats"), _number(quota, "quota"), next(_NUMBERS)

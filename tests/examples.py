@@ -56,8 +56,8 @@ def test_a_file_is_replayed_or_checked(program, name):
 
 
 def test_examples_of_the_program_are_the_files(program):
-    """Tests that `example` prints the files in examples/schedules, and that each report of a broken list belongs to an
-    example.
+    """Tests that `example` prints the files in examples/schedules, and that each report of a broken list (a list
+    without one of its checks) belongs to an example.
     """
     broken = {it.name.partition(".")[0]: it for it in EXAMPLES.glob("*.broken.report")}
     assert [line.split()[0] for line in lines_of(program, "example")] == NAMES and broken.keys() <= {*NAMES}

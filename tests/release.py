@@ -99,8 +99,8 @@ def replays(program, enter, **how):
 
 
 def told_of_broken(program):
-    """Returns the version, the verdict on a broken report, and the exit status, in the format that the test programs
-    print.
+    """Returns the version, the verdict on the report of a broken list (a list without one of its checks), and the exit
+    status, in the format that the test programs print.
     """
     done = ran(program, "check", SCHEDULES / "snip.broken.report")
     return f"{version_stamp.told(proof_of(program))}{(done.stdout + done.stderr).strip()} {done.returncode}\n"

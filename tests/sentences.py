@@ -505,7 +505,9 @@ def test_traces_and_pictures_have_the_order_of_the_report(program, few, kind):
 
 
 def continued(name, seed):
-    """Returns the schedule that shows the flaw of a broken list, followed by calls on all its keys, one after another."""
+    """Returns the schedule that shows the flaw of a broken list (a list without one of its checks), followed by calls
+    on all its keys, one after another.
+    """
     text, draw = (TOP / f"examples/schedules/lacks/{name}.schedule").read_text(), random.Random(f"{name} {seed}")
     plan = read_schedule(text)
     model, lines = List(plan.kind, plan.threads, plan.quota, plan.opening, name), []

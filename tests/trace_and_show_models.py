@@ -47,7 +47,9 @@ def drawn_schedule(kind, seed, lacks=None, overruns=False):
 
 
 class Compared:
-    """Compares the program's output for a text with the models. `words` are the options that name a broken list, if any."""
+    """Compares the program's output for a text with the models. `words` are the options that name a broken list (a list
+    without one of its checks), if any.
+    """
 
     def __init__(self, program, name, text, *words):
         self.program, self.name, self.text, self.words = program, name, text, words
@@ -147,7 +149,7 @@ def test_trace_and_pictures_match_the_model(program, schedule):
             looked.picture(picture, (None, None, width))
 
 
-# ---- Pictures of reports, and traces and pictures of broken lists
+# ---- Pictures of reports, and traces and pictures of broken lists (lists without one of their checks)
 
 
 def compare_report(looked, report):

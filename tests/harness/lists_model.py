@@ -44,8 +44,9 @@ def table(one):
 
 TABLES = {it.word: table(it) for it in lists.lists() if it.type in SECTIONS}
 
-# The broken lists of docs/CLASSIC.md: the intact list, and the changed rows of its table. `pass` means to attempt to acquire
-# a lock and to continue in any case. `curr^` is a link to curr with the mark that register pkey has.
+# The broken lists of docs/CLASSIC.md (lists without one of their checks): the intact list, and the changed rows of its
+# table. `pass` means to attempt to acquire a lock and to continue in any case. `curr^` is a link to curr with the mark
+# that register pkey has.
 LACKING = {
     "lock": ("coarse", "1 | pass list.lock | 2"),
     "second-lock": ("fine", ""),  # (see ROWS_OF_ONE_LOCK)
@@ -125,8 +126,8 @@ class List:
             self.words[4 + 3 * node] = 2 * after
 
     def chain(self):
-        """Returns the keys from the head to the tail, each with its mark. (The chain of a broken list can be a cycle, and can
-        contain a slot without a key.)
+        """Returns the keys from the head to the tail, each with its mark. (On a broken list, which lacks a check, the
+        chain can be a cycle, and can contain a slot without a key.)
         """
         node, told = self.words[4] // 2, []
         while node > 1 and len(told) < len(self.words) // 3:

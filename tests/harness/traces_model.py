@@ -60,8 +60,8 @@ def content(chain):
 
 
 class Tracing:
-    """A run in progress: the parts of its Run that are known so far. On an intact list, the set is computed from the chain;
-    on a broken list, from the changes that the rows report.
+    """A run in progress: the parts of its Run that are known so far. On an intact list, the set is computed from the
+    chain; on a broken list (a list without one of its checks), from the changes that the rows report.
     """
 
     def __init__(self, plan, lacks):
@@ -92,8 +92,8 @@ class Tracing:
         self.tallies.append(tuple(self.counts))
 
     def changes(self, it, later):
-        """Returns the keys that a step added and removed. On an intact list, compares the chains before and after the step.
-        On a broken list, uses the row of the step.
+        """Returns the keys that a step added and removed. On an intact list, compares the chains before and after the
+        step. On a broken list (a list without one of its checks), uses the row of the step.
         """
         if self.list.lacks:
             key = {it.call.key}
@@ -135,7 +135,7 @@ class Tracing:
 
 
 def run_of(plan, lacks=None):
-    """Runs a schedule on a list or a broken list, up to the first refused event."""
+    """Runs a schedule on a list or a broken list (a list without one of its checks), up to the first refused event."""
     run = Tracing(plan, lacks)
     events = ((number, pieces) for number, pieces in plan.lines for _ in range(1 if pieces[0] == "begin" else int(pieces[2])))
     refused = None

@@ -157,11 +157,11 @@ pub extern "C" fn listset_gather(alloc: Global, into: &mut CSeat, from: &mut CSe
     ffi_sets::gather_seats(alloc, into, from)
 }
 
-/// Closes the set. The handle `seat` must contain all seats of the set (one for each thread). Afterwards, the handle
-/// owns a closed set with the final keys.
+/// Closes the set. All seats of the set (one for each thread) must be in the handle `seat`: never split off, or merged
+/// back. Afterwards, the handle owns a closed set with the final keys.
 ///
 /// Returns `DONE`. On an error, changes nothing and returns the first error that applies: `NO_SEAT` if the handle
-/// `seat` owns no seat, `SEATS_OUT` if it does not contain all seats of the set, `OUT_OF_MEMORY` if an allocation
+/// `seat` owns no seat, `SEATS_OUT` if some seats were split off and not merged back, `OUT_OF_MEMORY` if an allocation
 /// failed. Does not block.
 #[unsafe(no_mangle)]
 pub extern "C" fn listset_close(alloc: Global, seat: &mut CSeat) -> u8 {

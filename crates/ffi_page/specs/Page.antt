@@ -29,7 +29,8 @@ pub record IsHanded (made : Made) (old new : List ℕ) (status count : ℕ) : Ty
   pub status_is : status ≡ status_of made
   pub count_is : count ≡ length (text_of made)
 
--- Holds if the result is correct for a text. The command reads no file, so the error is never `CannotRead`.
+-- Holds if the result of a command is correct for a text. The command reads no file, so the error is never
+-- `CannotRead`.
 abbrev pub OfText : (List ℕ → Made → Type 0) → List ℕ → Made → Type 0
 OfText Makes text made = Makes text made × (made ≢ Err CannotRead)
 
@@ -37,7 +38,7 @@ OfText Makes text made = Makes text made × (made ≢ Err CannotRead)
 abbrev pub words_in : List ℕ → List (List ℕ)
 words_in bytes = cut_at 0 (utf8_lossy bytes)
 
--- Holds if the result is correct for the arguments, or `Memory` if storing the arguments failed.
+-- Holds if the result of a command is correct for its arguments, or `Memory` if storing the arguments failed.
 abbrev pub OfWords : (List (List ℕ) → Made → Type 0) → List ℕ → Made → Type 0
 OfWords Makes bytes made = (made ≡ Err Memory) ⊎ Makes (words_in bytes) made
 

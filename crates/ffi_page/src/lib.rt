@@ -382,8 +382,8 @@ pub extern "C" fn listset_example(
     hand(example_by(alloc, Some(name), false), room, status)
 }
 
-/// Writes the report of a broken list that belongs to the example with this name. If the example does not exist or has
-/// no such report, writes `listset: bad NAME` and sets status 2.
+/// Writes the report of a broken list (a list without one of its checks) that belongs to the example with this name. If
+/// the example does not exist or has no such report, writes `listset: bad NAME` and sets status 2.
 #[unsafe(no_mangle)]
 pub extern "C" fn listset_broken_example(
     alloc: Global,

@@ -50,7 +50,7 @@ pub fn run_broken(
     }
 }
 
-/// Returns the trace of a schedule that runs on a broken list.
+/// Returns the trace of a schedule that runs on a broken list (a list without one of its checks).
 fn trace(alloc: Global, broken: BrokenList, text: &[u8], chains: bool) -> Result<Answer, Trouble> {
     let lacks = Some(broken);
     answer_text(alloc, &Trace { chains, lacks }, text)

@@ -14,7 +14,7 @@ use Rattle.ffi_sets.specs.declared.held.Held.{Held}
 use Rattle.ffi_sets.specs.Sets.{table_in, set_in, seat_in, spare_in, keys_in, number_in, receipt_in, SameSet}
 
 -- Holds if a call from a seat of a set (one thread's access to the set) has one of these effects: the call returned
--- this reply, or the call gave up and the seat is lost, or the seat was already lost.
+-- this reply; or it gave up after 2^64 - 1 rounds of a loop and the seat is lost; or the seat was already lost.
 abbrev pub HasCalledOf : Table → SetValue → Option SeatValue → Call → Option Reply → Option SeatValue → Type 0
 HasCalledOf T set (Some old) c (Some r) (Some new) = HasAnswered T set old c r new
 HasCalledOf T set (Some old) c None None = Unit {0}

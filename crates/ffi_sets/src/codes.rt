@@ -22,7 +22,7 @@ pub const BAD_KIND: u8 = 14;
 /// A `CSeat` that must be empty is not.
 pub const IS_SEAT: u8 = 15;
 
-/// The seat does not contain all seats of its set (one for each thread).
+/// The set cannot be closed: some of its seats (one for each thread) were split off and not merged back.
 pub const SEATS_OUT: u8 = 16;
 
 /// No other seat can be split off this seat (one thread's access to the set).

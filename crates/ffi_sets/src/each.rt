@@ -154,8 +154,8 @@ pub fn gather_held(alloc: Global, into: &mut Held, from: Held) -> Option<Held>
 }
 
 /// Closes the set in `held` and returns its final keys. On an error, returns `held`, unchanged, and the number of the
-/// error: `NO_SEAT` if `held` has no seat, `SEATS_OUT` if it does not contain all seats of the set (one for each
-/// thread), `OUT_OF_MEMORY` if an allocation failed.
+/// error: `NO_SEAT` if `held` has no seat (one thread's access to the set), `SEATS_OUT` if some seats were split off
+/// and not merged back, `OUT_OF_MEMORY` if an allocation failed.
 pub fn close_held(alloc: Global, held: Held) -> Result<Vec<u32>, (Held, u8)> {
     match held {
         Held::Coarse(of) => match of.close(alloc) {

@@ -53,8 +53,8 @@ fn gathered<M: Bounded>(set: &LiveSet<M>, seat: Seat<M>, spare: Vec<Seat<M>>) ->
     into
 }
 
-/// Closes the set and returns its final keys in `room`. `seat` and `spare` must contain all seats of the set (one for
-/// each thread).
+/// Closes the set and returns its final keys in `room`. All seats of the set (one for each thread) must be in `spare`,
+/// or be `seat`, or have been merged into `seat`.
 fn keys_left<M: Bounded>(
     set: LiveSet<M>,
     seat: Seat<M>,
@@ -184,7 +184,8 @@ impl<M: Bounded> SeatOfSet<M> {
         (spare.saturating_add(held), self.set.seats())
     }
 
-    /// Returns whether this seat contains all seats of the set (one for each thread).
+    /// Returns whether all seats of the set (one for each thread) are in this one: never split off it, or merged into
+    /// it.
     fn has_all(&self) -> bool
         ensures { IsTrue result ↔ IsWhole (arc_value self.now.set) self.now.seat self.now.spare.items }
     {
@@ -198,9 +199,9 @@ impl<M: Bounded> SeatOfSet<M> {
     }
 
     /// Closes the set and returns its final keys. On an error, returns this seat and the number of the error:
-    /// `SEATS_OUT` if it does not contain all seats of the set (one for each thread), `OUT_OF_MEMORY` if no vector for
-    /// the set's maximum number of keys can be allocated. (`OUT_OF_MEMORY` is also returned if the set has another
-    /// owner, which happens in no run.)
+    /// `SEATS_OUT` if some seats of the set (one for each thread) were split off and not merged back, `OUT_OF_MEMORY`
+    /// if no vector for the set's maximum number of keys can be allocated. (`OUT_OF_MEMORY` is also returned if the set
+    /// has another owner, which happens in no run.)
     pub fn close(self, alloc: Global) -> Result<Vec<u32>, (SeatOfSet<M>, u8)> {
         if !self.has_all() {
             return Err((self, SEATS_OUT));

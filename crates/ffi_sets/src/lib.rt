@@ -271,11 +271,11 @@ pub fn gather_seats(alloc: Global, into: &mut CSeat, from: &mut CSeat) -> u8
     NO_GATHER
 }
 
-/// Closes the set. The handle `seat` must contain all seats of the set (one for each thread). Afterwards, the handle
-/// owns a closed set with the final keys.
+/// Closes the set. All seats of the set (one for each thread) must be in the handle `seat`: never split off, or merged
+/// back. Afterwards, the handle owns a closed set with the final keys.
 ///
 /// Returns `DONE`. On an error, changes nothing and returns the first error that applies: `NO_SEAT` if the handle
-/// `seat` owns no seat, `SEATS_OUT` if it does not contain all seats of the set, `OUT_OF_MEMORY` if an allocation
+/// `seat` owns no seat, `SEATS_OUT` if some seats were split off and not merged back, `OUT_OF_MEMORY` if an allocation
 /// failed. Does not block.
 pub fn close_set(alloc: Global, seat: &mut CSeat) -> u8 {
     let Some(mut held) = take(alloc, seat) else {

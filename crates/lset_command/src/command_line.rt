@@ -19,7 +19,8 @@ pub const VERSION: &str = "0.1.0\nRattle kit 13, logic dac8208d650f15bf";
 pub struct Helps<'a> {
     /// The help for the command `faults`.
     pub faults: &'a str,
-    /// The help for the option `--lacks`, which contains the names of the broken lists.
+    /// The help for the option `--lacks`, which contains the names of the broken lists (lists without one of their
+    /// checks).
     pub lacks: &'a str,
 }
 
@@ -44,7 +45,7 @@ pub struct Options {
     pub only: Option<String>,
     /// Whether `trace` prints the chain of nodes.
     pub chain: bool,
-    /// Whether `example` prints the report of a broken list.
+    /// Whether `example` prints the report of a broken list (a list without one of its checks).
     pub broken: bool,
     /// The name of the broken list (a list without one of its checks) that `replay`, `show` and `trace` use.
     pub lacks: Option<String>,

@@ -61,7 +61,7 @@ pub type CommandRow = (
     &'static str,
 );
 
-/// The help of the option `--lacks`. The names of the broken lists follow.
+/// The help of the option `--lacks`. The names of the broken lists (lists without one of their checks) follow.
 pub const LACKS_HELP: &str = "Run a broken list, with one check removed";
 
 // Arguments of several commands.

@@ -25,8 +25,8 @@ fn drawn_call(rng: &mut Pcg32) -> Call {
     }
 }
 
-/// Returns a random schedule for two threads on a broken list. Each thread takes a few steps, then the other thread
-/// continues.
+/// Returns a random schedule for two threads on a broken list (a list without one of its checks). Each thread takes a
+/// few steps, then the other thread continues.
 fn drawn_schedule(alloc: Global, broken: BrokenList, seed: u64) -> Result<String, Fail> {
     let mut rng = Pcg32::seed_from_u64(seed);
     let layout = layout_opening(2, 2, 1)?;
@@ -52,7 +52,8 @@ fn drawn_schedule(alloc: Global, broken: BrokenList, seed: u64) -> Result<String
     Ok(text)
 }
 
-/// Runs a random schedule on a broken list. Returns `true` if the order of the run is refused.
+/// Runs a random schedule on a broken list (a list without one of its checks). Returns `true` if the order of the run
+/// is refused.
 fn is_run_refused(alloc: Global, broken: BrokenList, seed: u64) -> Result<bool, Fail> {
     let text = drawn_schedule(alloc, broken, seed)?;
     let schedule = read_schedule(alloc, text.as_bytes())?;

@@ -113,7 +113,7 @@ abbrev pub lines_in_order : ℕ → Presence → Option StreamCall → Option St
 lines_in_order key was first second =
     first_line key was first ++ second_line key (other was) second ++ third_line key (other was) first second
 
--- ---- Contradictions in both orders of two overlapping calls
+-- ---- Contradictions between two overlapping calls, whichever call takes effect first
 
 abbrev pub needs_key : ℕ → List ℕ
 needs_key key = codes "needs key " ++ decimal key ++ codes " "

@@ -34,8 +34,8 @@ IsRight c answer = (HasOrder c × (answer.status ≡ 0) × Begins (ok_line (leng
 abbrev pub SaysOnly : List ℕ → Result Recording LineFault → Type 0
 SaysOnly bytes read = Says bytes read × ((other : Result Recording LineFault) → Says bytes other → other ≡ read)
 
--- Holds if the result is correct: an exact answer about the recording, the error of the first wrong line with its
--- cause, `CannotRead` for a failed read, or `Memory` for a failed allocation.
+-- Holds if this result of `judge` is correct: an exact answer about the recording, the error of the first wrong line
+-- with its cause, `CannotRead` for a failed read, or `Memory` for a failed allocation.
 abbrev pub JudgesRightly : List ℕ → Made → Type 0
 JudgesRightly bytes (Ok answer) = (c : Recording) × SaysOnly bytes (Ok c) × IsRight c answer
 JudgesRightly bytes (Err t) =

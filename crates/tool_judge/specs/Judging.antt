@@ -43,8 +43,8 @@ refused_text r clash = refused_lines r ++ clash_text r.key.0 clash
 abbrev pub Begins : List ℕ → List ℕ → Type 0
 Begins head text = (more : List ℕ) × (text ≡ head ++ more)
 
--- Holds if the answer is correct for a verdict on this number of calls. The text begins with the lines of the verdict.
--- The status is 0 for `Linearizable` and 1 for `NotLinearizable`. Further lines can follow.
+-- Holds if `judge` may print this answer for a verdict on this number of calls. The text begins with the lines of the
+-- verdict. The status is 0 for `Linearizable` and 1 for `NotLinearizable`. Further lines can follow.
 abbrev pub IsAnswerTo : Verdict → ℕ → AnswerValue → Type 0
 IsAnswerTo Linearizable calls answer = Begins (ok_line calls) answer.text × (answer.status ≡ 0)
 IsAnswerTo (NotLinearizable refusal clash) calls answer = Begins (refused_text refusal clash) answer.text × (answer.status ≡ 1)
@@ -66,17 +66,19 @@ pub record IsAnswerOn (detail : Detail) (c : Recording) (answer : AnswerValue) :
   pub verdict_is : IsVerdictOnRecording c verdict
   pub answer_is : IsAnswerTo (shown_in detail verdict) (length c.calls) answer
 
--- Holds if the result is correct for the bytes of an input: a correct answer for the recording in the bytes, the error
--- of the first wrong line with its cause, `CannotRead` for a failed read, or `Memory` for a failed allocation.
+-- Holds if `judge` may end with this result for the bytes of an input. The result is a correct answer for the recording
+-- in the bytes, the error of the first wrong line with its cause, `CannotRead` for a failed read, or `Memory` for a
+-- failed allocation.
 abbrev pub JudgesIn : Detail → List ℕ → Made → Type 0
 JudgesIn detail bytes (Ok answer) = (c : Recording) × Says bytes (Ok c) × (bytes ≡ recording_text c) × IsAnswerOn detail c answer
 JudgesIn detail bytes (Err t) = (t ≡ CannotRead) ⊎ ((t ≡ Memory) ⊎ ((fault : LineFault) × Says bytes (Err fault) × (t ≡ of_line_fault fault)))
 
--- Holds if the result is correct. The lines of `not linearizable` are followed by the contradiction of the verdict, if
--- it has one.
+-- Holds if `judge` may end with this result for the bytes of an input. An answer `not linearizable` must show the
+-- contradiction that the judge found, if it found one.
 abbrev pub Judges : List ℕ → Made → Type 0
 Judges bytes made = JudgesIn Whole bytes made
 
--- Holds if the result is correct. The lines of `not linearizable` are not followed by a contradiction.
+-- Holds if `judge --brief` may end with this result for the bytes of an input. An answer `not linearizable` begins with
+-- its two lines, without the contradiction.
 abbrev pub JudgesBriefly : List ℕ → Made → Type 0
 JudgesBriefly bytes made = JudgesIn Brief bytes made

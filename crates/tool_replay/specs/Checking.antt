@@ -43,7 +43,7 @@ abbrev pub answer_of : Option OrderFault → AnswerValue
 answer_of None = record { text = codes "ok\n"; status = 0 }
 answer_of (Some fault) = record { text = refusal_text fault; status = 1 }
 
--- Holds if the answer has the correct verdict on this report.
+-- Holds if this answer of `check` has the correct verdict on this report.
 abbrev pub IsAnswerOn : ReportValue → AnswerValue → Type 0
 IsAnswerOn r answer = (verdict : Option OrderFault) × IsVerdict r verdict × (answer ≡ answer_of verdict)
 

@@ -13,8 +13,8 @@ pub enum ExampleRequest {
 }
 
 /// Reads the arguments of the command `example`. Without a name, the command prints all names. With a name, it prints
-/// this example's schedule; with a name and `broken`, the report of the broken list. Returns the error `Name` if no
-/// example has the name, and `Unbroken` if the example has no report of a broken list.
+/// this example's schedule; with a name and `broken`, the report of a broken list (a list without one of its checks).
+/// Returns the error `Name` if no example has the name, and `Unbroken` if the example has no such report.
 pub fn read_example_request(
     name: Option<&[u8]>,
     broken: bool,

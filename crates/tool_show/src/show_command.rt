@@ -37,8 +37,8 @@ fn status_of(picture: &Picture) -> u8 {
 }
 
 impl Show {
-    /// Reads a schedule or a report and returns its picture. If a broken list is selected, the text must be a schedule,
-    /// and the picture shows the report of its run on that list. Allocates.
+    /// Reads a schedule or a report and returns its picture. If a broken list (a list without one of its checks) is
+    /// selected, the text must be a schedule, and the picture shows the report of its run on that list. Allocates.
     ///
     /// The error is `Memory`, or `Line` with the first error of the text. The text is read by `report_broken` if a
     /// broken list is selected, by `read_report` if the text starts with a report's title, and otherwise by

@@ -176,7 +176,7 @@ pub struct Receipt {
     raw: Raw,
 }
 
-// SAFETY: as for `Seat`.
+// SAFETY: the crate ffi_sets proves that the contents of a receipt can be passed to another thread.
 unsafe impl Send for Receipt {}
 
 // SAFETY: apart from `Debug`, no function takes a `&Receipt`, so threads that share a receipt can only print it.
@@ -196,7 +196,7 @@ pub(crate) fn next_number() -> u64 {
 }
 
 /// Opens a set with `seats` seats (one for each thread) and with keys in strictly increasing order. Each seat may add
-/// `quota` keys. Returns a seat that contains all other seats.
+/// `quota` keys. Returns a seat. All other seats can be split off this seat.
 pub fn open(list: List, seats: u32, quota: u32, keys: &[u32]) -> Result<Seat, Fault> {
     let mut made = Seat { raw: NONE };
     // SAFETY: the pointers point to a slice and to an empty seat. No other set in this program has this number.
@@ -286,7 +286,7 @@ pub(crate) fn keys_of(closed: &mut Raw) -> Option<Vec<u32>> {
 // SAFETY of each call below: `&mut self` is a seat that only this thread uses.
 impl Seat {
     /// Splits a seat (one thread's access to the set) off this one. Returns [`Fault::NoMore`] if no seat can be split
-    /// off, because this seat contains no other seat or a seat was [merged](Seat::gather) into it.
+    /// off, because all have been split off or a seat was [merged](Seat::gather) into this one.
     pub fn split(&mut self) -> Result<Seat, Fault> {
         let mut made = Seat { raw: NONE };
         told(unsafe { listset_split(&mut self.raw, &mut made.raw) })?;
@@ -350,8 +350,8 @@ impl Seat {
         told(code).map_err(|fault| Refused { back: from, fault })
     }
 
-    /// Closes the set and returns its final keys. If this seat does not contain all other seats (one for each thread),
-    /// or if an allocation fails, the error returns the seat.
+    /// Closes the set and returns its final keys. All seats (one for each thread) must be in this one: never split off,
+    /// or merged back. Otherwise, or if an allocation fails, the error returns the seat.
     pub fn close(mut self) -> Result<Vec<u32>, Refused<Seat>> {
         match told(unsafe { listset_close(&mut self.raw) }) {
             Ok(()) => Ok(keys_of(&mut self.raw).expect("the set is closed")),
