@@ -40,9 +40,12 @@
 // Compare the field `is` of a reply with LISTSET_TRUE: LISTSET_FULL and LISTSET_NO_SEAT are not 0 either. A reply by
 // itself does not compile as a condition. With -Wextra, gcc and clang warn if a reply or a fault is ignored.
 //
-// A refused call changes nothing and returns LISTSET_NO_SEAT or a fault. A call is refused if the seat for the call is
-// empty, if the seat for a result is not empty, if two seats to gather have different lists or numbers, if some seats
-// have not been gathered when the set is to be closed, if sizes or keys are out of range, and if an allocation fails.
+// A refused call changes nothing and returns LISTSET_NO_SEAT or a fault. A call is refused in these cases:
+// - the seat for the call is empty, or the seat for a result is not empty;
+// - two seats to merge have different lists or numbers;
+// - the set is to be closed, but some seats were split off and not merged back;
+// - sizes or keys are out of range;
+// - an allocation fails.
 //
 // The caller has three further duties, which no function checks:
 // - A seat is initialized with LISTSET_NONE, written only by these functions, passed by its address, and never copied.
@@ -244,9 +247,8 @@ LISTSET_USED listset_reply listset_ceiling(listset_seat *seat, uint32_t key, uin
 /// the list.
 LISTSET_USED listset_reply listset_contains_now(listset_seat *seat, uint32_t key);
 
-/// Returns the maximum number of steps of `listset_contains_now` on a list that opens for this number of threads
-/// (`seats`), with this quota and this number of keys (`opening`). Returns 0 if no set can be opened with these
-/// numbers.
+/// Returns the maximum number of steps of `listset_contains_now` on a list that opens for `seats` threads, with this
+/// quota and `opening` keys. Returns 0 if no set can be opened with these numbers.
 uint64_t listset_most_reads(uint32_t seats, uint32_t quota, uint32_t opening);
 
 /// Stores a receipt, a record of the calls of `seat` so far, in `out`, which must be empty. The receipt can be sent to

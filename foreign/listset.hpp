@@ -153,9 +153,8 @@ private:
   friend class seat;
 };
 
-/// Returns the maximum number of steps of `seat::contains_now` on a list that opens for this number of threads
-/// (`seats`), with this quota and this number of keys (`opening`). Returns 0 if no set can be opened with these
-/// numbers.
+/// Returns the maximum number of steps of `seat::contains_now` on a list that opens for `seats` threads, with this
+/// quota and `opening` keys. Returns 0 if no set can be opened with these numbers.
 inline uint64_t most_reads(uint32_t seats, uint32_t quota, uint32_t opening) { return listset_most_reads(seats, quota, opening); }
 
 /// A thread's seat (its access to a set), or nothing. It can be moved but not copied, and only one thread at a time may

@@ -445,8 +445,8 @@ class Seat:
 
 
 def most_reads(seats, quota, keys=0):
-    """Returns the maximum number of steps of `Seat.contains_now` on a list that opens for this number of threads
-    (`seats`), with this quota and this number of keys (`keys`). Returns 0 if no set can be opened with these numbers.
+    """Returns the maximum number of steps of `Seat.contains_now` on a list that opens for `seats` threads, with this
+    quota and this number of keys (`keys`). Returns 0 if no set can be opened with these numbers.
     """
     return _MOST_READS(_number(seats, "number of seats"), _number(quota, "quota"), _number(keys, "number of keys"))
 
@@ -478,10 +478,11 @@ def _renew(seats, kind, quota):
 
 
 def renew(seats, kind, count, quota):
-    """Closes a set, and opens a set of the list `kind` with the same keys. `seats` must contain all seats of the old set.
-    Returns the `count` seats of the new set, each with this quota. During the call, no thread may use a seat in `seats`. If
-    `renew` raises, nothing is lost: either the set is still open and the given seats contain all its seats (some can have
-    been gathered), or the first seat is a closed set, and its `close` returns the keys.
+    """Closes a set, and opens a set of the list `kind` with the same keys. `seats` must contain all seats of the old
+    set (one for each thread). Returns the `count` seats of the new set, each with this quota. During the call, no
+    thread may use a seat in `seats`. If `renew` raises, nothing is lost. Either the set is still open, and the given
+    seats contain all its seats (some can have been merged into others). Or the first seat is a closed set, and its
+    `close` returns the keys.
     """
     given, many, kind = list(seats), _number(count, "number of seats"), _list(kind)
     places = given + [Seat() for _ in range(len(given), min(many, 64))]

@@ -34,9 +34,8 @@ def verdict_lines(output):
 
 
 def is_count(calls, opening, keys, lines):
-    """Returns whether a message about counted adds and removes is true, that is, no order explains the calls that the
-    message names, together with all calls that could have changed the key back. Returns None if the message does not name
-    all counted calls.
+    """Returns whether a message about counted adds and removes is true: no order explains the named calls together with
+    all calls that could have changed the key back. Returns None if the message does not name all counted calls.
     """
     found = COUNT.match("\n".join(lines))
     named, key = found[1], int(found[2])

@@ -204,8 +204,8 @@ def name_faults(top, rows):
 
 
 def function_faults(rows):
-    """Yields a message for each function that is named in `rows` but does not exist, and for each clause named there that is
-    not an `ensures` clause of the functions listed with it.
+    """Yields a message for each function that is named in `rows` but does not exist. Also yields a message for each
+    clause named there that is not an `ensures` clause of the functions listed with it.
     """
     stated = {}
     for crate, name, text, _ in public_contracts():

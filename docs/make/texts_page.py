@@ -1,6 +1,6 @@
-"""Makes the tables of errors in docs/TEXTS.md from the sources (the comments of the causes, and the text of `listset
-faults`), and the usage and arguments of the commands in docs/COMMANDS.md from `listset help`. Also reports limits in
-docs/TEXTS.md that differ from the sources.
+"""Makes generated parts of two pages. The tables of errors in docs/TEXTS.md come from the sources: the comments of the causes,
+and the text of `listset faults`. The usage and arguments of the commands in docs/COMMANDS.md come from `listset help`. Also
+reports limits in docs/TEXTS.md that differ from the sources.
 """
 
 import re

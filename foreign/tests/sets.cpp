@@ -55,7 +55,9 @@ static bool is_right(list kind) {
   return full == 0 && seats[0].close() == due;
 }
 
-// Like `is_right`, but calls a `shared` set with fewer seats than threads.
+// Returns whether calls of four threads on a `shared` set with three seats (one for each call at a time) reply
+// correctly and leave the right keys. Each thread adds a quarter of the keys below 4,000 and removes the multiples of
+// three among them.
 static bool is_right_shared(list kind) {
   listset::shared set(kind, 3, 2000);
   std::atomic<int> found{0};

@@ -1,7 +1,6 @@
-"""A model of the text picture that `show` prints, written from docs/TEXTS.md alone. A picture has a column for each
-moment (position in the history), a row for each thread with the starts, ends and linearization points of its calls, the
-set after each change, and the order of the calls below these rows. A Picture shows a run (traces_model) or a report
-(reports_model).
+"""A model of the text picture that `show` prints, written from docs/TEXTS.md alone. A picture has a column for each moment
+(position in the history). It has a row for each thread, with the starts, ends and linearization points of its calls. Below
+are the set after each change, and the order of the calls. A Picture shows a run (traces_model) or a report (reports_model).
 """
 
 import collections

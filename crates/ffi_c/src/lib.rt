@@ -100,9 +100,9 @@ pub extern "C" fn listset_contains_now(alloc: Global, seat: &mut CSeat, key: u32
     ffi_sets::contains_key_now(alloc, seat, key)
 }
 
-/// Returns the maximum number of steps that a `contains` takes in any run of a lazy or lock-free list that opens for
-/// this number of threads (`seats`), with this quota and this number of keys (`opening`). Returns 0 if no set can be
-/// opened with these numbers. Does not block or allocate.
+/// Returns the maximum number of steps of a `contains` in any run of a lazy or lock-free list. The list opens for
+/// `seats` threads, with this quota and `opening` keys. Returns 0 if no set can be opened with these numbers. Does not
+/// block or allocate.
 #[unsafe(no_mangle)]
 pub extern "C" fn listset_most_reads(seats: u32, quota: u32, opening: u32) -> u64
     ensures { IsWithin (record { threads = seats; quota = quota; opening = opening })

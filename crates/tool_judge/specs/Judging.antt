@@ -67,8 +67,8 @@ pub record IsAnswerOn (detail : Detail) (c : Recording) (answer : AnswerValue) :
   pub answer_is : IsAnswerTo (shown_in detail verdict) (length c.calls) answer
 
 -- Holds if `judge` may end with this result for the bytes of an input. The result is a correct answer for the recording
--- in the bytes, the error of the first wrong line with its cause, `CannotRead` for a failed read, or `Memory` for a
--- failed allocation.
+-- in the bytes, or the error of the first wrong line with its cause. It is also `CannotRead` for a failed read, or
+-- `Memory` for a failed allocation.
 abbrev pub JudgesIn : Detail → List ℕ → Made → Type 0
 JudgesIn detail bytes (Ok answer) = (c : Recording) × Says bytes (Ok c) × (bytes ≡ recording_text c) × IsAnswerOn detail c answer
 JudgesIn detail bytes (Err t) = (t ≡ CannotRead) ⊎ ((t ≡ Memory) ⊎ ((fault : LineFault) × Says bytes (Err fault) × (t ≡ of_line_fault fault)))
@@ -79,6 +79,6 @@ abbrev pub Judges : List ℕ → Made → Type 0
 Judges bytes made = JudgesIn Whole bytes made
 
 -- Holds if `judge --brief` may end with this result for the bytes of an input. An answer `not linearizable` begins with
--- its two lines, without the contradiction.
+-- its two lines; the contradiction need not follow.
 abbrev pub JudgesBriefly : List ℕ → Made → Type 0
 JudgesBriefly bytes made = JudgesIn Brief bytes made

@@ -74,7 +74,7 @@ impl Span {
     }
 }
 
-/// Counts of the calls so far. Grows with the numbers of keys, threads and pending calls.
+/// Counts of the calls so far. Their size in memory grows with the numbers of keys, threads and pending calls.
 #[derive(Drop)]
 struct Counts {
     adds: Replies,

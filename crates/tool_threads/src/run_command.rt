@@ -136,8 +136,8 @@ pub fn run_lives<R: Threads + Wait + Sync>(
 ///
 /// The exit status is 0 if the answer was written. Otherwise one line about the error is written to `faults`, if
 /// possible. The exit status is then 2 if an argument is missing or wrong, 3 if an allocation failed, and 1 for any
-/// other error, such as a round that would open with more than 1,048,576 keys. Allocates. Blocks until all threads have
-/// ended.
+/// other error. An example is a round that would open with more than 1,048,576 keys. Allocates. Blocks until all
+/// threads have ended.
 pub fn tool_run<R: Threads + Wait + Sync, W: Write, F: Write>(
     rt: &R,
     alloc: Global,

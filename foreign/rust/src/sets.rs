@@ -182,8 +182,8 @@ unsafe impl Send for Receipt {}
 // SAFETY: apart from `Debug`, no function takes a `&Receipt`, so threads that share a receipt can only print it.
 unsafe impl Sync for Receipt {}
 
-/// Returns the maximum number of steps of [`Seat::contains_now`] on a list that opens for this number of threads
-/// (`seats`), with this quota and this number of keys (`keys`). Returns 0 if no set can be opened with these numbers.
+/// Returns the maximum number of steps of [`Seat::contains_now`] on a list that opens for `seats` threads, with this
+/// quota and this number of keys (`keys`). Returns 0 if no set can be opened with these numbers.
 pub fn most_reads(seats: u32, quota: u32, keys: u32) -> u64 {
     // SAFETY: all parameters of the function are numbers.
     unsafe { listset_most_reads(seats, quota, keys) }
