@@ -228,8 +228,8 @@ LISTSET_USED listset_fault listset_open(listset_list kind, uint32_t seats, uint3
 /// LISTSET_NO_MORE if no seat can be split off: all have been split off, or a seat was merged into `seat`.
 LISTSET_USED listset_fault listset_split(listset_seat *seat, listset_seat *out);
 
-/// Adds a key. Replies LISTSET_TRUE if the key was absent, LISTSET_FALSE if it was present, and LISTSET_FULL if it is absent
-/// but the seat has used up its quota of adds.
+/// Adds a key. Replies LISTSET_TRUE if the key was absent, LISTSET_FALSE if it was present, and LISTSET_FULL if it is
+/// absent but the seat (one thread's access to the set) has used up its quota of adds.
 LISTSET_USED listset_reply listset_add(listset_seat *seat, uint32_t key);
 
 /// Removes a key. Replies LISTSET_TRUE if the key was present, otherwise LISTSET_FALSE.

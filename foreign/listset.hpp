@@ -114,8 +114,8 @@ inline said gen(const std::string &kind, uint32_t threads, uint32_t quota, uint3
 /// The five lists.
 enum class list : uint8_t { coarse, fine, optimistic, lazy, lock_free };
 
-/// The reply of `add`. `is_full` means that the key is absent but the seat has used up its quota of adds. A reply cannot be
-/// used as a condition; compare it.
+/// The reply of `add`. `is_full` means that the key is absent but the seat (one thread's access to the set) has used up
+/// its quota of adds. A reply cannot be used as a condition; compare it.
 enum class [[nodiscard]] added : uint8_t { is_false, is_true, is_full };
 
 /// Thrown if a call is refused; `code` is the reason. LISTSET_NONE_THERE means that the seat was moved from, dropped,
@@ -179,8 +179,8 @@ public:
     return made;
   }
 
-  /// Adds a key. Returns `is_true` if the key was absent, `is_false` if it was present, and `is_full` if it is absent but the
-  /// seat has used up its quota of adds.
+  /// Adds a key. Returns `is_true` if the key was absent, `is_false` if it was present, and `is_full` if it is absent
+  /// but the seat (one thread's access to the set) has used up its quota of adds.
   added add(uint32_t key) { return static_cast<added>(by(listset_add, key)); }
 
   /// Removes a key. Returns whether the key was present.
@@ -214,14 +214,15 @@ public:
     return made;
   }
 
-  /// Accepts a receipt. In the order of all calls, later calls of this seat follow every call that the receipt covers. If
-  /// this function throws, the seat and the receipt are unchanged.
+  /// Accepts a receipt (a record of another seat's calls). In the order of all calls, later calls of this seat follow
+  /// every call that the receipt covers. If this function throws, the seat and the receipt are unchanged.
   void after(listset::receipt &&given) {
     use held(*this);
     tell(listset_after(&raw, &given.raw));
   }
 
-  /// Merges another seat of the set into this one. If this function throws, both seats are unchanged.
+  /// Merges another seat of the set (another thread's access to it) into this one. If this function throws, both seats
+  /// are unchanged.
   void gather(seat &&from) {
     if (&from == this) throw fault(LISTSET_NO_GATHER);
     use held(*this), other(from);
@@ -305,8 +306,8 @@ inline void renew(std::vector<seat> &seats, list kind, uint32_t count, uint32_t 
   seats.resize(count);
 }
 
-/// A set that renews itself: when a seat has used up its quota of adds, the set is closed, and a new set is opened with the
-/// same keys.
+/// A set that renews itself: when a seat (one thread's access to the set) has used up its quota of adds, the set is
+/// closed, and a new set is opened with the same keys.
 ///
 /// A thread gets its own seat from `split`; the seat's destructor returns it. Calls wait during a renewal. The renewal
 /// waits for pending calls, but not for threads that are between two calls. A call waits for another call for at most
@@ -427,8 +428,9 @@ class renewed_set {
     return answer;
   }
 
-  // Adds a key with the seat in `mine`, after an `add` returned full. Renews the set if an earlier renewal failed, or if `add`
-  // returns full again. Does not renew the set if that cannot help (the quota is 0, or the set has too many keys).
+  // Adds a key with the seat in `mine` (the thread's access to the set), after an `add` returned full. Renews the set
+  // if an earlier renewal failed, or if `add` returns full again. Does not renew the set if that cannot help (the quota
+  // is 0, or the set has too many keys).
   added add_renewed(place &mine, uint32_t key) {
     all_taken all(*this, mine);
     if (now == stage::open) {
@@ -462,8 +464,8 @@ public:
       if (mine != nullptr) mine->is_taken = false;
     }
 
-    /// Adds a key, and renews the set if the seat has used up its quota of adds. Returns `is_full` only if the quota is 0, or
-    /// if the set has more than 1,048,576 keys: no set can be opened with so many keys.
+    /// Adds a key, and renews the set if the thread's seat has used up its quota of adds. Returns `is_full` only if the
+    /// quota is 0, or if the set has more than 1,048,576 keys: no set can be opened with so many keys.
     added add(uint32_t key) {
       const auto call = [&](place &it) { return add_from(it, key); };
       added answer = by(call);
@@ -584,7 +586,8 @@ public:
     while (places.size() < seats) places.emplace_back().mine = places.front().mine.split();
   }
 
-  /// Adds a key. Returns `is_full` if the key is absent but every seat has used up its quota of adds.
+  /// Adds a key. Returns `is_full` if the key is absent but every seat (one for each call at a time) has used up its
+  /// quota of adds.
   added add(uint32_t key) {
     added answer = by([&](seat &it) { return it.add(key); });
     for (auto at = places.begin(); answer == added::is_full && at != places.end(); ++at) {

@@ -221,8 +221,8 @@ class Fault(Exception):
 
 
 class Full(Fault):
-    """Raised by an add if the key is absent but the seat has used up its quota of adds. `renew` returns seats with a new
-    quota.
+    """Raised by an add if the key is absent but the seat (one thread's access to the set) has used up its quota of
+    adds. `renew` returns seats with a new quota.
     """
 
     def __init__(self, key):
@@ -237,8 +237,8 @@ class TimedOut(Fault, TimeoutError):
 
 
 class Added(enum.Enum):
-    """The reply of `try_add`. FULL means that the key is absent but the seat has used up its quota of adds. A reply cannot
-    be used as a condition; compare it.
+    """The reply of `try_add`. FULL means that the key is absent but the seat (one thread's access to the set) has used
+    up its quota of adds. A reply cannot be used as a condition; compare it.
     """
 
     FALSE, TRUE, FULL = 0, 1, 2
@@ -414,12 +414,14 @@ class Seat:
         return made
 
     def after(self, receipt):
-        """Accepts a receipt: in the order of all calls, later calls of this seat follow every call that the receipt covers."""
+        """Accepts a receipt (a record of another seat's calls). In the order of all calls, later calls of this seat
+        follow every call that the receipt covers.
+        """
         with self._used():
             _told(_AFTER(self.raw, receipt.raw))
 
     def gather(self, other):
-        """Merges another seat of the set into this one. `other` is empty afterwards."""
+        """Merges another seat of the set (another thread's access to it) into this one. `other` is empty afterwards."""
         if other is self:
             raise Fault(NO_GATHER)
         with self._used(), other._used():
@@ -438,7 +440,9 @@ class Seat:
         return keys
 
     def drop(self):
-        """Drops the contents of the seat. A set cannot be closed once one of its seats has been dropped."""
+        """Drops the contents of the seat. A set cannot be closed once one of its seats (one for each thread) has been
+        dropped.
+        """
         _DROP(self.raw)
 
     __del__ = drop
@@ -717,9 +721,9 @@ class RenewedSet:
                     self._renew_taken()
 
     def _add_renewed(self, place, key):
-        """Adds a key with the seat in `place`, after an add returned FULL. Renews the set if an earlier renewal failed,
-        or if the add returns FULL again. Does not renew the set if that cannot help (the quota is 0, or the set has too
-        many keys).
+        """Adds a key with the seat in `place` (the thread's access to the set), after an add returned FULL. Renews the
+        set if an earlier renewal failed, or if the add returns FULL again. Does not renew the set if that cannot help
+        (the quota is 0, or the set has too many keys).
         """
         with self._all_taken(place):
             if self._stage == "open":
@@ -744,8 +748,8 @@ class OwnSeat:
         return self._of._by(self._place, call)
 
     def try_add(self, key):
-        """Adds a key, and renews the set if the seat has used up its quota of adds. Returns `Added.FULL` only if the quota
-        is 0, or if the set has more than 1,048,576 keys: no set can be opened with so many keys.
+        """Adds a key, and renews the set if the thread's seat has used up its quota of adds. Returns `Added.FULL` only
+        if the quota is 0, or if the set has more than 1,048,576 keys: no set can be opened with so many keys.
         """
         added = self._by(lambda it: it.try_add(key))
         if added is Added.FULL:
@@ -754,9 +758,9 @@ class OwnSeat:
         return self._of._add_renewed(self._place, key) if added is Added.FULL else added
 
     def add(self, key):
-        """Adds a key, and renews the set if the seat has used up its quota of adds. Returns True if the key was absent,
-        False if it was present. Raises `Full` only if the quota is 0, or if the set has more than 1,048,576 keys: no set can
-        be opened with so many keys.
+        """Adds a key, and renews the set if the thread's seat has used up its quota of adds. Returns True if the key
+        was absent, False if it was present. Raises `Full` only if the quota is 0, or if the set has more than 1,048,576
+        keys: no set can be opened with so many keys.
         """
         added = self.try_add(key)
         if added is Added.FULL:
@@ -788,7 +792,7 @@ class OwnSeat:
         return self._by(lambda it: it.seat.ceiling(key))
 
     def drop(self):
-        """Returns the seat to the set."""
+        """Returns the seat to the set, so that another thread can get it from `split`."""
         if self._place is not None:
             self._place.is_taken = False
         self._place = None

@@ -131,7 +131,7 @@ def test_a_command_reports_each_failed_allocation(program, room, once, words):
 
 def test_calls_report_each_failed_allocation(once, lacking):
     """Tests CALLS with each allocation failing in turn. After a failed allocation, `work` must return the set and its
-    seats.
+    seats (the threads' handles on the set).
     """
     if not CALLS.exists():
         lacking(f"{CALLS.relative_to(TOP)} is missing: tests/unproved memory_calls builds it")

@@ -113,7 +113,7 @@ def test_clients_at_once_receive_right_answers(program, kind):
         server.ends(CLIENTS + 1, calls, calls, keys)
 
 
-# ---- Tests of more clients than seats
+# ---- Tests of more clients than a server has seats (a seat serves one client at a time)
 
 
 def test_more_clients_than_seats_are_served(program):
@@ -137,7 +137,7 @@ def test_more_clients_than_seats_are_served(program):
         server.ends(sessions, 6 * len(served) + faulty, 6 * len(served) + 3 * faulty, served)
 
 
-# ---- Tests of a server with one seat
+# ---- Tests of a server with one seat, which serves one client at a time
 
 
 def test_many_connections_one_after_another_are_served(program):

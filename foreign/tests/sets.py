@@ -139,7 +139,7 @@ def apart():
 
 
 def limits():
-    """Opens sets with the maximum number of seats and keys, and with the smallest and the largest quota."""
+    """Opens sets with the maximum number of seats (threads) and keys, and with the smallest and the largest quota."""
     keys = [4095 * it for it in range(2**20)]
     assert listset.open_set("lazy", 1, 0, keys).close() == keys
     assert code(listset.open_set, "lazy", 1, 1, [7, 7]) == code(listset.open_set, "lazy", 1, 1, [9, 5]) == 12

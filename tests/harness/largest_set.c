@@ -1,5 +1,6 @@
-// Tests a set of maximum size for each list. Such a set has the maximum number of opening keys and, below them, as many added
-// keys as the quotas of its seats allow. Calls traverse all of these keys, and the set is closed.
+// Tests a set of maximum size for each list. Such a set has the maximum number of keys at the start and, below them, as
+// many added keys as the quotas of its seats (one for each thread) allow. Calls traverse all of these keys, and the set
+// is closed.
 #include "listset.h"
 
 #include <stdio.h>

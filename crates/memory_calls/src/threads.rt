@@ -55,7 +55,7 @@ fn after_refusal(
     }
 }
 
-/// Runs the programs again, on the set and the seats that the first run returned.
+/// Runs the programs again, on the set and the seats (per-thread handles) that the first run returned.
 fn work_again<R: Host>(
     rt: &R,
     alloc: Global,

@@ -182,8 +182,8 @@ impl Gate for Shut {
     }
 }
 
-/// Cases: the seat and the number of the call that the gate refuses, and how often the gate must be asked before each
-/// call. The refused call ends its program. All other programs run to their end.
+/// Cases: the seat (per-thread handle) and the number of the call that the gate refuses, and how often the gate must be
+/// asked before each call. The refused call ends its program. All other programs run to their end.
 const SHUT: [(u32, u32, [u32; 10]); 5] = [
     (0, 1, [1, 1, 0, 1, 1, 0, 0, 0, 0, 0]),
     (0, 0, [1, 0, 0, 1, 1, 0, 0, 0, 0, 0]),

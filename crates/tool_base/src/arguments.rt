@@ -48,8 +48,8 @@ pub struct LivesRequest {
     pub lives: u32,
 }
 
-/// The arguments of the command `serve`: a kind of list, the number of seats of its set and their quota, a port, and
-/// the number of connections to accept.
+/// The arguments of the command `serve`: a kind of list, the number of seats of its set (per-thread handles) and their
+/// quota, a port, and the number of connections to accept.
 #[derive(Clone, Copy)]
 pub struct ServeRequest {
     /// The kind of list.

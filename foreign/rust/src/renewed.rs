@@ -1,4 +1,5 @@
-//! A set that renews itself: when a seat has used up its quota of adds, a new set with the same keys replaces the old one.
+//! A set that renews itself: when a seat (one thread's access to the set) has used up its quota of adds, a new set with
+//! the same keys replaces the old one.
 
 use std::sync::atomic::{AtomicBool, Ordering};
 use std::sync::{Mutex, MutexGuard, TryLockError};
@@ -12,8 +13,8 @@ const POLL: Duration = Duration::from_micros(50);
 const LONG: Duration = Duration::from_millis(5);
 const MOST_OPENING: u64 = 1 << 20;
 
-/// A set that renews itself: when a seat has used up its quota of adds, the set is closed, and a new set is opened with the
-/// same keys.
+/// A set that renews itself: when a seat (one thread's access to the set) has used up its quota of adds, the set is
+/// closed, and a new set is opened with the same keys.
 ///
 /// A thread gets its own seat from [`RenewedSet::split`], and returns it by dropping it. Calls wait during a renewal.
 /// The renewal waits for pending calls, but not for threads that are between two calls. A call waits for another call
@@ -263,9 +264,9 @@ impl RenewedSet {
         }
     }
 
-    /// Adds a key with the seat at index `place`, after an `add` returned `Full`. Renews the set if an earlier renewal
-    /// failed, or if `add` returns `Full` again. Does not renew the set if that cannot help (the quota is 0, or the set
-    /// has too many keys).
+    /// Adds a key with the seat (one thread's access to the set) at index `place`, after an `add` returned `Full`.
+    /// Renews the set if an earlier renewal failed, or if `add` returns `Full` again. Does not renew the set if that
+    /// cannot help (the quota is 0, or the set has too many keys).
     fn add_renewed(&self, place: usize, key: u32) -> Result<Added, Fault> {
         let mut all = self.all(place)?;
         if all.stage() == Stage::Open {
@@ -287,8 +288,8 @@ pub struct OwnSeat<'a> {
 }
 
 impl OwnSeat<'_> {
-    /// Adds a key, and renews the set if the seat has used up its quota of adds. Returns [`Added::Full`] only if the quota is
-    /// 0, or if the set has more than 1,048,576 keys, because no set can be opened with so many.
+    /// Adds a key, and renews the set if the thread's seat has used up its quota of adds. Returns [`Added::Full`] only
+    /// if the quota is 0, or if the set has more than 1,048,576 keys, because no set can be opened with so many.
     pub fn add(&mut self, key: u32) -> Result<Added, Fault> {
         let mut added = self.set.by(self.place, |it| it.add(key))?;
         if added == Added::Full {

@@ -64,7 +64,7 @@ pub enum Added {
     True,
     /// The key was present.
     False,
-    /// The key is absent, but the seat has used up its quota of adds.
+    /// The key is absent, but the seat (one thread's access to the set) has used up its quota of adds.
     Full,
 }
 
@@ -204,10 +204,10 @@ pub fn open(list: List, seats: u32, quota: u32, keys: &[u32]) -> Result<Seat, Fa
     Ok(made)
 }
 
-/// The result of a failed renewal: the seats of the set or, if the set is closed, its keys.
+/// The result of a failed renewal: the seats of the set (one for each thread) or, if the set is closed, its keys.
 #[derive(Debug)]
 pub enum Left {
-    /// All seats of the set. The set is still open.
+    /// All seats of the set (one for each thread). The set is still open.
     Seats(Vec<Seat>),
     /// The final keys of the set. The set is closed.
     Keys(Vec<u32>),
@@ -293,8 +293,8 @@ impl Seat {
         Ok(made)
     }
 
-    /// Adds a key. Returns [`Added::Full`] if the key is absent but the seat has used up its quota of adds; [`renew`] returns
-    /// seats with a new quota.
+    /// Adds a key. Returns [`Added::Full`] if the key is absent but the seat (one thread's access to the set) has used
+    /// up its quota of adds; [`renew`] returns seats with a new quota.
     pub fn add(&mut self, key: u32) -> Added {
         match replied(unsafe { listset_add(&mut self.raw, key) }) {
             TRUE => Added::True,
@@ -331,8 +331,8 @@ impl Seat {
         Ok(made)
     }
 
-    /// Accepts a receipt: in the order of all calls, later calls of this seat follow every call that the receipt covers. Returns
-    /// [`Fault::OtherSet`] if the receipt is from another set.
+    /// Accepts a receipt (a record of another seat's calls). In the order of all calls, later calls of this seat follow
+    /// every call that the receipt covers. Returns [`Fault::OtherSet`] if the receipt is from another set.
     pub fn after(&mut self, mut given: Receipt) -> Result<(), Fault> {
         told(unsafe { listset_after(&mut self.raw, &mut given.raw) })
     }
@@ -344,7 +344,8 @@ impl Seat {
         (replied(unsafe { listset_ceiling(&mut self.raw, key, &mut at) }) == AT).then_some(at)
     }
 
-    /// Merges another seat of the set into this one. If the seat belongs to another set, the error contains it.
+    /// Merges another seat of the set (another thread's access to it) into this one. If the seat belongs to another
+    /// set, the error contains it.
     pub fn gather(&mut self, mut from: Seat) -> Result<(), Refused<Seat>> {
         let code = unsafe { listset_gather(&mut self.raw, &mut from.raw) };
         told(code).map_err(|fault| Refused { back: from, fault })

@@ -203,7 +203,8 @@ fn what_is_refused_is_given_back() {
     assert_eq!(mine.close().unwrap(), [8]);
 }
 
-/// Checks that `?` converts a refusal to a boxed error, with and without `Send`, and to a fault, which drops the seat.
+/// Checks that `?` converts a refusal (a fault with the refused seat) to a boxed error, with and without `Send`. Also
+/// checks that `?` converts a refusal to its fault, which drops the seat.
 #[test]
 fn a_refusal_is_an_error() {
     fn closed() -> Result<Vec<u32>, Box<dyn std::error::Error + Send + Sync>> {
@@ -251,8 +252,8 @@ fn receipts() {
     }
 }
 
-/// Renews a set as a different kind of list, with a different number of seats and a new quota. Checks that a refused
-/// renewal returns the seats or the keys.
+/// Renews a set as a different kind of list, with a different number of seats (threads) and a new quota. Checks that a
+/// refused renewal returns the seats or the keys.
 #[test]
 fn a_set_is_renewed() {
     let mut seats = vec![open(List::Lazy, 3, 1, &[5]).unwrap()];
