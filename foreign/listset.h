@@ -124,7 +124,7 @@ typedef struct {
   uint32_t from, to, width;
 } listset_window;
 
-/// The arguments for generating a schedule. `kind` is "coarse", "fine", "optimistic", "lazy" or "lock-free".
+/// The arguments for generating a random schedule. `kind` is "coarse", "fine", "optimistic", "lazy" or "lock-free".
 typedef struct {
   const char *kind;
   uint32_t threads, quota, calls, keys;

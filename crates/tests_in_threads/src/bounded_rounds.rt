@@ -25,7 +25,7 @@ fn reply_of<M: Bounded, R: Abort, N: Rounds>(rt: &R, alloc: Global, call: Call) 
     Some(reply)
 }
 
-/// Asserts that the traversals to the keys 25 and 30 need three rounds.
+/// Asserts that the traversals to the keys 25 and 30 need three rounds of a loop.
 fn has_rounds<M: Bounded, R: Abort>(rt: &R, alloc: Global) {
     for call in [Call::Add(Key(25)), Call::Remove(Key(30))] {
         assert!(rt; reply_of::<M, R, UpTo<2>>(rt, alloc, call).is_none());
