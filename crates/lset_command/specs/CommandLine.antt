@@ -42,7 +42,7 @@ Argument = Text × Form
 abbrev pub TableRow : Type 0
 TableRow = Command × Text × List Argument
 
--- Returns the command with a rule for this argument added.
+-- Returns clap's command with a rule for this argument added.
 abbrev pub with_argument : App → Argument → App
 with_argument a argument = with_rule a (rule_by argument.0 argument.1)
 

@@ -12,7 +12,7 @@ const RUNS: u64 = 2_000;
 
 const EVENTS: u32 = 120;
 
-/// The opening keys of every schedule.
+/// The keys of the list at the start of every schedule.
 const OPENING: [u32; 1] = [5];
 
 fn drawn_call(rng: &mut Pcg32) -> Call {

@@ -21,7 +21,8 @@ fn true_calls<F: Fn(u32) -> Call>(
     Ok(calls)
 }
 
-/// Judges calls that do not overlap. Each call finds a different key of a set with the maximum number of opening keys.
+/// Judges calls that do not overlap. Each call finds a different key of a set that starts with the maximum number of
+/// keys.
 #[test]
 fn a_million_calls_are_judged(rt: HostRuntime) -> Result<(), Fail> {
     let alloc = rt.alloc();
@@ -176,7 +177,7 @@ fn more_keys_than_a_list_can_have_are_judged(rt: HostRuntime) -> Result<(), Fail
     Ok(())
 }
 
-/// The number of opening keys in a recording.
+/// The number of opening keys (keys at the start) in a recording.
 const LONG_KEYS: u32 = 200_000;
 
 const LONG_CALLS: u32 = 100_000;

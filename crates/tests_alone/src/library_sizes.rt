@@ -60,8 +60,8 @@ fn has_schedule<M: Machine, R: Abort>(rt: &R, alloc: Global, size: u32) -> Resul
     Ok(())
 }
 
-/// Returns a schedule of one thread that looks for each of `size` opening keys in turn. On a LazyList, the search for a
-/// key needs two more steps than the search for the previous key.
+/// Returns a schedule of one thread that looks for each of `size` opening keys (keys at the start) in turn. On a
+/// LazyList, the search for a key needs two more steps than the search for the previous key.
 fn looks_for_each(alloc: Global, size: u32) -> Result<String, Fail> {
     let mut text = String::from_str(alloc, "listset-schedule 2\nlist lazy\nthreads 1\nquota 0\n")?;
     for key in 0..size {
@@ -187,8 +187,8 @@ fn judge_of(alloc: Global, size: u32) -> Result<Judge, Fail> {
     Ok(judge)
 }
 
-/// Returns a recording with `size` opening keys, which are also the final keys. For each key, one call looks for the
-/// key.
+/// Returns a recording of a set with `size` keys, which are the same at the start and at the end. For each key, one
+/// call looks for the key.
 fn recording_of(alloc: Global, size: u32) -> Result<String, Fail> {
     let mut text = String::from_str(alloc, "listset-calls 1\n")?;
     for key in 0..size {

@@ -13,8 +13,8 @@ impl<const N: u64> Rounds for UpTo<N> {
     const MOST: u64 = N;
 }
 
-/// The opening keys of a set. In each round of its loop, a call compares one key: each smaller key, and then the first
-/// key that is not smaller than its own.
+/// The keys of a set at the start. In each round of its loop, a call compares one key: each smaller key, and then the
+/// first key that is not smaller than its own.
 const KEYS: [u32; 5] = [10, 20, 30, 40, 50];
 
 /// Opens a set and makes a call with at most `N` rounds in each loop. Returns the reply, or `None` if more rounds are

@@ -315,7 +315,7 @@ fn fill<M: Running, R: Wait>(rt: &R, set: &LiveSet<M>, seat: &mut Seat<M>, first
 }
 
 /// Opens a set of the maximum size and uses up the quota of each seat (per-thread handle). All added keys are smaller
-/// than the opening keys.
+/// than the opening keys (the keys at the start).
 fn filled<M: Running, R: Host>(rt: &R, alloc: Global, opening: &[u32]) -> (LiveSet<M>, Seat<M>) {
     let opened = open_with::<M>(alloc, MOST_THREADS, MOST_QUOTA, opening);
     let (set, mut seats) = opened.expect(rt, "not opened");

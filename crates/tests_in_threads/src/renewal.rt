@@ -12,8 +12,8 @@ const CALLS_ON_A_KEY: [(Call, Reply); 3] = [
     (Call::Remove(Key(9)), Reply::True),
 ];
 
-/// Opens a set with three seats (per-thread handles) and the key 9. The set cannot add keys. Asserts that the opening
-/// key can be removed like any other key.
+/// Opens a set with three seats (per-thread handles) and the key 9. The set cannot add keys. Asserts that a key from
+/// the start can be removed like any other key.
 fn opens_with_a_key<M: Running, R: Host>(rt: &R, alloc: Global) {
     let (set, mut seats) = open_with::<M>(alloc, 3, 0, &[9]).expect(rt, "not opened");
     let mut last = last_of(rt, &set, &mut seats);
@@ -52,7 +52,8 @@ fn the_smallest_and_the_largest_key_can_be_opening_keys(rt: HostRuntime) {
     at_each_list!(keeps_its_keys, rt);
 }
 
-/// A number of seats (per-thread handles), a quota and opening keys, and the error that `open_with` returns for them.
+/// A number of seats (per-thread handles), a quota and opening keys (keys at the start), and the error that `open_with`
+/// returns for them.
 const REFUSED: [(u32, u32, [u32; 2], OpenFault); 4] = [
     (0, 16_385, [5, 5], OpenFault::Seats),
     (1, 16_385, [5, 5], OpenFault::Quota),

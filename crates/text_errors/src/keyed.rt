@@ -1,9 +1,9 @@
-//! Finds errors in the opening keys that `serve` reads.
+//! Finds errors in the opening keys (the keys at the start) that `serve` reads.
 
 use crate::lined::{Lines, count_fields, field_or_empty, number_at};
 use lset_text::Cause;
 
-/// The maximum number of opening keys.
+/// The maximum number of opening keys (keys at the start).
 const MOST_KEYS: usize = 1_048_576;
 
 /// Returns `true` if a line has exactly two fields and the first is `word`.

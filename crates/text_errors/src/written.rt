@@ -152,7 +152,7 @@ pub fn put_header(out: &mut String, number: usize) -> Result<(), AllocError> {
     out.push_str(text)
 }
 
-/// Explains an opening or final key that is not greater than the previous key.
+/// Explains a key at the start or at the end of a run that is not greater than the key in the line before.
 pub fn put_opening(out: &mut String, place: Place<'_>, above: &[u8]) -> Result<(), AllocError> {
     let file = place.file;
     put_quoted(out, place.line)?;

@@ -1,4 +1,5 @@
-//! Explains a line with an error in a report, in a recording, or in the opening keys for `serve`.
+//! Explains a line with an error in a report, in a recording, or in the opening keys for `serve` (the keys at the
+//! start).
 
 use crate::kinds::{Place, TextKind};
 use crate::lined::Lines;
@@ -15,7 +16,7 @@ const MOST_OF_REPORT: &str =
     "A report has at most 1000000 calls, 1000000 places, and 1048576 keys (2097152 in version 2).\n";
 
 /// Explains a line with an error: after the header of a report, after the title of a recording, or in the opening keys
-/// for `serve`.
+/// for `serve` (the keys at the start).
 pub fn put_wrong_line(
     out: &mut String,
     lines: &Lines<'_>,

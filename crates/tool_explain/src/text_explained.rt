@@ -104,7 +104,8 @@ fn no_answer(alloc: Global) -> Result<Answer, Trouble> {
     Ok(Answer { text, status: 0 })
 }
 
-/// Checks the opening keys that `serve` reads. Returns their first error, or an empty answer if they have no error.
+/// Checks the opening keys (the keys at the start) that `serve` reads. Returns their first error, or an empty answer if
+/// they have no error.
 fn said_of_keys(alloc: Global, lines: &Lines<'_>) -> Result<Answer, Trouble> {
     match wrong_key(lines) {
         Some((number, cause)) => Err(Trouble::Line(number as u64, cause)),

@@ -8,7 +8,7 @@ use std::collections::{BTreeMap, BTreeSet};
 use std::io::Read;
 use tool_base::{Answer, READ_SIZE, Trouble};
 
-/// The end of a call that is pending.
+/// Stands for the end of a pending call: later than every end in a recording.
 const NEVER: u64 = u64::MAX;
 
 /// Counts of the calls of one operation.

@@ -88,7 +88,7 @@ fn keys_of_lines(alloc: Global, left: Remaining<'_>) -> Result<Vec<u32>, LineFau
     Ok(keys)
 }
 
-/// Reads the opening keys of a set from lines `key K`, in strictly increasing order. Allocates.
+/// Reads the opening keys of a set (the keys at the start) from lines `key K`, in strictly increasing order. Allocates.
 ///
 /// Skips the lines that a server prints before its keys: `listening A`, `sessions N` and `calls N`, in this order, each
 /// optional, with any A and N. Therefore the output of one server can be the input of the next.

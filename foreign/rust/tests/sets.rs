@@ -11,7 +11,8 @@ const THREADS: u32 = 4;
 const CALLS: u32 = 5000;
 const OWN: u32 = 32;
 
-/// A `Seat` is not `Clone`. If it were, this call would be ambiguous.
+/// Checks at compile time that a `Seat` is not `Clone`. If it were, both impls below would apply, and `is_once` would
+/// be ambiguous.
 trait Once<T> {
     fn is_once() {}
 }
