@@ -548,8 +548,9 @@ public:
   }
 };
 
-/// A set that any number of threads may call, with a pool of seats. A call uses a seat that no other call is using, or waits
-/// for a seat. Two calls of one thread can use different seats, so not even the order of a thread's own calls is guaranteed.
+/// A set that any number of threads may call, with a pool of seats (each serves one call at a time). A call uses a seat
+/// that no other call is using, or waits for a seat. Two calls of one thread can use different seats, so not even the
+/// order of a thread's own calls is guaranteed.
 class shared {
   struct alignas(128) place {
     std::mutex lock;

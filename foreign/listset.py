@@ -499,9 +499,9 @@ def renew(seats, kind, count, quota):
 
 
 class Shared:
-    """A set that any number of threads may call, with a pool of seats. A call uses a seat that no other call is using, or
-    waits for a seat. Two calls of one thread can use different seats, so not even the order of a thread's own calls is
-    guaranteed.
+    """A set that any number of threads may call, with a pool of seats (each serves one call at a time). A call uses a
+    seat that no other call is using, or waits for a seat. Two calls of one thread can use different seats, so not even
+    the order of a thread's own calls is guaranteed.
     """
 
     def __init__(self, kind, seats, quota, keys=()):
@@ -586,8 +586,8 @@ class _Place:
 
 
 class RenewedSet:
-    """A set that renews itself: when a seat has used up its quota of adds, the set is closed, and a new set is opened with
-    the same keys.
+    """A set that renews itself: when a seat (one thread's access to the set) has used up its quota of adds, the set is
+    closed, and a new set is opened with the same keys.
 
     A thread gets its own seat from `split`, and returns it with `drop` or at the end of a `with` block. Calls wait during a
     renewal. The renewal waits for pending calls, but not for threads that are between two calls. A call waits for another

@@ -2,7 +2,7 @@
 //! limit, and each order of magnitude is equally likely.
 //!
 //! Thread `t` of `n` uses only the keys with the remainder `t` modulo `n`. The model of a thread is a sequential set of
-//! its keys. The thread's replies therefore do not depend on the other threads.
+//! its keys. The thread's replies, except to `ceiling`, therefore do not depend on the other threads.
 
 use crate::opened::{increasing_keys, keys_left, last_of, make_calls};
 use crate::prelude::*;

@@ -5,8 +5,8 @@ use std::sync::{Mutex, MutexGuard, PoisonError};
 
 use crate::{open, Added, Fault, List, Refused, Seat};
 
-/// A set that any number of threads may call through `&self`, with a pool of seats. A call uses a seat that no other call is
-/// using, or waits for a seat.
+/// A set that any number of threads may call through `&self`, with a pool of seats (each serves one call at a time). A
+/// call uses a seat that no other call is using, or waits for a seat.
 ///
 /// Two calls of one thread can use different seats, so not even the order of a thread's own calls is guaranteed.
 ///
