@@ -286,7 +286,7 @@ explain_too_long() {
   elif [ "$(read_by "$command")" = "recorded calls" ]; then
     echo "Only a recording can have more than 67108864 bytes: line 1 must be 'listset-calls 1', and no line has more than 128 bytes"
   else
-    echo "Standard input has more than 67108864 bytes, and only judge reads more. $(print_shortening "$command")"
+    echo "Standard input has more than 67108864 bytes, and only recorded calls can have more. $(print_shortening "$command")"
   fi
 }
 

@@ -500,7 +500,7 @@ function tooLongHint(name) {
     name === "check"
       ? "For a report of fewer calls, shorten its schedule: .. | head -n 1000 | listset replay | listset check"
       : `To let ${name} read the first 1000 lines of a ${name === "draft" ? "draft" : "schedule"} alone: .. | head -n 1000 | listset ${name}`;
-  return `Standard input has more than ${LONGEST} bytes, and only judge reads more. ${shortened}`;
+  return `Standard input has more than ${LONGEST} bytes, and only recorded calls can have more. ${shortened}`;
 }
 
 // Returns a hint about the name of a missing file, or an empty string. There are hints for `help`, a leading `~`, a URL, the name of an example, and a name that

@@ -214,7 +214,7 @@ def test_a_long_input_is_explained(script):
         (script / name).write_text(text)
         os.truncate(script / name, 67_108_865)
         _, said = at_terminal(["./listset", "show", name], script)
-        assert said.startswith(f"listset: too long\n{name} has more than 67108864 bytes. Only the command judge reads more") and use in said, said
+        assert said.startswith(f"listset: too long\n{name} has more than 67108864 bytes. Only recorded calls can have more") and use in said, said
 
 
 def test_a_refused_port_is_explained(script):

@@ -124,7 +124,7 @@ pub const COMMANDS: &[CommandRow] = &[
     (
         Command::Judge,
         "judge",
-        "Judge recorded calls of a set: ok if an order explains them and the keys left, else not linearizable",
+        "Judge recorded calls of a set: ok if an order explains them and the final keys, else not linearizable",
         &[
             RECORDING,
             (
@@ -141,7 +141,7 @@ pub const COMMANDS: &[CommandRow] = &[
             ),
         ],
         None,
-        "A recording is judged as it is read, and may have any length. Below 'not linearizable' come the calls that show it and, for a file, what is wrong. Exit status 0 for ok, 1 for not linearizable.\n\nExample: listset judge a.calls\n\nAn error is one line, such as 'line 5: Line'; listset faults Line explains it.",
+        "A recording is judged as it is read, and can have any length. Below 'not linearizable' come the calls that show it and, for a file, what is wrong. Exit status 0 for ok, 1 for not linearizable.\n\nExample: listset judge a.calls\n\nAn error is one line, such as 'line 5: Line'; listset faults Line explains it.",
     ),
     (
         Command::Stats,

@@ -69,7 +69,7 @@ listset: line 1: Header, from a command that does not read this kind of file; ex
   listset-schedule 1 or 2  A schedule: replay, show and trace read it.
   listset-draft 2          A draft: draft turns it into a schedule.
   listset-report 1 or 2    A report: check and show read it.
-  listset-calls 1          Recorded calls: judge reads them.
+  listset-calls 1          Recorded calls: judge, stats and explain read them.
   listset-trace 1          A trace: no command reads it.
   listset-course 1         A course: paste it into page/index.html, under Solve.
   key K                    Keys: serve opens with them.

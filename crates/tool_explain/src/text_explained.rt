@@ -40,7 +40,7 @@ fn put_too_long(out: &mut String, file: &str, text: &[u8]) -> Result<(), AllocEr
     }
     write!(
         out,
-        "{file} has more than {LONGEST} bytes.\nOnly the command judge reads more. "
+        "{file} has more than {LONGEST} bytes.\nOnly recorded calls can have more. "
     )?;
     put_shortening(out, file, kind)
 }
