@@ -86,7 +86,7 @@ public final class Judge {
     // The lines below are made of words.json by judge/make_words.
     private static final Shape[] PRESETS = {new Shape("few keys", 4, 1, 5000, 4, 1), new Shape("fresh sets", 4, 40, 10, 4, 1), new Shape("multiples of 64", 4, 1, 5000, 8, 64), new Shape("one key", 3, 1, 5000, 1, 1), new Shape("sets that grow", 4, 20, 125, 64, 1), new Shape("many keys", 4, 1, 2500, 1000, 1), new Shape("multiples of 1,000", 8, 1, 2500, 8, 1000)};
     private static final Limits[] RANGES = {new Limits("threads", 1, 64), new Limits("threads times calls", 1, 1000000000), new Limits("keys", 1, 1048576), new Limits("pauses", 0, 100), new Limits("runs", 1, 1000000), new Limits("seconds", 1, 3600), new Limits("within", 1, 604800), new Limits("at_least", 0, 100), new Limits("the sum of shares", 1, 1000000)};
-    private static final int PART = 20000, LONGEST = 100, HOT = 4, ENOUGH = 5, HARDER = 2, PATIENCE = 10, MEET = 250, AWAKE = 300000, WITHIN = 60, APART = 100;
+    private static final int PART = 20000, LONGEST = 100, HOT = 4, ENOUGH = 5, HARDER = 2, PATIENCE = 10, MEET = 250, AWAKE = 300000, WITHIN = 60, APART = 100, FURTHER = 4, FURTHER_FOR = 2;
     private static final String OK = "ok: %s calls, and %s of them overlapped a change of their key";
     private static final String FEW = "few calls overlapped, so ok means little: %s calls, and %s of them overlapped a change of their key";
     private static final String TOO_FEW = "too few calls overlapped: %s of %s calls overlapped a change of their key, and at_least requires %s of 100. Use fewer keys, more threads, or a less busy machine";

@@ -20,6 +20,7 @@ import collections
 import ctypes
 import dataclasses
 import itertools
+import math
 import mmap
 import os
 import pathlib
@@ -51,12 +52,17 @@ NO, YES, UNKNOWN = range(3)
 FIRST_LINE = "listset-calls 1\n"
 OVERLAPPED = re.compile("ok [0-9]+ calls\n([0-9]+) of them")
 OF_KEY = re.compile("of key ([0-9]+) ")
+CONTRADICTIONS = re.compile("([0-9]+) (?:contradiction|of its )")
 Call = collections.namedtuple("Call", "begin end thread call key reply")
 # The sizes of a run: the number of threads, of new sets used one after another, of calls per thread and set, and of
 # keys. The keys are the multiples of `times`.
 Shape = collections.namedtuple("Shape", "name threads sets calls keys times")
 
-# PART and MEET are numbers of calls, and PATIENCE is in seconds.
+# The outcome of a run: the judge's output (`refused`) if no order explains the calls, the reason (`trouble`) if the run was
+# cut short, and the pending calls.
+Outcome = collections.namedtuple("Outcome", "seed shape file overlapped refused trouble pending")
+
+# PART and MEET are numbers of calls. PATIENCE and FURTHER_FOR are in seconds.
 # The lines below are made of words.json by judge/make_words.
 PRESETS = (
     Shape("few keys", 4, 1, 5000, 4, 1),
@@ -78,7 +84,7 @@ RANGES = (
     ("at_least", 0, 100),
     ("the sum of shares", 1, 1000000),
 )
-PART, LONGEST, HOT, ENOUGH, HARDER, PATIENCE, MEET, AWAKE, SLOW, WITHIN = 20000, 100, 4, 5, 2, 10, 250, 300000, 10, 60
+PART, LONGEST, HOT, ENOUGH, HARDER, PATIENCE, MEET, AWAKE, SLOW, WITHIN, FURTHER, FURTHER_FOR = 20000, 100, 4, 5, 2, 10, 250, 300000, 10, 60, 4, 2
 OK = "ok: %s calls, and %s of them overlapped a change of their key"
 FEW = "few calls overlapped, so ok means little: %s calls, and %s of them overlapped a change of their key"
 TOO_FEW = "too few calls overlapped: %s of %s calls overlapped a change of their key, and at_least requires %s of 100. Use fewer keys, more threads, or a less busy machine"
@@ -94,6 +100,7 @@ NO_OPENING = "contains of an opening key had no known outcome in %s calls"
 UNDER_WAY = "%s\npending:%s\nbefore that: %s"
 EXPLAINED = "some order explains the calls"
 PASSED_BEFORE = "; passed before: %s"
+REFUSED_OF = "; refused: %s of %s runs like this"
 PENDING_CALL = "\n  thread %s: %s %s%s, begun at moment %s"
 IS_KEY = " (key %s of the recording)"
 KEY_IS = "; key %s of the recording is %s"
@@ -130,7 +137,7 @@ class Verdict:
     @property
     def is_few(self) -> bool:
         """Returns whether so few calls overlapped that the verdict `ok` means little."""
-        return self.overlapped * 100 < self.calls * ENOUGH
+        return is_few(self.overlapped, self.calls)
 
     def __str__(self) -> str:
         return f"{(FEW if self.is_few else OK) % (self.calls, self.overlapped)}; judge: {self.judge}"
@@ -184,6 +191,14 @@ class Options(collections.namedtuple("Options", "threads calls keys key pauses r
         seconds = number_of("LISTSET_SECONDS", None, 1, most["within"])
         it = self._replace(within=seconds, runs=most["runs"], seed=int(time.time())) if seconds else self
         return it._replace(seed=number_of("LISTSET_SEED", it.seed, 0, 2**32 - 1))
+
+    def has_own_process(self) -> bool:
+        """Returns whether a run that begins now gets its own process."""
+        return self.own_process and hasattr(os, "fork") and threading.active_count() == 1
+
+    def is_replay(self) -> bool:
+        """Returns whether the test repeats a run: its seed is from LISTSET_SEED, or the argument `seed` is not 1."""
+        return bool(os.environ.get("LISTSET_SEED")) or self.seed != 1 and not os.environ.get("LISTSET_SECONDS")
 
     def shape_of(self, seed: int) -> Shape:
         """Returns the preset for a seed, modified by these options."""
@@ -245,7 +260,8 @@ def judge(make: Callable[[], Any], *, threads: int | None = None, calls: int | N
     pauses -- how often a thread lets other threads run before a line of the set, in percent: 0 to 100; in one call of
               ten, also before a bytecode instruction
     runs -- the number of runs: 1 to 1,000,000; a run calls one set, or several new sets one after another
-    seed -- the random seed for the calls, keys and pauses of the first run; each later run uses the next seed
+    seed -- the random seed for the calls, keys and pauses of the first run; each later run uses the next seed; if the first
+            seed is not 1, no further runs follow a refusal
     seconds -- if no call begins or ends for this many seconds, a run is considered hung and is cut short: 1 to 3,600
     within -- after this many seconds, the test begins no new run: 1 to 604,800
     at_least -- raises TooFew if less than this percentage of the calls overlap a call that adds or removes the same key
@@ -283,6 +299,7 @@ class Tester:
 
     def __init__(self, make: Callable[[], Any], how: Options):
         self.make, self.how, self.by, self.calls, self.overlapped = make, how, Judge(), 0, 0
+        self.until = time.monotonic() + how.within
 
     def all(self) -> Verdict:
         """Performs the requested runs, each up to three times, and then more runs as long as few calls have overlapped.
@@ -290,14 +307,14 @@ class Tester:
         """
         began, how = time.monotonic(), self.how
         for seed in range(how.seed, how.seed + how.runs):
-            if seed > how.seed and time.monotonic() > began + how.within:
+            if seed > how.seed and time.monotonic() > self.until:
                 break
             shape = how.shape_of(seed)
             for _ in range(HARDER + 1):
                 if not self.judged_run(seed, shape) or time.monotonic() > began + PATIENCE:
                     break
                 shape = how.harder(shape)
-        end = min(began + how.within, time.monotonic() + PATIENCE)
+        end = min(self.until, time.monotonic() + PATIENCE)
         while is_few(self.overlapped, self.calls) and time.monotonic() < end:
             seed += 1
             self.judged_run(seed, how.harder(how.harder(how.shape_of(seed))))
@@ -305,23 +322,67 @@ class Tester:
 
     def judged_run(self, seed: int, shape: Shape) -> bool:
         """Performs a run and judges it. Returns whether few of its calls overlapped. Raises if the run failed."""
-        self.how.check_keys(shape)
-        file, is_kept = recording_of(seed, self.how.record), self.how.record is not None
-        try:
-            trouble, pending = Run(self.make, self.how, shape, seed, file).ended()
-            overlapped, refused = self.by.judged(file)
-            is_kept = bool(is_kept or trouble or refused)
-        finally:
-            if not is_kept:
-                file.unlink()
+        its = self.outcome(seed, shape)
         calls = shape.threads * shape.sets * shape.calls
-        self.calls, self.overlapped = self.calls + calls, self.overlapped + overlapped
-        if trouble or refused:
-            said = UNDER_WAY % (trouble, self.shown(pending, shape), refused or EXPLAINED) if trouble else refused
-            key = key_in(refused)
-            where = (MADE_HARDER if shape != self.how.shape_of(seed) else "") + self.passed_before(seed) + self.key_line(key, shape), file, self.alone(file, key), self.by
-            raise (CutShort if trouble else NotLinearizable)(seed, said, file, FAILED_RUN % (said, seed, shape.name, shape.threads, *where))
-        return is_few(overlapped, calls)
+        self.calls, self.overlapped = self.calls + calls, self.overlapped + its.overlapped
+        if its.trouble:
+            said = UNDER_WAY % (its.trouble, self.shown(its.pending, shape), its.refused or EXPLAINED)
+            raise CutShort(seed, said, its.file, self.told(its, said, "", seed))
+        if its.refused:
+            best, refused_of = self.clearest(its)
+            raise NotLinearizable(best.seed, best.refused, best.file, self.told(best, best.refused, refused_of, seed))
+        return is_few(its.overlapped, calls)
+
+    def outcome(self, seed: int, shape: Shape, until: float = math.inf) -> Outcome:
+        """Performs a run and judges it. Keeps the recording if the run failed. At the time `until`, the run is cut short."""
+        self.how.check_keys(shape)
+        file, is_failed = recording_of(seed, self.how.record), False
+        try:
+            trouble, pending = Run(self.make, self.how, shape, seed, file, until).ended()
+            overlapped, refused = self.by.judged(file)
+            is_failed = bool(trouble or refused)
+        finally:
+            if not is_failed:
+                self.drop(file)
+        return Outcome(seed, shape, file, overlapped, refused, trouble, pending)
+
+    def drop(self, file: pathlib.Path) -> None:
+        """Deletes a recording, unless the recordings of all runs are kept."""
+        if self.how.record is None:
+            file.unlink()
+
+    def clearest(self, first: Outcome) -> tuple[Outcome, str]:
+        """Performs further runs like a refused run, with later seeds of the same preset, until one cannot be completed.
+        Returns the run whose refusal states the most contradictions, and the part of the message that counts the refused runs.
+        """
+        if self.how.is_replay() or not self.how.has_own_process():
+            return first, ""
+        best, refused, runs = first, 1, 1
+        end = min(self.until, time.monotonic() + min(10 * FURTHER_FOR, self.how.seconds, self.how.within) / 10)
+        while runs <= FURTHER and time.monotonic() < end and (its := self.further(first.seed + runs * len(PRESETS), first.shape, end)):
+            runs += 1
+            refused += bool(its.refused)
+            is_better = contradictions_in(its.refused) > contradictions_in(best.refused)
+            best, other = (its, best) if is_better else (best, its)
+            if other.refused:
+                self.drop(other.file)
+        return best, REFUSED_OF % (refused, runs) if runs > 1 else ""
+
+    def further(self, seed: int, shape: Shape, until: float) -> Outcome | None:
+        """Performs a run with the sizes of a refused run. Returns None if the run is cut short or cannot be judged."""
+        try:
+            its = self.outcome(seed, shape, until)
+        except NoVerdict:
+            return None
+        if its.trouble:
+            self.drop(its.file)
+        return None if its.trouble else its
+
+    def told(self, its: Outcome, said: str, refused_of: str, first: int) -> str:
+        """Returns the complete message about a failed run. `first` is the seed of the first failed run."""
+        key, harder = key_in(its.refused), MADE_HARDER if its.shape != self.how.shape_of(its.seed) else ""
+        notes = harder + refused_of + self.passed_before(first) + self.key_line(key, its.shape)
+        return FAILED_RUN % (said, its.seed, its.shape.name, its.shape.threads, notes, its.file, self.alone(its.file, key), self.by)
 
     def passed_before(self, seed: int) -> str:
         """Returns the part of the message that names the presets of the earlier runs, which all passed."""
@@ -386,6 +447,12 @@ def key_in(refused: str) -> str:
     return found[1] if found else ""
 
 
+def contradictions_in(refused: str) -> int:
+    """Returns how many contradictions a refusal states, or 0 if it states no number."""
+    found = CONTRADICTIONS.search(refused)
+    return int(found[1]) if found else 0
+
+
 # ---- a run and its recording
 
 
@@ -400,8 +467,8 @@ class Run:
     SAVED = struct.Struct("=QI")  # the length of the file, and the moment when the last call in the file began
     AT = 1000  # the offset of the run's progress in the memory; the error precedes it
 
-    def __init__(self, make, how, shape, seed, file):
-        self.make, self.how, self.shape, self.seed, self.file = make, how, shape, seed, file
+    def __init__(self, make, how, shape, seed, file, until):
+        self.make, self.how, self.shape, self.seed, self.file, self.until = make, how, shape, seed, file, until
         self.tickets, self.there = itertools.count(1), threading.Barrier(shape.threads + 1)
         self.most = min(shape.calls, PART // shape.threads)  # the maximum number of calls of a thread in a part, between two saves
         self.parts = -(-shape.calls // self.most)  # the number of parts into which the calls on each set are divided
@@ -432,8 +499,7 @@ class Run:
         """Performs the run. Returns the reason if the run was cut short, and the pending calls. Both are empty if the run
         was completed. If the run was cut short, writes the last calls to the file.
         """
-        is_own = self.how.own_process and hasattr(os, "fork") and threading.active_count() == 1
-        trouble = self.made_in_child() if is_own else self.made_here()
+        trouble = self.made_in_child() if self.how.has_own_process() else self.made_here()
         why = self.slots[: self.AT].rstrip(b"\0").decode(errors="replace")
         if self.slots[self.AT] == UNMADE:
             raise NoVerdict(why)
@@ -485,8 +551,9 @@ class Run:
             self.there.abort()
 
     def comes_to_end(self, is_done):
-        """Waits until `is_done` returns true. Returns False if no call begins or ends for `seconds` seconds. A wait counts as
-        at most twice its length, so that a run that gets no processor for a long time does not count as hung.
+        """Waits until `is_done` returns true. Returns False at the time `until`, or if no call begins or ends for `seconds`
+        seconds. A wait counts as at most twice its length, so that a run that gets no processor for a long time does not
+        count as hung.
         """
         seen, last, wait, waited = None, time.monotonic(), 0.0005, 0.0
         while not is_done():
@@ -495,7 +562,7 @@ class Run:
             last, wait = time.monotonic(), min(2 * wait, 0.02)
             if (now := self.slots[self.AT : self.at_slots]) != seen:
                 seen, waited = now, 0.0
-            if waited > self.how.seconds:
+            if waited > self.how.seconds or last > self.until:
                 return False
         return True
 

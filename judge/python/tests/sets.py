@@ -31,10 +31,14 @@ class Right:
 
 
 class Named(Right):
-    """A correct set, except for the error that its name states."""
+    """A correct set, except for the error that its name states. `E later` is the error E if the file `judged` exists, else
+    `finds all`.
+    """
 
     def __init__(self, name):
         super().__init__()
+        if name.endswith(" later"):
+            name = name.removesuffix(" later") if os.path.exists("judged") else "finds all"
         self.name, self.calls, self.parts = name, 0, {}
         if name == "opens":
             self.keys = {1, 3}
