@@ -359,7 +359,8 @@ def refusing(form):
 @each(LANGUAGES)
 def test_a_refusal_is_passed_on_unchanged(form):
     kind, said = form.told(refusing(form), "right", FEW, LISTSET_RECORD=str(form.room / "kept"))
-    assert kind == "refused" and f"verdict: refused\n{REFUSED}\nseed 1 (few keys), 4 threads; recorded in {form.room / 'kept'}/listset-seed-1-" in said, said
+    line = re.search(r"\nseed 1 \(few keys\), 4 threads(?:; refused: ([2-5]) of \1 runs like this)?; recorded in (.*?)/listset-seed-1-", said)
+    assert kind == "refused" and f"verdict: refused\n{REFUSED}\nseed 1 " in said and line[2] == str(form.room / "kept"), said
     kept = sorted((form.room / "kept").iterdir())  # (the recordings of the key and of the run)
     assert len(kept) == 2 and form.left() == [] and f", the calls that show it in {kept[0]}; judge: " in said
     assert kept[0].read_text() == "listset-calls 1\n# 1\n" and kept[1].read_text().count("\ncall ") == 1000
@@ -378,13 +379,78 @@ case $1 in judge) ;; *) exec '%program' "$@" ;; esac
 def test_a_refusal_names_the_presets_that_passed_before(form, program):
     script = REFUSES_THIRD.replace("%program", str(program)).replace("%room", str(form.room)).replace("%refuses", str(refusing(form)))
     kind, said = form.told(form.script("third", script), "right", "threads=4 calls=250 runs=3", LISTSET_RECORD=str(form.room / "kept"))
-    assert kind == "refused" and "\nseed 3 (multiples of 64), 4 threads; passed before: few keys, fresh sets; recorded in " in said, said
+    assert kind == "refused" and re.search(r"\nseed 3 \(multiples of 64\), 4 threads(?:; refused: .*)?; passed before: few keys, fresh sets; recorded in ", said), said
 
 
 @each(LANGUAGES)
 def test_recordings_of_runs_that_pass_are_not_kept(form, program):
     assert form.told(program, "right", FEW, LISTSET_RECORD=str(form.room / "kept"))[0] == "ok"
     assert list((form.room / "kept").iterdir()) == []
+
+
+# ---- Further runs after a refusal
+
+
+# Refuses every recording but the third, and states 3, 9, none, 9 and 5 contradictions.
+REFUSES_MORE = """#!/bin/sh
+case $1 in judge) ;; *) exit 0 ;; esac
+[ "$2" != --only ] || exit 1
+echo >> '%room/judged'
+set -- 3 9 ok 9 5
+shift $(($(wc -l < '%room/judged') - 1))
+[ $1 != ok ] || { echo ok 1000 calls; echo 900 of them overlap; exit 0; }
+printf 'not linearizable\nno order explains the calls of key 1 up to moment 7\ncontradiction: none\n\nat least %s contradictions\n' $1
+exit 1
+"""
+
+
+@each(LANGUAGES)
+def test_the_run_with_the_most_contradictions_is_printed(form):
+    judge = form.script("more", REFUSES_MORE.replace("%room", str(form.room)))
+    kind, said = form.told(judge, "right", "threads=4 calls=250", LISTSET_RECORD=str(form.room / "kept"))
+    line = re.search(r"\nseed 8 \(few keys\), 4 threads; refused: ([1-4]) of ([2-5]) runs like this; recorded in ([^,;]*/listset-seed-8-[^,;]*); judge: ", said)
+    assert kind == "refused" and "\nat least 9 contradictions\n" in said and line, said
+    runs = int(line[2])  # (on a busy machine, there can be less time than for four further runs)
+    assert int(line[1]) == (runs if runs < 3 else runs - 1)
+    assert [*(form.room / "kept").iterdir()] == [pathlib.Path(line[3])] and form.left() == []
+
+
+@each(LANGUAGES)
+def test_further_runs_have_the_preset_of_the_refused_run(form, program):
+    kind, said = form.told(program, "again", f"threads=4 calls=500 keys=4 record={form.room / 'all'}")
+    line = re.search(r"\nseed ([0-9]+) \(few keys\), 4 threads(?:; refused: ([0-9]) of ([0-9]) runs like this)?; recorded in ([^,;]*/seed-([0-9]+)\.calls)", said)
+    assert kind == "refused" and line and line[1] == line[5] in ("1", "8", "15", "22", "29"), said
+    recordings = {it: it.read_text() for it in (form.room / "all").glob("seed-*[0-9].calls")}
+    judged = {it: ran(program, "judge", it).stdout for it, text in recordings.items() if not text.endswith("cut\n")}
+    counts = {it: int(re.search("([0-9]+) (?:contradiction|of its )", said)[1]) for it, said in judged.items() if said.startswith("not")}
+    assert counts[pathlib.Path(line[4])] == max(counts.values()), said
+    assert (int(line[2] or 1), int(line[3] or 1)) == (len(counts), len(judged)), said
+
+
+@each(LANGUAGES)
+def test_a_replay_and_a_test_without_its_own_process_make_no_further_run(form, program):
+    for how, also in (("", {"LISTSET_SEED": "8"}), ("seed=8", {}), ("seed=8", {"LISTSET_SEED": "8"})):
+        kind, said = form.told(program, "finds all", f"threads=4 calls=250 {how}", **also)
+        assert kind == "refused" and re.search(r"\nseed 8 \(few keys\), 4 threads; recorded in ", said), said
+    kind, said = form.told(program, "finds all", "threads=4 calls=250 own_process=0")
+    assert kind == "refused" and re.search(r"\nseed 1 \(few keys\), 4 threads; recorded in ", said), said
+
+
+# The set `W later` finds all keys in the first run, and does W in later runs, when the file `judged` exists.
+JUDGES = """#!/bin/sh
+[ "$1" != judge ] || echo >> '%room/judged'
+exec '%program' "$@"
+"""
+
+
+@each(LANGUAGES)
+@pytest.mark.parametrize("of", ["crashes", "hangs", "throws", "not made"])
+def test_a_further_run_that_fails_does_not_hide_the_refusal(form, program, of):
+    judge = form.script("judges", JUDGES.replace("%room", str(form.room)).replace("%program", str(program)))
+    kind, said = form.told(judge, f"{of} later", "threads=4 calls=250 keys=4", LISTSET_RECORD=str(form.room / "kept"))
+    line = re.search(r"\nseed 1 \(few keys\), 4 threads; recorded in ([^,;]*/listset-seed-1-[^,;]*)[,;]", said)
+    assert kind == "refused" and line, said
+    assert {it.name.partition("-key-")[0].removesuffix(".calls") for it in (form.room / "kept").iterdir()} == {pathlib.Path(line[1]).stem} and form.left() == [], said
 
 
 # ---- Tests of how a judge is found

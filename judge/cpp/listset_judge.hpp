@@ -87,7 +87,8 @@ struct options {
     unsigned pauses = 20;
     /// The number of runs: 1 to 1,000,000. A run calls one set, or several new sets one after another.
     unsigned runs = 20;
-    /// The random seed for the calls, keys and pauses of the first run. Each later run uses the next seed.
+    /// The random seed for the calls, keys and pauses of the first run. Each later run uses the next seed. If the first seed
+    /// is not 1, no further runs follow a refusal.
     unsigned seed = 1;
     /// If no call begins or ends for this many seconds, a run is considered hung and is cut short: 1 to 3,600.
     unsigned seconds = 30;
@@ -138,6 +139,8 @@ struct no_verdict : std::runtime_error {
 
 namespace judging {
 
+using clock = std::chrono::steady_clock;
+
 // The sizes of a run: the number of threads, of new sets used one after another, of calls per thread and set, and of
 // keys. The keys are the multiples of `times`. Threads wait for each other after every MEET calls or, if `meets_once`,
 // only at the beginning.
@@ -152,12 +155,12 @@ struct range {
     uint64_t least, most;
 };
 
-// LONGEST is a number of polls, PART and MEET are numbers of calls, PATIENCE is in seconds, ALERT in
+// LONGEST is a number of polls, PART and MEET are numbers of calls, PATIENCE and FURTHER_FOR are in seconds, ALERT in
 // microseconds, and SOON in nanoseconds.
 // The lines below are made of words.json by judge/make_words.
 constexpr shape PRESETS[] = {{"few keys", 4, 1, 5000, 4, 1}, {"fresh sets", 4, 40, 10, 4, 1}, {"multiples of 64", 4, 1, 5000, 8, 64}, {"one key", 3, 1, 5000, 1, 1}, {"sets that grow", 4, 20, 125, 64, 1}, {"many keys", 4, 1, 2500, 1000, 1}, {"multiples of 1,000", 8, 1, 2500, 8, 1000}};
 constexpr range RANGES[] = {{"threads", 1, 64}, {"threads times calls", 1, 1000000000}, {"keys", 1, 1048576}, {"pauses", 0, 100}, {"runs", 1, 1000000}, {"seconds", 1, 3600}, {"within", 1, 604800}, {"at_least", 0, 100}, {"the sum of shares", 1, 1000000}};
-constexpr unsigned PART = 20000, LONGEST = 100, HOT = 4, ENOUGH = 5, HARDER = 2, PATIENCE = 10, MEET = 250, AWAKE = 300000, WITHIN = 60, STOPS = 128, AGAIN = 4, PATIENT = 40, MANY = 40, SOON = 4000, ALERT = 500, TRIES = 60, NEAR = 128;
+constexpr unsigned PART = 20000, LONGEST = 100, HOT = 4, ENOUGH = 5, HARDER = 2, PATIENCE = 10, MEET = 250, AWAKE = 300000, WITHIN = 60, STOPS = 128, AGAIN = 4, PATIENT = 40, MANY = 40, SOON = 4000, ALERT = 500, TRIES = 60, NEAR = 128, FURTHER = 4, FURTHER_FOR = 2;
 constexpr const char *OK = "ok: %s calls, and %s of them overlapped a change of their key";
 constexpr const char *FEW = "few calls overlapped, so ok means little: %s calls, and %s of them overlapped a change of their key";
 constexpr const char *TOO_FEW = "too few calls overlapped: %s of %s calls overlapped a change of their key, and at_least requires %s of 100. Use fewer keys, more threads, or a less busy machine";
@@ -173,6 +176,7 @@ constexpr const char *NO_OPENING = "contains of an opening key had no known outc
 constexpr const char *UNDER_WAY = "%s\npending:%s\nbefore that: %s";
 constexpr const char *EXPLAINED = "some order explains the calls";
 constexpr const char *PASSED_BEFORE = "; passed before: %s";
+constexpr const char *REFUSED_OF = "; refused: %s of %s runs like this";
 constexpr const char *PENDING_CALL = "\n  thread %s: %s %s%s, begun at moment %s";
 constexpr const char *IS_KEY = " (key %s of the recording)";
 constexpr const char *KEY_IS = "; key %s of the recording is %s";
@@ -500,7 +504,6 @@ struct partners {
         unsigned mine = thread + 1, other = run.alert;
         if (other != 0) return run.alert.compare_exchange_strong(other, 0);
         if (!run.alert.compare_exchange_strong(other, mine)) return false;
-        using clock = std::chrono::steady_clock;
         for (const auto until = clock::now() + std::chrono::microseconds(ALERT); clock::now() < until;)
             for (unsigned looks = 0; looks < LONGEST; looks++)
                 if (run.alert != mine) return true;
@@ -667,10 +670,10 @@ template <class Make, class K> struct maker {
     }
 };
 
-// Waits until `is_done` returns true. Returns false if no call begins or ends for `seconds` seconds. The time between two
-// polls counts as at most five milliseconds, so that a run that gets no processor for a long time does not count as hung.
-template <class Done> bool comes_to_end(const area &run, unsigned seconds, Done is_done) {
-    using clock = std::chrono::steady_clock;
+// Waits until `is_done` returns true. Returns false at the time `until`, or if no call begins or ends for `seconds` seconds.
+// The time between two polls counts as at most five milliseconds, so that a run that gets no processor for a long time does
+// not count as hung.
+template <class Done> bool comes_to_end(const area &run, unsigned seconds, clock::time_point until, Done is_done) {
     unsigned seen = run.tickets;
     clock::duration waited{};
     for (auto last = clock::now(); !is_done(); std::this_thread::sleep_for(std::chrono::microseconds(300))) {
@@ -678,7 +681,7 @@ template <class Done> bool comes_to_end(const area &run, unsigned seconds, Done 
         waited = run.tickets == seen ? waited + std::min<clock::duration>(now - last, std::chrono::milliseconds(5)) : clock::duration();
         seen = run.tickets;
         last = now;
-        if (waited > std::chrono::seconds(seconds)) return false;
+        if (waited > std::chrono::seconds(seconds) || now > until) return false;
     }
     return true;
 }
@@ -692,7 +695,7 @@ inline bool is_alone() {
 }
 
 // Performs a run in a child process. Returns the reason if the run was cut short, otherwise an empty string.
-template <class Maker> std::string made_in_child(Maker &by, area &run) {
+template <class Maker> std::string made_in_child(Maker &by, area &run, clock::time_point until) {
     const pid_t process = fork();
     if (process < 0) throw no_verdict(say(NO_PROCESS, strerror(errno)));
     if (process == 0) {
@@ -703,7 +706,7 @@ template <class Maker> std::string made_in_child(Maker &by, area &run) {
         _exit(0);
     }
     int status = 0;
-    if (!comes_to_end(run, by.how.seconds, [&] { return waitpid(process, &status, WNOHANG) == process; })) {
+    if (!comes_to_end(run, by.how.seconds, until, [&] { return waitpid(process, &status, WNOHANG) == process; })) {
         kill(process, SIGKILL);
         waitpid(process, nullptr, 0);
         return say(HUNG, by.how.seconds);
@@ -721,7 +724,7 @@ template <class Maker> std::string made_here(std::shared_ptr<Maker> by, std::sha
         by->all(*run, false);
         *is_over = true;
     });
-    if (comes_to_end(*run, by->how.seconds, [&] { return is_over->load(); })) {
+    if (comes_to_end(*run, by->how.seconds, clock::time_point::max(), [&] { return is_over->load(); })) {
         leader.join();
         return "";
     }
@@ -836,6 +839,16 @@ inline std::string key_in(const std::string &refused) {
     return key;
 }
 
+// Returns how many contradictions a refusal states, or 0 if it states no number.
+inline uint64_t contradictions_in(const std::string &refused) {
+    std::istringstream words(refused);
+    for (std::string before, last, word; std::getline(words, word, ' '); before = last, last = word) {
+        if (last == "of" && word == "its") return std::strtoull(before.c_str(), nullptr, 10);
+        if (word.rfind("contradiction", 0) == 0 && std::isdigit(static_cast<unsigned char>(last[0]))) return std::strtoull(last.c_str(), nullptr, 10);
+    }
+    return 0;
+}
+
 // ---- a test: a sequence of runs
 
 // The file with the recording of a run, which grows during the run. It is deleted at the end unless it is kept.
@@ -870,8 +883,17 @@ inline std::vector<const slot *> cut(const area &run, const std::string &path, c
 
 struct outcome {
     uint64_t seed = 0, calls = 0, overlapped = 0;
-    std::string said = "", file = "", text = "";  // for a failed run: the judge's output, the recording, and the complete message
+    shape of = {};
+    std::string said = "", key = "";  // for a failed run: the judge's output, and the key that it names
+    bool is_cut_short = false;
+    std::shared_ptr<recording> text = nullptr;
 };
+
+// Returns whether a test repeats a run: its seed is from LISTSET_SEED, or the option `seed` is not 1.
+inline bool is_replay(const options &how) {
+    const auto is_set = [](const char *variable) { return std::getenv(variable) && *std::getenv(variable); };
+    return is_set("LISTSET_SEED") || (how.seed != options().seed && !is_set("LISTSET_SECONDS"));
+}
 
 struct number {
     unsigned operator()(unsigned it) const { return it; }
@@ -966,23 +988,50 @@ template <class Make, class Key> struct tester {
         return it.threads == first.threads && it.calls == first.calls && it.keys == first.keys ? "" : MADE_HARDER;
     }
 
-    outcome judged_run(uint64_t seed, const shape &it) const {
+    bool has_own_process() const { return how.own_process && is_alone(); }
+
+    // Performs a run and judges it. If the set has its own process, the run is cut short at the time `until`.
+    outcome judged_run(uint64_t seed, const shape &it, clock::time_point until = clock::time_point::max()) const {
         const auto run = area::made(it, seed);
-        recording text(how, seed);
-        const auto by_maker = std::make_shared<maker<Make, K>>(how, keys_of(it), make, text.path);
-        std::string trouble = how.own_process && is_alone() ? made_in_child(*by_maker, *run) : made_here(by_maker, run);
+        const auto text = std::make_shared<recording>(how, seed);
+        const auto by_maker = std::make_shared<maker<Make, K>>(how, keys_of(it), make, text->path);
+        std::string trouble = has_own_process() ? made_in_child(*by_maker, *run, until) : made_here(by_maker, run);
         if (run->at == UNMADE) throw no_verdict(run->why);
         if (run->at == FAILED) trouble = run->why;
-        const std::string under_way = trouble.empty() ? "" : pending(cut(*run, text.path, trouble), it, by_maker->keys);
-        const auto [refused, overlapped] = judged(by, text.path);
-        outcome found{seed, uint64_t(it.threads) * it.sets * it.calls, overlapped};
+        const std::string under_way = trouble.empty() ? "" : pending(cut(*run, text->path, trouble), it, by_maker->keys);
+        const auto [refused, overlapped] = judged(by, text->path);
+        outcome found{seed, uint64_t(it.threads) * it.sets * it.calls, overlapped, it};
         if (trouble.empty() && refused.empty()) return found;
-        text.is_kept = true;
-        const std::string number = key_in(refused), name = key_line(number, it, by_maker->keys);
         found.said = trouble.empty() ? refused : say(UNDER_WAY, trouble, under_way, refused.empty() ? EXPLAINED : refused);
-        found.file = text.path;
-        found.text = say(FAILED_RUN, found.said, seed, it.name, it.threads, made_harder(seed, it) + passed_before(seed) + name, text.path, alone(text.path, number), by.name + ", " + by.proof);
+        found.key = key_in(refused), found.is_cut_short = !trouble.empty(), found.text = text;
         return found;
+    }
+
+    // Performs a run with the sizes of a refused run. Returns no value if the run is cut short or cannot be judged.
+    std::optional<outcome> further_run(uint64_t seed, const shape &it, clock::time_point until) const {
+        try {
+            outcome found = judged_run(seed, it, until);
+            return found.is_cut_short ? std::nullopt : std::optional(found);
+        } catch (const no_verdict &) {
+            return std::nullopt;
+        }
+    }
+
+    // Performs further runs like a refused run, with later seeds of the same preset, until one cannot be completed. Returns
+    // the run whose refusal states the most contradictions, and the part of the message that counts the refused runs.
+    std::pair<outcome, std::string> clearest(const outcome &first, clock::time_point until) const {
+        if (is_replay(how) || !has_own_process()) return {first, ""};
+        outcome best = first;
+        unsigned refused = 1, runs = 1;
+        const auto end = std::min(until, clock::now() + std::chrono::milliseconds(100) * std::min({10 * FURTHER_FOR, how.seconds, how.within}));
+        while (runs <= FURTHER && clock::now() < end) {
+            const auto next = further_run(first.seed + runs * std::size(PRESETS), first.of, end);
+            if (!next) break;
+            runs++;
+            if (!next->said.empty()) refused++;
+            if (contradictions_in(next->said) > contradictions_in(best.said)) best = *next;
+        }
+        return {best, runs > 1 ? say(REFUSED_OF, refused, runs) : ""};
     }
 
     // Writes calls on one key that no order explains to a small file beside the recording. Returns the part of the
@@ -993,7 +1042,6 @@ template <class Make, class Key> struct tester {
     }
 
     verdict all() const {
-        using clock = std::chrono::steady_clock;
         verdict all;
         all.judge = by.name + ", " + by.proof;
         const auto until = clock::now() + std::chrono::seconds(how.within), patience = clock::now() + std::chrono::seconds(PATIENCE);
@@ -1011,8 +1059,16 @@ template <class Make, class Key> struct tester {
         }
         const auto end = std::min(until, clock::now() + std::chrono::seconds(PATIENCE));
         for (; found.said.empty() && is_few(all.overlapped, all.calls) && clock::now() < end; seed++) run(seed, harder(harder(shape_of(seed))));
-        if (found.said.empty()) return passed(all);
-        all.ok = false, all.seed = found.seed, all.said = found.said, all.file = found.file, all.text = found.text;
+        return found.said.empty() ? passed(all) : failed(all, found, until);
+    }
+
+    // Returns the verdict after a failed run. Further runs end at the time `until`.
+    verdict failed(verdict all, const outcome &first, clock::time_point until) const {
+        const auto [found, refused_of] = first.is_cut_short ? std::pair(first, std::string()) : clearest(first, until);
+        found.text->is_kept = true;
+        const std::string notes = made_harder(found.seed, found.of) + refused_of + passed_before(first.seed) + key_line(found.key, found.of, keys_of(found.of));
+        all.ok = false, all.seed = found.seed, all.said = found.said, all.file = found.text->path;
+        all.text = say(FAILED_RUN, found.said, found.seed, found.of.name, found.of.threads, notes, all.file, alone(all.file, found.key), all.judge);
         return all;
     }
 

@@ -20,10 +20,17 @@ struct AddsOnly {
     size_t count(unsigned key) { std::lock_guard held(lock); return keys.count(key); }
 };
 
-// A correct set, except for the error that the variable SET names.
+// Returns the error that the variable SET names. `E later` is the error E if the file `judged` exists, else `finds all`.
+std::string error() {
+    const std::string name = std::getenv("SET");
+    const size_t later = name.rfind(" later");
+    return later == std::string::npos ? name : std::ifstream("judged") ? name.substr(0, later) : "finds all";
+}
+
+// A correct set, except for the error that `error` names.
 struct Set : Right<unsigned> {
     using right = Right<unsigned>;
-    const std::string is = std::getenv("SET");
+    const std::string is = error();
     std::atomic<unsigned> calls{0};
     std::atomic<right *> parts[8192]{};
 
