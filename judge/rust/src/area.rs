@@ -233,8 +233,8 @@ impl Area {
 
     /// Waits until a run has ended. Returns the reason if the run was cut short. `ended` returns how the process that
     /// performs the run has ended, or `None` while that process runs.
-    pub fn watch(&self, ended: &dyn Fn() -> Option<String>) -> Result<Option<String>, Failure> {
-        let trouble = self.end(ended);
+    pub fn watch(&self, until: Option<Instant>, ended: &dyn Fn() -> Option<String>) -> Result<Option<String>, Failure> {
+        let trouble = self.end(until, ended);
         let phase = self.get(At::Phase);
         match if phase >= FAILED { Some(self.text(WHY)) } else { trouble } {
             Some(why) if phase == UNMADE => no_verdict(why),
@@ -243,10 +243,10 @@ impl Area {
         }
     }
 
-    /// Waits until the run is over, its process has ended, or no call has begun or ended for `seconds` seconds. Returns the
-    /// error, if any. The time between two polls counts as at most five milliseconds, so that a run that gets no processor for a
-    /// long time does not count as hung.
-    fn end(&self, ended: &dyn Fn() -> Option<String>) -> Option<String> {
+    /// Waits until the run is over, its process has ended, no call has begun or ended for `seconds` seconds, or it is
+    /// `until`. Returns the error, if any. The time between two polls counts as at most five milliseconds, so that a run that
+    /// gets no processor for a long time does not count as hung.
+    fn end(&self, until: Option<Instant>, ended: &dyn Fn() -> Option<String>) -> Option<String> {
         let (mut seen, mut last, mut waited) = (self.get(At::Tickets), Instant::now(), Duration::ZERO);
         while self.get(At::Phase) < OVER {
             if let Some(why) = ended() {
@@ -257,7 +257,7 @@ impl Area {
             if self.get(At::Tickets) != seen {
                 (seen, waited) = (self.get(At::Tickets), Duration::ZERO);
             }
-            if waited > Duration::from_secs(self.options.seconds.into()) {
+            if waited > Duration::from_secs(self.options.seconds.into()) || until.map_or(false, |it| last > it) {
                 return Some(say(HUNG, &[&self.options.seconds]));
             }
             std::thread::sleep(Duration::from_micros(300));

@@ -8,7 +8,7 @@ use std::path::{Path, PathBuf};
 use std::process::{Child, Command, Stdio};
 use std::sync::atomic::{AtomicU32, Ordering::SeqCst};
 use std::sync::Mutex;
-use std::time::Duration;
+use std::time::{Duration, Instant};
 
 use crate::area::Area;
 use crate::memory::Memory;
@@ -71,18 +71,24 @@ impl Runner {
         Ok(Runner { area, child: Some(RefCell::new(child)) })
     }
 
-    /// Performs a run. Returns the reason if the run was cut short.
+    pub fn has_own_process(&self) -> bool {
+        self.child.is_some()
+    }
+
+    /// Performs a run. Returns the reason if the run was cut short. In a child process, the run is cut short at the time
+    /// `until`.
     pub(crate) fn made<S: Sync>(
         &self,
         source: &Source<S>,
         seed: u64,
         of: Shape,
         file: &Path,
+        until: Option<Instant>,
     ) -> Result<Option<String>, Failure> {
         let area = &self.area;
         area.begin(seed, of, file);
         if let Some(child) = &self.child {
-            let trouble = area.watch(&|| trouble_of(&mut child.borrow_mut()))?;
+            let trouble = area.watch(until, &|| trouble_of(&mut child.borrow_mut()))?;
             if trouble.is_some() {
                 self.end_child(); // (otherwise a set that hung could continue while its run is judged)
             }
@@ -90,7 +96,7 @@ impl Runner {
         }
         std::thread::scope(|scope| {
             let watcher = scope.spawn(|| {
-                let done = area.watch(&|| None);
+                let done = area.watch(None, &|| None);
                 area.stop();
                 done
             });

@@ -36,7 +36,7 @@ use std::time::{Duration, Instant, SystemTime, UNIX_EPOCH};
 
 use child::Runner;
 use judges::Judge;
-use recording::Recording;
+use recording::{Fault, Outcome, Recording};
 use words::*;
 
 /// Options of a test. All of them are checked before the first set is created. The runs of a test cycle through seven
@@ -58,7 +58,8 @@ pub struct Options {
     /// The number of runs: 1 to 1,000,000. A run uses one set, or several new sets one after another. Run `i` uses the
     /// seed `seed + i`.
     pub runs: u32,
-    /// The random seed for the calls, keys and pauses of the first run.
+    /// The random seed for the calls, keys and pauses of the first run. If the first seed is not 1, no further runs follow a
+    /// refusal.
     pub seed: u32,
     /// If no call begins or ends for this many seconds, a run is considered hung and is cut short: 1 to 3,600.
     pub seconds: u32,
@@ -197,6 +198,12 @@ impl Options {
         }
         it.seed = number_of("LISTSET_SEED", it.seed, 0, u32::MAX)?;
         Ok(it)
+    }
+
+    /// Returns whether the test repeats a run: its seed is from `LISTSET_SEED`, or the option `seed` is not 1.
+    fn is_replay(&self) -> bool {
+        let is_set = |variable| std::env::var_os(variable).map_or(false, |it| !it.is_empty());
+        is_set("LISTSET_SEED") || self.seed != Options::default().seed && !is_set("LISTSET_SECONDS")
     }
 
     /// Returns the sizes of a run with more overlapping calls: more threads (possibly more than processors), fewer keys and
@@ -412,7 +419,7 @@ fn judged<S: Sync>(source: &Source<S>, options: &Options) -> Result<Verdict, Fai
         }
     };
     let judge = Judge::found()?;
-    Tester { source, options, runner: &runner, judge: &judge }.all()
+    Tester { source, options, runner: &runner, judge: &judge, began: Instant::now() }.all()
 }
 
 /// The state of a test. Judges runs one after another.
@@ -421,13 +428,14 @@ struct Tester<'a, S> {
     options: &'a Options,
     runner: &'a Runner,
     judge: &'a Judge,
+    began: Instant,
 }
 
-impl<S: Sync> Tester<'_, S> {
+impl<'a, S: Sync> Tester<'a, S> {
     /// Performs the requested runs, each up to three times, and then more runs as long as few calls have overlapped.
     fn all(&self) -> Result<Verdict, Failure> {
         let mut verdict = Verdict { calls: 0, overlapped: 0, judge: self.judge.to_string() };
-        let (began, options) = (Instant::now(), self.options);
+        let (began, options) = (self.began, self.options);
         let is_within = |since: Instant, seconds: u32| since.elapsed() < Duration::from_secs(seconds.into());
         let mut run = |seed, shape| -> Result<(bool, bool), Failure> {
             let (overlapped, calls) = (self.judged_run(seed, shape)?, shape.all_calls());
@@ -463,13 +471,50 @@ impl<S: Sync> Tester<'_, S> {
     }
 
     /// Performs a run and judges it. Returns the number of calls that overlapped a call that changed the same key.
-    fn judged_run(&self, seed: u64, mut shape: Shape) -> Result<u64, Failure> {
+    fn judged_run(&self, seed: u64, shape: Shape) -> Result<u64, Failure> {
+        match self.outcome(seed, shape, None)? {
+            Outcome::Passed(overlapped) => Ok(overlapped),
+            Outcome::CutShort(fault) => Err(Failure::CutShort(fault.failed(self.source, seed, ""))),
+            Outcome::Refused(first) => {
+                let (best, refused_of) = self.clearest(first, seed, shape);
+                Err(Failure::NotLinearizable(best.failed(self.source, seed, &refused_of)))
+            }
+        }
+    }
+
+    fn outcome(&self, seed: u64, mut shape: Shape, until: Option<Instant>) -> Result<Outcome<'a>, Failure> {
         if self.source.has_keys {
             shape.times = 1;
         }
         let recording = Recording::new(self.options, shape, seed, self.judge)?;
-        let trouble = self.runner.made(self.source, seed, shape, &recording.path)?;
+        let trouble = self.runner.made(self.source, seed, shape, &recording.path, until)?;
         recording.judged(self.source, &self.runner.area, trouble)
+    }
+
+    /// Performs further runs like a refused run, with later seeds of the same preset, until one cannot be completed. Returns
+    /// the run whose refusal states the most contradictions, and the part of the message that counts the refused runs.
+    fn clearest(&self, first: Fault<'a>, seed: u64, shape: Shape) -> (Fault<'a>, String) {
+        if self.options.is_replay() || !self.runner.has_own_process() {
+            return (first, String::new());
+        }
+        let Options { seconds, within, .. } = *self.options;
+        let left = Duration::from_secs(within.into()).saturating_sub(self.began.elapsed());
+        let end = Instant::now() + left.min(Duration::from_millis(100) * seconds.min(within).min(10 * FURTHER_FOR));
+        let (mut best, mut refused, mut runs) = (first, 1, 1);
+        while runs <= FURTHER && Instant::now() < end {
+            match self.outcome(seed + u64::from(runs) * PRESETS.len() as u64, shape, Some(end)) {
+                Ok(Outcome::Passed(_)) => {}
+                Ok(Outcome::Refused(next)) => {
+                    refused += 1;
+                    if next.contradictions() > best.contradictions() {
+                        best = next;
+                    }
+                }
+                Ok(Outcome::CutShort(_)) | Err(_) => break,
+            }
+            runs += 1;
+        }
+        (best, if runs > 1 { say(REFUSED_OF, &[&refused, &runs]) } else { String::new() })
     }
 }
 

@@ -1,4 +1,4 @@
-//! Judges a recorded run, and writes the message if the run failed.
+//! Judges a recorded run, and writes the message about a failed run.
 use std::fs::File;
 use std::path::PathBuf;
 use std::sync::atomic::AtomicU32;
@@ -12,17 +12,57 @@ use crate::{no_verdict, Failed, Failure, Options, Shape, Source};
 /// The recording file of a run. It grows during the run, and is deleted on drop unless it is kept.
 pub struct Recording<'a> {
     judge: &'a Judge,
+    options: &'a Options,
     shape: Shape,
     seed: u64,
-    /// The part of the message that says whether the run has other sizes than its preset, and that names the presets of
-    /// the earlier runs.
-    notes: String,
     pub path: PathBuf,
     is_kept: bool,
 }
 
+/// The outcome of a run.
+pub enum Outcome<'a> {
+    /// Some order explains the calls. The value is the number of calls that overlapped a call that changed the same
+    /// key.
+    Passed(u64),
+    Refused(Fault<'a>),
+    CutShort(Fault<'a>),
+}
+
+/// A failed run: its recording, the judge's output (preceded by the reason if the run was cut short), and the key that
+/// the judge names. The recording is deleted on drop; `failed` keeps it.
+pub struct Fault<'a> {
+    recording: Recording<'a>,
+    said: String,
+    key: Option<u32>,
+}
+
+impl Fault<'_> {
+    /// Returns how many contradictions the refusal states, or 0 if it states no number.
+    pub fn contradictions(&self) -> u64 {
+        let words: Vec<&str> = self.said.split(' ').collect();
+        let number = words.windows(3).find_map(|it| match it {
+            [number, "of", "its"] => number.parse().ok(),
+            [_, number, word] if word.starts_with("contradiction") => number.parse().ok(),
+            _ => None,
+        });
+        number.unwrap_or(0)
+    }
+
+    /// Returns the failed run with the complete message. `first` is the seed of the first failed run, and `refused_of` is
+    /// the part of the message that counts the refused runs.
+    pub(crate) fn failed<S>(mut self, source: &Source<S>, first: u64, refused_of: &str) -> Failed {
+        let (it, said) = (&mut self.recording, self.said);
+        it.is_kept = true;
+        let Shape { name, threads, .. } = it.shape;
+        let (of_key, alone) = self.key.map_or_else(Default::default, |key| (it.key_line(key, source), it.alone(key)));
+        let notes = it.options.made_harder(it.seed, it.shape) + refused_of + &it.options.passed_before(first) + &of_key;
+        let text = say(FAILED_RUN, &[&said, &it.seed, &name, &threads, &notes, &it.path.display(), &alone, it.judge]);
+        Failed { seed: it.seed, name: name.into(), said, file: it.path.clone(), judge: it.judge.to_string(), text }
+    }
+}
+
 impl<'a> Recording<'a> {
-    pub(crate) fn new(options: &Options, shape: Shape, seed: u64, judge: &'a Judge) -> Result<Recording<'a>, Failure> {
+    pub(crate) fn new(options: &'a Options, shape: Shape, seed: u64, judge: &'a Judge) -> Result<Recording<'a>, Failure> {
         let named = std::env::var_os("LISTSET_RECORD").filter(|it| !it.is_empty()).map(PathBuf::from);
         let is_kept = options.record.is_some();
         let fault = if is_kept {
@@ -35,42 +75,29 @@ impl<'a> Recording<'a> {
         let folder = options.record.clone().or(named).unwrap_or_else(std::env::temp_dir);
         let path = folder.join(name_of(seed, is_kept));
         match std::fs::create_dir_all(&folder).and_then(|()| File::create(&path)) {
-            Ok(_) => Ok(Recording {
-                judge,
-                shape,
-                seed,
-                notes: options.made_harder(seed, shape) + &options.passed_before(seed),
-                path,
-                is_kept,
-            }),
+            Ok(_) => Ok(Recording { judge, options, shape, seed, path, is_kept }),
             Err(_) => no_verdict(say(fault, &[&folder.display()])),
         }
     }
 
-    /// Judges the recording. Returns the number of calls that overlapped a call that changed the same key. If the run was
-    /// cut short, `trouble` is the reason.
-    pub(crate) fn judged<S>(mut self, source: &Source<S>, area: &Area, trouble: Option<String>) -> Result<u64, Failure> {
+    /// Judges the recording. If the run was cut short, `trouble` is the reason.
+    pub(crate) fn judged<S>(self, source: &Source<S>, area: &Area, trouble: Option<String>) -> Result<Outcome<'a>, Failure> {
         let (lines, under_way) = area.lines();
         if trouble.is_some() && area.write(&format!("{lines}cut\n")).is_err() {
             return no_verdict(say(NO_FOLDER, &[&self.path.display()]));
         }
         let (refused, key) = match self.judge.judged(&self.path)? {
-            Judged::Ok { overlapped } if trouble.is_none() => return Ok(overlapped),
+            Judged::Ok { overlapped } if trouble.is_none() => return Ok(Outcome::Passed(overlapped)),
             Judged::Ok { .. } => (EXPLAINED.to_string(), None),
             Judged::Refused(said) => (said.clone(), key_in(&said)),
         };
-        self.is_kept = true;
-        let said = match &trouble {
-            None => refused,
-            Some(trouble) => say(UNDER_WAY, &[trouble, &self.pending(&under_way, source), &refused]),
-        };
-        let Shape { name, threads, .. } = self.shape;
-        let (of_key, alone) = key.map_or_else(Default::default, |it| (self.key_line(it, source), self.alone(it)));
-        let before = self.notes.clone() + &of_key;
-        let text = say(FAILED_RUN, &[&said, &self.seed, &name, &threads, &before, &self.path.display(), &alone, self.judge]);
-        let failed =
-            Failed { seed: self.seed, name: name.into(), said, file: self.path.clone(), judge: self.judge.to_string(), text };
-        Err(if trouble.is_some() { Failure::CutShort(failed) } else { Failure::NotLinearizable(failed) })
+        Ok(match &trouble {
+            None => Outcome::Refused(Fault { recording: self, said: refused, key }),
+            Some(trouble) => {
+                let said = say(UNDER_WAY, &[trouble, &self.pending(&under_way, source), &refused]);
+                Outcome::CutShort(Fault { recording: self, said, key })
+            }
+        })
     }
 
     /// Describes the key that has this number in the recording and, if the run has several sets, the key's set. Returns

@@ -25,7 +25,17 @@ impl<K: Ord + Clone> Right<K> {
     }
 }
 
-/// A correct set, except for the error that the variable SET names.
+/// Returns the error that the variable SET names. `E later` is the error E if the file `judged` exists, else `finds all`.
+fn error() -> String {
+    let name = std::env::var("SET").unwrap();
+    match name.strip_suffix(" later") {
+        Some(error) if std::path::Path::new("judged").exists() => error.to_string(),
+        Some(_) => "finds all".to_string(),
+        None => name,
+    }
+}
+
+/// A correct set, except for the error that `error` names.
 struct Set {
     is: String,
     keys: Right<u32>,
@@ -35,7 +45,7 @@ struct Set {
 
 impl Set {
     fn new() -> Self {
-        let is = std::env::var("SET").unwrap();
+        let is = error();
         assert_ne!(is, "not made", "no room");
         if is == "ends" {
             let time = SystemTime::now().duration_since(UNIX_EPOCH).unwrap().subsec_nanos();
