@@ -49,7 +49,7 @@ type Options struct {
 	Keys          int    // the number of keys: 1 to 1,048,576; 0 selects the preset's number; with more than eight keys, half of the calls use the first four
 	Pauses        int    // how often a goroutine pauses before a call for a few microseconds, in percent: 0 to 100; unless this is 0, goroutines in the set's own process are also stopped during calls
 	Runs          int    // the number of runs: 1 to 1,000,000; a run calls one set, or several new sets one after another
-	Seed          int64  // the random seed for the calls, keys and pauses of the first run; each later run uses the next seed
+	Seed          int64  // the random seed for the calls, keys and pauses of the first run; each later run uses the next seed; if the first seed is not 1, no further runs follow a refusal
 	Seconds       int    // if no call begins or ends for this many seconds, a run is considered hung and is cut short: 1 to 3,600
 	Within        int    // after this many seconds, the test begins no new run: 1 to 604,800
 	AtLeast       int    // the test fails if less than this percentage of the calls overlap a call that adds or removes the same key
@@ -365,12 +365,13 @@ func ofKeys[K comparable, S SetOf[K]](newSet func() S, key func(uint32) K, count
 	return source{func() Set { return keyed[K]{newSet(), keys} }, shown, true}, nil
 }
 
-// tester is the state of a test. It judges runs one after another.
+// tester is the state of a test. It judges runs one after another. No run starts after the time until.
 type tester struct {
 	options Options
 	area    *area
 	caller  caller
 	by      *judgeFound
+	until   time.Time
 }
 
 // endsBefore shortens a test so that it ends before go test stops it: a minute earlier, or after three quarters of the
@@ -427,6 +428,7 @@ func judged(options Options, of func(keys int) (source, error), name string, lim
 func (t *tester) all() (verdict Verdict, err error) {
 	verdict.Judge = t.by.String()
 	began, o := time.Now(), t.options
+	t.until = began.Add(time.Duration(o.Within) * time.Second)
 	run := func(seed int64, s shape) (isFewMet bool) {
 		var met int
 		met, err = t.judgedRun(seed, s)
@@ -474,18 +476,82 @@ func (o Options) passedBefore(seed int64) string {
 // judgedRun performs a run and judges it. It returns the number of calls that overlapped a call that changed the same
 // key.
 func (t *tester) judgedRun(seed int64, s shape) (int, error) {
-	r, err := newRecording(seed, s.name, t.options.Record)
-	if err != nil {
-		return 0, err
+	overlapped, first, err := t.outcome(seed, s, time.Time{})
+	if first == nil {
+		return overlapped, err
 	}
-	defer r.close()
-	r.notes = t.options.madeHarder(seed, s.size) + t.options.passedBefore(seed)
+	best, refusedOf := first, ""
+	if !first.isCutShort {
+		best, refusedOf = t.clearest(first, s)
+	}
+	failed := t.failed(best, s, seed, refusedOf)
+	best.close()
+	if best.isCutShort {
+		return 0, &CutShort{failed}
+	}
+	return 0, &NotLinearizable{failed}
+}
+
+// outcome performs a run and judges it. It returns the number of calls that overlapped a call that changed the same key, or
+// the failed run, whose recording is still open. Unless until is zero, the run is cut short at this time.
+func (t *tester) outcome(seed int64, s shape, until time.Time) (overlapped int, failed *failedRun, err error) {
+	r, err := newRecording(seed, t.options.Record)
+	if err != nil {
+		return 0, nil, err
+	}
+	defer func() {
+		if failed == nil {
+			r.close()
+		}
+	}()
 	if t.area.source.isOwn {
 		s.times = 1
 	}
-	trouble, err := t.area.made(seed, s.size, r.file.Name(), t.caller)
+	trouble, err := t.area.made(seed, s.size, r.file.Name(), t.caller, until)
 	if err != nil {
-		return 0, err
+		return 0, nil, err
 	}
 	return r.judged(t.by, t.area, trouble)
+}
+
+// isReplay returns whether the test repeats a run: its seed is from LISTSET_SEED, or the option Seed is not 1.
+func (o Options) isReplay() bool {
+	return os.Getenv("LISTSET_SEED") != "" || o.Seed != DefaultOptions().Seed && os.Getenv("LISTSET_SECONDS") == ""
+}
+
+// clearest performs further runs like a refused run, with later seeds of the same preset, until one cannot be completed. It
+// returns the run whose refusal states the most contradictions, and the part of the message that counts the refused runs.
+func (t *tester) clearest(first *failedRun, s shape) (*failedRun, string) {
+	if _, isHere := t.caller.(*here); isHere || t.options.isReplay() {
+		return first, ""
+	}
+	tenths := least(10*manyFurtherFor, least(t.options.Seconds, t.options.Within))
+	end := time.Now().Add(time.Duration(tenths) * time.Second / 10)
+	if end.After(t.until) {
+		end = t.until
+	}
+	best, refused, runs := first, 1, 1
+	for runs <= manyFurther && time.Now().Before(end) {
+		_, next, err := t.outcome(first.seed+int64(runs*len(presets)), s, end)
+		if next != nil && next.isCutShort {
+			next.close()
+			break
+		}
+		if err != nil {
+			break
+		}
+		runs++
+		if next == nil {
+			continue
+		}
+		refused++
+		if next.contradictions() > best.contradictions() {
+			best, next = next, best
+		}
+		next.close()
+	}
+	if runs == 1 {
+		return best, ""
+	}
+	return best, fmt.Sprintf(sayRefusedOf, refused, runs)
 }

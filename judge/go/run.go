@@ -155,9 +155,10 @@ func (h *here) stop() { atomic.StoreUint32(&h.isStopping, 1) }
 
 func (h *here) close() { h.stop() }
 
-// made performs the run with this seed. If the run was cut short, trouble is the reason. The time between two polls counts
-// as at most five milliseconds, so that a run that gets no processor for a long time does not count as hung.
-func (a *area) made(seed int64, s size, file string, by caller) (trouble string, err error) {
+// made performs the run with this seed. If the run was cut short, trouble is the reason. Unless until is zero, the run is cut
+// short at this time. The time between two polls counts as at most five milliseconds, so that a run that gets no processor
+// for a long time does not count as hung.
+func (a *area) made(seed int64, s size, file string, by caller, until time.Time) (trouble string, err error) {
 	for i := range a.memory {
 		a.memory[i] = 0
 	}
@@ -175,7 +176,7 @@ func (a *area) made(seed int64, s size, file string, by caller) (trouble string,
 		if now := atomic.LoadUint32(&a.tickets); now != seen {
 			seen, waited = now, 0
 		}
-		if waited > time.Duration(a.options.Seconds)*time.Second {
+		if waited > time.Duration(a.options.Seconds)*time.Second || !until.IsZero() && last.After(until) {
 			trouble = fmt.Sprintf(sayHung, a.options.Seconds)
 		}
 	}

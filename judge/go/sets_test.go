@@ -40,7 +40,20 @@ func (r *right[K]) Contains(key K) bool {
 	return r.keys[key]
 }
 
-// set is a correct set, except for the error that the variable SET names.
+// fault returns the error that the variable SET names. `E later` is the error E if the file `judged` exists, else
+// `finds all`.
+func fault() string {
+	name := os.Getenv("SET")
+	if !strings.HasSuffix(name, " later") {
+		return name
+	}
+	if _, err := os.Stat("judged"); err != nil {
+		return "finds all"
+	}
+	return strings.TrimSuffix(name, " later")
+}
+
+// set is a correct set, except for the error that fault names.
 type set struct {
 	*right[uint32]
 	is    string
@@ -49,7 +62,7 @@ type set struct {
 }
 
 func newSet() *set {
-	made := &set{right: newMySet(), is: os.Getenv("SET")}
+	made := &set{right: newMySet(), is: fault()}
 	if made.is == "opens" {
 		made.keys[1], made.keys[3] = true, true
 	} else if made.is == "not made" {

@@ -15,14 +15,12 @@ import (
 // recording is the file that records the calls of a run. It grows during the run.
 type recording struct {
 	seed   int64
-	name   string
-	notes  string // the parts of the message that say whether the run has other sizes than its preset, and which presets passed before
 	file   *os.File
 	isKept bool
 }
 
-func newRecording(seed int64, name, record string) (*recording, error) {
-	r, folder, fault, err := &recording{seed: seed, name: name, isKept: record != ""}, record, sayNoFolder, error(nil)
+func newRecording(seed int64, record string) (*recording, error) {
+	r, folder, fault, err := &recording{seed: seed, isKept: record != ""}, record, sayNoFolder, error(nil)
 	if r.isKept {
 		if err = os.MkdirAll(folder, 0o777); err == nil {
 			r.file, err = os.Create(filepath.Join(folder, fmt.Sprintf("seed-%d.calls", seed)))
@@ -41,9 +39,17 @@ func newRecording(seed int64, name, record string) (*recording, error) {
 	return r, nil
 }
 
-// judged returns the number of calls that overlapped a call that changed the same key, or the error of the run. If the
-// run was cut short, trouble is the reason.
-func (r *recording) judged(by *judgeFound, a *area, trouble string) (int, error) {
+// failedRun is a failed run: its recording, the judge's output (preceded by the reason if the run was cut short), and the
+// key that the judge names.
+type failedRun struct {
+	*recording
+	said, key  string
+	isCutShort bool
+}
+
+// judged returns the number of calls that overlapped a call that changed the same key, or the failed run. If the run was
+// cut short, trouble is the reason.
+func (r *recording) judged(by *judgeFound, a *area, trouble string) (int, *failedRun, error) {
 	underWay, lines := []slot(nil), ""
 	if trouble != "" {
 		lines, underWay = a.lines()
@@ -53,28 +59,44 @@ func (r *recording) judged(by *judgeFound, a *area, trouble string) (int, error)
 	}
 	overlapped, refused, err := by.judged(r.file)
 	if err != nil || refused == "" && trouble == "" {
-		return overlapped, err
+		return overlapped, nil, err
 	}
-	r.isKept = true
-	said, key := refused, ofKey.FindStringSubmatch(refused)
-	if trouble != "" && refused == "" {
-		said = sayExplained
+	f := &failedRun{r, refused, "", trouble != ""}
+	if key := ofKey.FindStringSubmatch(refused); key != nil {
+		f.key = key[1]
 	}
-	if trouble != "" {
-		said = fmt.Sprintf(sayUnderWay, trouble, pending(a, underWay), said)
+	if f.isCutShort && refused == "" {
+		f.said = sayExplained
 	}
-	named, small := "", ""
-	if key != nil {
-		number, _ := strconv.Atoi(key[1])
-		named, small = keyLine(a, number), r.alone(by, key[1])
+	if f.isCutShort {
+		f.said = fmt.Sprintf(sayUnderWay, trouble, pending(a, underWay), f.said)
 	}
-	text := fmt.Sprintf(sayFailedRun, said, r.seed, r.name, a.threads, r.notes+named, r.file.Name(), small, by)
-	failed := Failed{r.seed, r.name, said, r.file.Name(), by.String(), text}
-	if trouble == "" {
-		return 0, &NotLinearizable{failed}
-	}
-	return 0, &CutShort{failed}
+	return 0, f, nil
 }
+
+// contradictions returns how many contradictions the refusal states, or 0 if it states no number.
+func (f *failedRun) contradictions() (number int) {
+	if found := ofContradictions.FindStringSubmatch(f.said); found != nil {
+		number, _ = strconv.Atoi(found[1])
+	}
+	return number
+}
+
+// failed returns the run with the complete message, and keeps its recording. first is the seed of the first failed run, and
+// refusedOf is the part of the message that counts the refused runs.
+func (t *tester) failed(f *failedRun, s shape, first int64, refusedOf string) Failed {
+	f.isKept = true
+	notes, small := t.options.madeHarder(f.seed, s.size)+refusedOf+t.options.passedBefore(first), ""
+	if f.key != "" {
+		number, _ := strconv.Atoi(f.key)
+		notes, small = notes+keyLine(t.area, number), f.alone(t.by, f.key)
+	}
+	text := fmt.Sprintf(sayFailedRun, f.said, f.seed, s.name, s.threads, notes, f.file.Name(), small, t.by)
+	return Failed{f.seed, s.name, f.said, f.file.Name(), t.by.String(), text}
+}
+
+// ofContradictions matches the number of contradictions in the judge's output.
+var ofContradictions = regexp.MustCompile(`(\d+) (?:contradiction|of its )`)
 
 // ofKey matches the key in the judge's output.
 var ofKey = regexp.MustCompile(`of key (\d+) `)
