@@ -101,6 +101,7 @@ public final class Judge {
     private static final String UNDER_WAY = "%s\npending:%s\nbefore that: %s";
     private static final String EXPLAINED = "some order explains the calls";
     private static final String PASSED_BEFORE = "; passed before: %s";
+    private static final String REFUSED_OF = "; refused: %s of %s runs like this";
     private static final String PENDING_CALL = "\n  thread %s: %s %s%s, begun at moment %s";
     private static final String IS_KEY = " (key %s of the recording)";
     private static final String KEY_IS = "; key %s of the recording is %s";
@@ -161,7 +162,10 @@ public final class Judge {
         /** Sets the number of runs: 1 to 1,000,000. A run calls one set, or several new sets one after another. */
         public Options withRuns(int it) { return with(made -> made.runs = it); }
 
-        /** Sets the random seed for the calls, keys and pauses of the first run. Each later run uses the next seed. */
+        /**
+         * Sets the random seed for the calls, keys and pauses of the first run. Each later run uses the next seed. If the
+         * first seed is not 1, no further runs follow a refusal.
+         */
         public Options withSeed(long it) { return with(made -> made.seed = it); }
 
         /**
@@ -236,6 +240,13 @@ public final class Judge {
             Options it = seconds == 0 ? this : withWithin(seconds).withRuns((int) RANGES[4].most).withSeed(System.currentTimeMillis() / 1000);
             return it.withSeed(numberOf("LISTSET_SEED", it.seed, 0, 0xffff_ffffL));
         }
+
+        /** Returns whether the test repeats a run: its seed is from LISTSET_SEED, or the option for the seed is not 1. */
+        private boolean isReplay() {
+            return isSet("LISTSET_SEED") || seed != new Options().seed && !isSet("LISTSET_SECONDS");
+        }
+
+        private static boolean isSet(String variable) { return !System.getenv().getOrDefault(variable, "").isEmpty(); }
 
         /**
          * Returns the sizes of a run with more overlapping calls: more threads (possibly more than processors), fewer keys
@@ -374,14 +385,14 @@ public final class Judge {
     }
 
     /** The state of a test. Judges runs one after another. */
-    private record Tester<S, K>(Options how, Calls<S, K> calls, Program program, Caller<S, K> caller) {
+    private record Tester<S, K>(Options how, Calls<S, K> calls, Program program, Caller<S, K> caller, long began) {
         static <S, K> Verdict judge(Options how, Calls<S, K> calls) {
             how.check();
             if ("skip".equals(System.getenv("LISTSET"))) return skipped();
             calls.check(how.keys > 0 ? how.keys : Stream.of(PRESETS).mapToInt(Shape::keys).max().getAsInt());
             Program program = Program.found();
             try (Caller<S, K> caller = Caller.of(calls, how)) {
-                return new Tester<>(how.byEnvironment(), calls, program, caller).all();
+                return new Tester<>(how.byEnvironment(), calls, program, caller, System.nanoTime()).all();
             } catch (IOException full) {
                 throw new NoVerdict("the recording cannot be written: ", full);
             }
@@ -389,7 +400,7 @@ public final class Judge {
 
         /** Performs the requested runs, each up to three times, and then more runs as long as few calls have overlapped. */
         private Verdict all() throws IOException {
-            long began = System.nanoTime(), seed = how.seed;
+            long seed = how.seed;
             long[] sums = {0, 0}; // the number of calls, and the number of calls that overlapped
             for (; seed - how.seed < how.runs && (seed == how.seed || isWithin(began, how.within)); seed++) {
                 Shape shape = how.shapeOf(seed);
@@ -417,19 +428,76 @@ public final class Judge {
         /** Performs a run and judges it. Returns the number of calls that overlapped a call that changed the same key. */
         private long judged(long seed, Shape given) throws IOException {
             Shape shape = calls.keys == null ? given : given.withNumbers();
-            try (Recording recording = new Recording(seed, how.record)) {
-                Path file = recording.file;
-                String trouble = caller.made(seed, shape, file), pending = trouble == null ? "" : shown(caller.area.cut(), shape);
-                Judgement judged = program.judged(file);
-                if (trouble == null && judged.refused == null) return judged.overlapped;
-                recording.isKept = true;
+            Outcome first = outcome(seed, shape, Long.MAX_VALUE);
+            if (!first.isFailed()) return first.overlapped;
+            StringBuilder refusedOf = new StringBuilder();
+            Outcome best = first.isCutShort ? first : clearest(first, shape, refusedOf);
+            best.recording.isKept = true;
+            String text = message(best, shape, refusedOf + passedBefore(seed));
+            Path file = best.recording.file;
+            throw best.isCutShort ? new CutShort(best.seed, best.said, file, text) : new NotLinearizable(best.seed, best.said, file, text);
+        }
+
+        /**
+         * Performs a run and judges it. Does not close the recording of a failed run. In a child JVM, the run is cut short
+         * after {@code most} nanoseconds.
+         */
+        private Outcome outcome(long seed, Shape shape, long most) throws IOException {
+            Recording recording = new Recording(seed, how.record);
+            Outcome its = null;
+            try {
+                String trouble = caller.made(seed, shape, recording.file, most), pending = trouble == null ? "" : shown(caller.area.cut(), shape);
+                Judgement judged = program.judged(recording.file);
                 String refused = judged.refused == null ? EXPLAINED : judged.refused;
-                String said = trouble == null ? refused : UNDER_WAY.formatted(trouble, pending, refused);
-                Matcher found = OF_KEY.matcher(refused);
-                String key = found.find() ? found.group(1) : null, named = key == null ? "" : keyLine(Integer.parseInt(key), shape);
-                String text = FAILED_RUN.formatted(said, seed, shape.name, shape.threads, madeHarder(seed, shape) + passedBefore(seed) + named, file, key == null ? "" : alone(file, key), program);
-                throw trouble == null ? new NotLinearizable(seed, said, file, text) : new CutShort(seed, said, file, text);
+                String said = trouble == null ? judged.refused : UNDER_WAY.formatted(trouble, pending, refused);
+                Matcher key = OF_KEY.matcher(refused);
+                return its = new Outcome(seed, judged.overlapped, said, key.find() ? key.group(1) : null, trouble != null, recording);
+            } finally {
+                if (its == null || !its.isFailed()) recording.close();
             }
+        }
+
+        /**
+         * Performs further runs like a refused run, with later seeds of the same preset, until one cannot be completed.
+         * Returns the run whose refusal states the most contradictions, and appends the part of the message that counts
+         * the refused runs.
+         */
+        private Outcome clearest(Outcome first, Shape shape, StringBuilder refusedOf) throws IOException {
+            if (caller.process == null || how.isReplay()) return first;
+            long tenth = SECOND / 10 * Math.min(10 * FURTHER_FOR, Math.min(how.seconds, how.within));
+            long now = System.nanoTime(), most = Math.min(tenth, how.within * SECOND - (now - began));
+            Outcome best = first;
+            int refused = 1, runs = 1;
+            while (runs <= FURTHER && System.nanoTime() - now < most) {
+                Outcome next = furtherRun(first.seed + (long) runs * PRESETS.length, shape, most - (System.nanoTime() - now));
+                if (next == null) break;
+                runs++;
+                if (!next.isFailed()) continue;
+                refused++;
+                Outcome other = next.contradictions() > best.contradictions() ? best : next;
+                best = other == best ? next : best;
+                other.recording.close();
+            }
+            if (runs > 1) refusedOf.append(REFUSED_OF.formatted(refused, runs));
+            return best;
+        }
+
+        /** Performs a run with the sizes of a refused run. Returns null if the run is cut short or cannot be judged. */
+        private Outcome furtherRun(long seed, Shape shape, long most) throws IOException {
+            try {
+                Outcome its = outcome(seed, shape, most);
+                if (its.isCutShort) its.recording.close();
+                return its.isCutShort ? null : its;
+            } catch (NoVerdict none) {
+                return null;
+            }
+        }
+
+        /** Returns the complete message about a failed run. {@code notes} is the part of the message about other runs. */
+        private String message(Outcome its, Shape shape, String notes) throws IOException {
+            Path file = its.recording.file;
+            String named = its.key == null ? "" : keyLine(Integer.parseInt(its.key), shape), alone = its.key == null ? "" : alone(file, its.key);
+            return FAILED_RUN.formatted(its.said, its.seed, shape.name, shape.threads, madeHarder(its.seed, shape) + notes + named, file, alone, program);
         }
 
         /** Returns the part of the message that says whether a run has other sizes than its preset. */
@@ -831,11 +899,14 @@ public final class Judge {
             }
         }
 
-        /** Performs the run with this seed. Returns the reason if the run was cut short, otherwise null. */
-        String made(long seed, Shape of, Path file) {
+        /**
+         * Performs the run with this seed. Returns the reason if the run was cut short, otherwise null. After {@code most}
+         * nanoseconds, the run is cut short.
+         */
+        String made(long seed, Shape of, Path file, long most) {
             area.begin(seed, of, file);
             if (process == null) start(() -> area.callAll(calls, false));
-            String trouble = isHung() ? HUNG.formatted(how.seconds) : area.get(Area.AT) >= Area.OVER ? null : ENDED_SO.formatted(process.exitValue());
+            String trouble = isHung(most) ? HUNG.formatted(how.seconds) : area.get(Area.AT) >= Area.OVER ? null : ENDED_SO.formatted(process.exitValue());
             if (area.get(Area.AT) >= Area.FAILED) trouble = area.text(Area.WHY);
             if (area.get(Area.AT) == Area.UNMADE) throw new NoVerdict(trouble);
             if (trouble != null && area.get(Area.TICKETS) == 0) throw new NoVerdict(NOT_MADE.formatted(trouble));
@@ -844,19 +915,19 @@ public final class Judge {
         }
 
         /**
-         * Waits until the run has ended. Returns true if the run hangs, that is, if no call begins or ends for too long. The
-         * time between two polls counts as at most five milliseconds, so that a run that gets no processor for a long time does
-         * not count as hung.
+         * Waits until the run has ended. Returns true after {@code most} nanoseconds, or if the run hangs, that is, if no
+         * call begins or ends for too long. The time between two polls counts as at most five milliseconds, so that a run
+         * that gets no processor for a long time does not count as hung.
          */
-        private boolean isHung() {
-            long last = System.nanoTime(), waited = 0;
+        private boolean isHung(long most) {
+            long began = System.nanoTime(), last = began, waited = 0;
             for (int seen = -1; area.get(Area.AT) < Area.OVER && (process == null || process.isAlive()); LockSupport.parkNanos(300_000)) {
                 int now = area.get(Area.TICKETS);
                 long time = System.nanoTime();
                 waited = now == seen ? waited + Math.min(time - last, SECOND / 200) : 0;
                 seen = now;
                 last = time;
-                if (waited > how.seconds * SECOND) return true;
+                if (waited > how.seconds * SECOND || time - began > most) return true;
             }
             return false;
         }
@@ -954,6 +1025,22 @@ public final class Judge {
 
         @Override public void close() {
             if (!isKept) file.toFile().delete();
+        }
+    }
+
+    /**
+     * The outcome of a run. If the run failed, {@code said} is the judge's output (preceded by the reason if the run was cut
+     * short), otherwise null. {@code key} is the key that the judge names, or null.
+     */
+    private record Outcome(long seed, long overlapped, String said, String key, boolean isCutShort, Recording recording) {
+        private static final Pattern CONTRADICTIONS = Pattern.compile("([0-9]{1,18}) (?:contradiction|of its )");
+
+        boolean isFailed() { return said != null; }
+
+        /** Returns how many contradictions the refusal states, or 0 if it states no number. */
+        long contradictions() {
+            Matcher found = CONTRADICTIONS.matcher(said);
+            return found.find() ? Long.parseLong(found.group(1)) : 0;
         }
     }
 
