@@ -415,16 +415,24 @@ def test_the_run_with_the_most_contradictions_is_printed(form):
     assert [*(form.room / "kept").iterdir()] == [pathlib.Path(line[3])] and form.left() == []
 
 
+def contradictions_in(said):
+    """Returns how many contradictions a refusal states, or 0 if it states no number."""
+    found = re.search("([0-9]+) (?:contradiction|of its )", said)
+    return int(found[1]) if found else 0
+
+
 @each(LANGUAGES)
 def test_further_runs_have_the_preset_of_the_refused_run(form, program):
     kind, said = form.told(program, "again", f"threads=4 calls=500 keys=4 record={form.room / 'all'}")
     line = re.search(r"\nseed ([0-9]+) \(few keys\), 4 threads(?:; refused: ([0-9]) of ([0-9]) runs like this)?; recorded in ([^,;]*/seed-([0-9]+)\.calls)", said)
     assert kind == "refused" and line and line[1] == line[5] in ("1", "8", "15", "22", "29"), said
-    recordings = {it: it.read_text() for it in (form.room / "all").glob("seed-*[0-9].calls")}
-    judged = {it: ran(program, "judge", it).stdout for it, text in recordings.items() if not text.endswith("cut\n")}
-    counts = {it: int(re.search("([0-9]+) (?:contradiction|of its )", said)[1]) for it, said in judged.items() if said.startswith("not")}
-    assert counts[pathlib.Path(line[4])] == max(counts.values()), said
+    whole = [it for it in (form.room / "all").glob("seed-*") if "-key-" not in it.name and it.read_text().endswith("\nend\n")]
+    judged = {it: ran(program, "judge", it).stdout for it in whole}
+    counts = {it: contradictions_in(said) for it, said in judged.items() if said.startswith("not linearizable\n")}
+    assert counts[pathlib.Path(line[4])] == max(counts.values()) > 0, said
     assert (int(line[2] or 1), int(line[3] or 1)) == (len(counts), len(judged)), said
+    kind, said = form.told(program, "again", "threads=4 calls=500 keys=4", LISTSET_SEED=line[1])
+    assert kind == "refused" and f"\nseed {line[1]} (few keys), 4 threads; recorded in " in said, said
 
 
 @each(LANGUAGES)

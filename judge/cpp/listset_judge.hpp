@@ -1012,7 +1012,7 @@ template <class Make, class Key> struct tester {
         try {
             outcome found = judged_run(seed, it, until);
             return found.is_cut_short ? std::nullopt : std::optional(found);
-        } catch (const no_verdict &) {
+        } catch (const std::exception &) {
             return std::nullopt;
         }
     }

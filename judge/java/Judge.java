@@ -462,7 +462,7 @@ public final class Judge {
          * Returns the run whose refusal states the most contradictions, and appends the part of the message that counts
          * the refused runs.
          */
-        private Outcome clearest(Outcome first, Shape shape, StringBuilder refusedOf) throws IOException {
+        private Outcome clearest(Outcome first, Shape shape, StringBuilder refusedOf) {
             if (caller.process == null || how.isReplay()) return first;
             long tenth = SECOND / 10 * Math.min(10 * FURTHER_FOR, Math.min(how.seconds, how.within));
             long now = System.nanoTime(), most = Math.min(tenth, how.within * SECOND - (now - began));
@@ -483,12 +483,12 @@ public final class Judge {
         }
 
         /** Performs a run with the sizes of a refused run. Returns null if the run is cut short or cannot be judged. */
-        private Outcome furtherRun(long seed, Shape shape, long most) throws IOException {
+        private Outcome furtherRun(long seed, Shape shape, long most) {
             try {
                 Outcome its = outcome(seed, shape, most);
                 if (its.isCutShort) its.recording.close();
                 return its.isCutShort ? null : its;
-            } catch (NoVerdict none) {
+            } catch (NoVerdict | IOException none) {
                 return null;
             }
         }

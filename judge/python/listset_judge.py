@@ -372,7 +372,7 @@ class Tester:
         """Performs a run with the sizes of a refused run. Returns None if the run is cut short or cannot be judged."""
         try:
             its = self.outcome(seed, shape, until)
-        except NoVerdict:
+        except (NoVerdict, OSError):
             return None
         if its.trouble:
             self.drop(its.file)
