@@ -455,7 +455,7 @@ exec '%program' "$@"
 @pytest.mark.parametrize("of", ["crashes", "hangs", "throws", "not made"])
 def test_a_further_run_that_fails_does_not_hide_the_refusal(form, program, of):
     judge = form.script("judges", JUDGES.replace("%room", str(form.room)).replace("%program", str(program)))
-    kind, said = form.told(judge, f"{of} later", "threads=4 calls=250 keys=4", LISTSET_RECORD=str(form.room / "kept"))
+    kind, said = form.told(judge, f"{of} later", "threads=4 calls=250 keys=4 seconds=600", LISTSET_RECORD=str(form.room / "kept"))
     line = re.search(r"\nseed 1 \(few keys\), 4 threads; recorded in ([^,;]*/listset-seed-1-[^,;]*)[,;]", said)
     assert kind == "refused" and line, said
     assert {it.name.partition("-key-")[0].removesuffix(".calls") for it in (form.room / "kept").iterdir()} == {pathlib.Path(line[1]).stem} and form.left() == [], said
