@@ -359,7 +359,7 @@ def refusing(form):
 @each(LANGUAGES)
 def test_a_refusal_is_passed_on_unchanged(form):
     kind, said = form.told(refusing(form), "right", FEW, LISTSET_RECORD=str(form.room / "kept"))
-    line = re.search(r"\nseed 1 \(few keys\), 4 threads(?:; refused: ([2-5]) of \1 runs like this)?; recorded in (.*?)/listset-seed-1-", said)
+    line = re.search(r"\nseed 1 \(few keys\), 4 threads(?:; refused: ([2-5]) of \1 runs, the later ones longer)?; recorded in (.*?)/listset-seed-1-", said)
     assert kind == "refused" and f"verdict: refused\n{REFUSED}\nseed 1 " in said and line[2] == str(form.room / "kept"), said
     kept = sorted((form.room / "kept").iterdir())  # (the recordings of the key and of the run)
     assert len(kept) == 2 and form.left() == [] and f", the calls that show it in {kept[0]}; judge: " in said
@@ -408,7 +408,7 @@ exit 1
 def test_the_run_with_the_most_contradictions_is_printed(form):
     judge = form.script("more", REFUSES_MORE.replace("%room", str(form.room)))
     kind, said = form.told(judge, "right", "threads=4 calls=250", LISTSET_RECORD=str(form.room / "kept"))
-    line = re.search(r"\nseed 8 \(few keys\), 4 threads; refused: ([1-4]) of ([2-5]) runs like this; recorded in ([^,;]*/listset-seed-8-[^,;]*); judge: ", said)
+    line = re.search(r"\nseed 8 \(few keys\), 4 threads; refused: ([1-4]) of ([2-5]) runs, the later ones longer; recorded in ([^,;]*/listset-seed-8-[^,;]*); judge: ", said)
     assert kind == "refused" and "\nat least 9 contradictions\n" in said and line, said
     runs = int(line[2])  # (on a busy machine, there can be less time than for four further runs)
     assert int(line[1]) == (runs if runs < 3 else runs - 1)
@@ -424,7 +424,7 @@ def contradictions_in(said):
 @each(LANGUAGES)
 def test_further_runs_have_the_preset_of_the_refused_run(form, program):
     kind, said = form.told(program, "again", f"threads=4 calls=500 keys=4 record={form.room / 'all'}")
-    line = re.search(r"\nseed ([0-9]+) \(few keys\), 4 threads(?:; refused: ([0-9]) of ([0-9]) runs like this)?; recorded in ([^,;]*/seed-([0-9]+)\.calls)", said)
+    line = re.search(r"\nseed ([0-9]+) \(few keys\), 4 threads(?:; refused: ([0-9]) of ([0-9]) runs, the later ones longer)?; recorded in ([^,;]*/seed-([0-9]+)\.calls)", said)
     assert kind == "refused" and line and line[1] == line[5] in ("1", "8", "15", "22", "29"), said
     whole = [it for it in (form.room / "all").glob("seed-*") if "-key-" not in it.name and it.read_text().endswith("\nend\n")]
     judged = {it: ran(program, "judge", it).stdout for it in whole}

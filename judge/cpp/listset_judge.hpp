@@ -160,7 +160,7 @@ struct range {
 // The lines below are made of words.json by judge/make_words.
 constexpr shape PRESETS[] = {{"few keys", 4, 1, 5000, 4, 1}, {"fresh sets", 4, 40, 10, 4, 1}, {"multiples of 64", 4, 1, 5000, 8, 64}, {"one key", 3, 1, 5000, 1, 1}, {"sets that grow", 4, 20, 125, 64, 1}, {"many keys", 4, 1, 2500, 1000, 1}, {"multiples of 1,000", 8, 1, 2500, 8, 1000}};
 constexpr range RANGES[] = {{"threads", 1, 64}, {"threads times calls", 1, 1000000000}, {"keys", 1, 1048576}, {"pauses", 0, 100}, {"runs", 1, 1000000}, {"seconds", 1, 3600}, {"within", 1, 604800}, {"at_least", 0, 100}, {"the sum of shares", 1, 1000000}};
-constexpr unsigned PART = 20000, LONGEST = 100, HOT = 4, ENOUGH = 5, HARDER = 2, PATIENCE = 10, MEET = 250, AWAKE = 300000, WITHIN = 60, STOPS = 128, AGAIN = 4, PATIENT = 40, MANY = 40, SOON = 4000, ALERT = 500, TRIES = 60, NEAR = 128, FURTHER = 4, FURTHER_FOR = 2;
+constexpr unsigned PART = 20000, LONGEST = 100, HOT = 4, ENOUGH = 5, HARDER = 2, PATIENCE = 10, MEET = 250, AWAKE = 300000, WITHIN = 60, STOPS = 128, AGAIN = 4, PATIENT = 40, MANY = 40, SOON = 4000, ALERT = 500, TRIES = 60, NEAR = 128, FURTHER = 4, FURTHER_FOR = 3, LONGER = 4, STOPS_PER = 5000;
 constexpr const char *OK = "ok: %s calls, and %s of them overlapped a change of their key";
 constexpr const char *FEW = "few calls overlapped, so ok means little: %s calls, and %s of them overlapped a change of their key";
 constexpr const char *TOO_FEW = "too few calls overlapped: %s of %s calls overlapped a change of their key, and at_least requires %s of 100. Use fewer keys, more threads, or a less busy machine";
@@ -176,7 +176,7 @@ constexpr const char *NO_OPENING = "contains of an opening key had no known outc
 constexpr const char *UNDER_WAY = "%s\npending:%s\nbefore that: %s";
 constexpr const char *EXPLAINED = "some order explains the calls";
 constexpr const char *PASSED_BEFORE = "; passed before: %s";
-constexpr const char *REFUSED_OF = "; refused: %s of %s runs like this";
+constexpr const char *REFUSED_OF = "; refused: %s of %s runs, the later ones longer";
 constexpr const char *PENDING_CALL = "\n  thread %s: %s %s%s, begun at moment %s";
 constexpr const char *IS_KEY = " (key %s of the recording)";
 constexpr const char *KEY_IS = "; key %s of the recording is %s";
@@ -576,7 +576,7 @@ template <class Make, class K> struct maker {
             const unsigned pause = draw() % 100 < how.pauses ? unsigned(draw()) % LONGEST : 0;
             const bool is_met = others.meet();
             for (unsigned left = is_met ? 0 : pause; left > 0; left--) run.tickets.load();
-            if (!is_met) own.before_call(uint64_t(run.of.sets) * run.of.calls);
+            if (!is_met) own.before_call(std::min(uint64_t(run.of.sets) * run.of.calls, uint64_t(STOPS_PER)));
             at->begin.store(++run.tickets, std::memory_order_release);
             if (is_met) others.delay();
             const reply given = own.in_call([&] { return call(at->call, its, keys[key]); });
@@ -1007,7 +1007,13 @@ template <class Make, class Key> struct tester {
         return found;
     }
 
-    // Performs a run with the sizes of a refused run. Returns no value if the run is cut short or cannot be judged.
+    // Returns the sizes of a run with LONGER times as many calls. A run of several sets gets more sets.
+    static shape longer(shape it) {
+        (it.sets > 1 ? it.sets : it.calls) *= LONGER;
+        return it;
+    }
+
+    // Performs a run with these sizes. Returns no value if the run is cut short or cannot be judged.
     std::optional<outcome> further_run(uint64_t seed, const shape &it, clock::time_point until) const {
         try {
             outcome found = judged_run(seed, it, until);
@@ -1017,7 +1023,7 @@ template <class Make, class Key> struct tester {
         }
     }
 
-    // Performs further runs like a refused run, with later seeds of the same preset, until one cannot be completed. Returns
+    // Performs longer runs like a refused run, with later seeds of the same preset, until one cannot be completed. Returns
     // the run whose refusal states the most contradictions, and the part of the message that counts the refused runs.
     std::pair<outcome, std::string> clearest(const outcome &first, clock::time_point until) const {
         if (is_replay(how) || !has_own_process()) return {first, ""};
@@ -1025,7 +1031,7 @@ template <class Make, class Key> struct tester {
         unsigned refused = 1, runs = 1;
         const auto end = std::min(until, clock::now() + std::chrono::milliseconds(100) * std::min({10 * FURTHER_FOR, how.seconds, how.within}));
         while (runs <= FURTHER && clock::now() < end) {
-            const auto next = further_run(first.seed + runs * std::size(PRESETS), first.of, end);
+            const auto next = further_run(first.seed + runs * std::size(PRESETS), longer(first.of), end);
             if (!next) break;
             runs++;
             if (!next->said.empty()) refused++;
@@ -1066,7 +1072,7 @@ template <class Make, class Key> struct tester {
     verdict failed(verdict all, const outcome &first, clock::time_point until) const {
         const auto [found, refused_of] = first.is_cut_short ? std::pair(first, std::string()) : clearest(first, until);
         found.text->is_kept = true;
-        const std::string notes = made_harder(found.seed, found.of) + refused_of + passed_before(first.seed) + key_line(found.key, found.of, keys_of(found.of));
+        const std::string notes = made_harder(first.seed, first.of) + refused_of + passed_before(first.seed) + key_line(found.key, found.of, keys_of(found.of));
         all.ok = false, all.seed = found.seed, all.said = found.said, all.file = found.text->path;
         all.text = say(FAILED_RUN, found.said, found.seed, found.of.name, found.of.threads, notes, all.file, alone(all.file, found.key), all.judge);
         return all;

@@ -126,6 +126,16 @@ type size struct {
 	meetsOnce                         bool
 }
 
+// longer returns the sizes of a run with manyLonger times as many calls. A run of several sets gets more sets.
+func (s shape) longer() shape {
+	if s.sets > 1 {
+		s.sets *= manyLonger
+	} else {
+		s.calls *= manyLonger
+	}
+	return s
+}
+
 // rows returns the maximum number of calls of a goroutine between two saves of the recording.
 func (s size) rows() int {
 	if most := manyPart / s.threads; most < s.calls {
@@ -519,7 +529,7 @@ func (o Options) isReplay() bool {
 	return os.Getenv("LISTSET_SEED") != "" || o.Seed != DefaultOptions().Seed && os.Getenv("LISTSET_SECONDS") == ""
 }
 
-// clearest performs further runs like a refused run, with later seeds of the same preset, until one cannot be completed. It
+// clearest performs longer runs like a refused run, with later seeds of the same preset, until one cannot be completed. It
 // returns the run whose refusal states the most contradictions, and the part of the message that counts the refused runs.
 func (t *tester) clearest(first *failedRun, s shape) (*failedRun, string) {
 	if _, isHere := t.caller.(*here); isHere || t.options.isReplay() {
@@ -532,7 +542,7 @@ func (t *tester) clearest(first *failedRun, s shape) (*failedRun, string) {
 	}
 	best, refused, runs := first, 1, 1
 	for runs <= manyFurther && time.Now().Before(end) {
-		_, next, err := t.outcome(first.seed+int64(runs*len(presets)), s, end)
+		_, next, err := t.outcome(first.seed+int64(runs*len(presets)), s.longer(), end)
 		if next != nil && next.isCutShort {
 			next.close()
 			break

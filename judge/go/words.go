@@ -22,7 +22,8 @@ const (
 	manyTries       = 60
 	manyNear        = 128
 	manyFurther     = 4
-	manyFurtherFor  = 2
+	manyFurtherFor  = 3
+	manyLonger      = 4
 	sayOk           = "ok: %v calls, and %v of them overlapped a change of their key"
 	sayFew          = "few calls overlapped, so ok means little: %v calls, and %v of them overlapped a change of their key"
 	sayTooFew       = "too few calls overlapped: %v of %v calls overlapped a change of their key, and at_least requires %v of 100. Use fewer keys, more threads, or a less busy machine"
@@ -38,7 +39,7 @@ const (
 	sayUnderWay     = "%v\npending:%v\nbefore that: %v"
 	sayExplained    = "some order explains the calls"
 	sayPassedBefore = "; passed before: %v"
-	sayRefusedOf    = "; refused: %v of %v runs like this"
+	sayRefusedOf    = "; refused: %v of %v runs, the later ones longer"
 	sayPendingCall  = "\n  thread %v: %v %v%v, begun at moment %v"
 	sayIsKey        = " (key %v of the recording)"
 	sayKeyIs        = "; key %v of the recording is %v"

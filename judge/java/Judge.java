@@ -70,6 +70,9 @@ public final class Judge {
         /** Returns these sizes with the keys 0, 1, 2 .. */
         Shape withNumbers() { return new Shape(name, threads, sets, calls, keys, 1, meetsOnce); }
 
+        /** Returns the sizes of a run with LONGER times as many calls. A run of several sets gets more sets. */
+        Shape longer() { return new Shape(name, threads, sets > 1 ? LONGER * sets : 1, sets > 1 ? calls : LONGER * calls, keys, times, meetsOnce); }
+
         long allCalls() { return (long) threads * sets * calls; }
 
         /** Returns the maximum number of calls of a thread between two saves of the recording. */
@@ -86,7 +89,7 @@ public final class Judge {
     // The lines below are made of words.json by judge/make_words.
     private static final Shape[] PRESETS = {new Shape("few keys", 4, 1, 5000, 4, 1), new Shape("fresh sets", 4, 40, 10, 4, 1), new Shape("multiples of 64", 4, 1, 5000, 8, 64), new Shape("one key", 3, 1, 5000, 1, 1), new Shape("sets that grow", 4, 20, 125, 64, 1), new Shape("many keys", 4, 1, 2500, 1000, 1), new Shape("multiples of 1,000", 8, 1, 2500, 8, 1000)};
     private static final Limits[] RANGES = {new Limits("threads", 1, 64), new Limits("threads times calls", 1, 1000000000), new Limits("keys", 1, 1048576), new Limits("pauses", 0, 100), new Limits("runs", 1, 1000000), new Limits("seconds", 1, 3600), new Limits("within", 1, 604800), new Limits("at_least", 0, 100), new Limits("the sum of shares", 1, 1000000)};
-    private static final int PART = 20000, LONGEST = 100, HOT = 4, ENOUGH = 5, HARDER = 2, PATIENCE = 10, MEET = 250, AWAKE = 300000, WITHIN = 60, APART = 100, FURTHER = 4, FURTHER_FOR = 2;
+    private static final int PART = 20000, LONGEST = 100, HOT = 4, ENOUGH = 5, HARDER = 2, PATIENCE = 10, MEET = 250, AWAKE = 300000, WITHIN = 60, APART = 100, FURTHER = 4, FURTHER_FOR = 3, LONGER = 4;
     private static final String OK = "ok: %s calls, and %s of them overlapped a change of their key";
     private static final String FEW = "few calls overlapped, so ok means little: %s calls, and %s of them overlapped a change of their key";
     private static final String TOO_FEW = "too few calls overlapped: %s of %s calls overlapped a change of their key, and at_least requires %s of 100. Use fewer keys, more threads, or a less busy machine";
@@ -101,7 +104,7 @@ public final class Judge {
     private static final String UNDER_WAY = "%s\npending:%s\nbefore that: %s";
     private static final String EXPLAINED = "some order explains the calls";
     private static final String PASSED_BEFORE = "; passed before: %s";
-    private static final String REFUSED_OF = "; refused: %s of %s runs like this";
+    private static final String REFUSED_OF = "; refused: %s of %s runs, the later ones longer";
     private static final String PENDING_CALL = "\n  thread %s: %s %s%s, begun at moment %s";
     private static final String IS_KEY = " (key %s of the recording)";
     private static final String KEY_IS = "; key %s of the recording is %s";
@@ -458,7 +461,7 @@ public final class Judge {
         }
 
         /**
-         * Performs further runs like a refused run, with later seeds of the same preset, until one cannot be completed.
+         * Performs longer runs like a refused run, with later seeds of the same preset, until one cannot be completed.
          * Returns the run whose refusal states the most contradictions, and appends the part of the message that counts
          * the refused runs.
          */
@@ -469,7 +472,7 @@ public final class Judge {
             Outcome best = first;
             int refused = 1, runs = 1;
             while (runs <= FURTHER && System.nanoTime() - now < most) {
-                Outcome next = furtherRun(first.seed + (long) runs * PRESETS.length, shape, most - (System.nanoTime() - now));
+                Outcome next = furtherRun(first.seed + (long) runs * PRESETS.length, shape.longer(), most - (System.nanoTime() - now));
                 if (next == null) break;
                 runs++;
                 if (!next.isFailed()) continue;
@@ -482,7 +485,7 @@ public final class Judge {
             return best;
         }
 
-        /** Performs a run with the sizes of a refused run. Returns null if the run is cut short or cannot be judged. */
+        /** Performs a run with these sizes. Returns null if the run is cut short or cannot be judged. */
         private Outcome furtherRun(long seed, Shape shape, long most) {
             try {
                 Outcome its = outcome(seed, shape, most);

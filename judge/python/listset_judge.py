@@ -84,7 +84,7 @@ RANGES = (
     ("at_least", 0, 100),
     ("the sum of shares", 1, 1000000),
 )
-PART, LONGEST, HOT, ENOUGH, HARDER, PATIENCE, MEET, AWAKE, SLOW, WITHIN, FURTHER, FURTHER_FOR = 20000, 100, 4, 5, 2, 10, 250, 300000, 10, 60, 4, 2
+PART, LONGEST, HOT, ENOUGH, HARDER, PATIENCE, MEET, AWAKE, SLOW, WITHIN, FURTHER, FURTHER_FOR, LONGER = 20000, 100, 4, 5, 2, 10, 250, 300000, 10, 60, 4, 3, 4
 OK = "ok: %s calls, and %s of them overlapped a change of their key"
 FEW = "few calls overlapped, so ok means little: %s calls, and %s of them overlapped a change of their key"
 TOO_FEW = "too few calls overlapped: %s of %s calls overlapped a change of their key, and at_least requires %s of 100. Use fewer keys, more threads, or a less busy machine"
@@ -100,7 +100,7 @@ NO_OPENING = "contains of an opening key had no known outcome in %s calls"
 UNDER_WAY = "%s\npending:%s\nbefore that: %s"
 EXPLAINED = "some order explains the calls"
 PASSED_BEFORE = "; passed before: %s"
-REFUSED_OF = "; refused: %s of %s runs like this"
+REFUSED_OF = "; refused: %s of %s runs, the later ones longer"
 PENDING_CALL = "\n  thread %s: %s %s%s, begun at moment %s"
 IS_KEY = " (key %s of the recording)"
 KEY_IS = "; key %s of the recording is %s"
@@ -327,10 +327,10 @@ class Tester:
         self.calls, self.overlapped = self.calls + calls, self.overlapped + its.overlapped
         if its.trouble:
             said = UNDER_WAY % (its.trouble, self.shown(its.pending, shape), its.refused or EXPLAINED)
-            raise CutShort(seed, said, its.file, self.told(its, said, "", seed))
+            raise CutShort(seed, said, its.file, self.told(its, said, "", its))
         if its.refused:
             best, refused_of = self.clearest(its)
-            raise NotLinearizable(best.seed, best.refused, best.file, self.told(best, best.refused, refused_of, seed))
+            raise NotLinearizable(best.seed, best.refused, best.file, self.told(best, best.refused, refused_of, its))
         return is_few(its.overlapped, calls)
 
     def outcome(self, seed: int, shape: Shape, until: float = math.inf) -> Outcome:
@@ -352,14 +352,14 @@ class Tester:
             file.unlink()
 
     def clearest(self, first: Outcome) -> tuple[Outcome, str]:
-        """Performs further runs like a refused run, with later seeds of the same preset, until one cannot be completed.
+        """Performs longer runs like a refused run, with later seeds of the same preset, until one cannot be completed.
         Returns the run whose refusal states the most contradictions, and the part of the message that counts the refused runs.
         """
         if self.how.is_replay() or not self.how.has_own_process():
             return first, ""
-        best, refused, runs = first, 1, 1
+        best, refused, runs, shape = first, 1, 1, longer(first.shape)
         end = min(self.until, time.monotonic() + min(10 * FURTHER_FOR, self.how.seconds, self.how.within) / 10)
-        while runs <= FURTHER and time.monotonic() < end and (its := self.further(first.seed + runs * len(PRESETS), first.shape, end)):
+        while runs <= FURTHER and time.monotonic() < end and (its := self.further(first.seed + runs * len(PRESETS), shape, end)):
             runs += 1
             refused += bool(its.refused)
             is_better = contradictions_in(its.refused) > contradictions_in(best.refused)
@@ -369,7 +369,7 @@ class Tester:
         return best, REFUSED_OF % (refused, runs) if runs > 1 else ""
 
     def further(self, seed: int, shape: Shape, until: float) -> Outcome | None:
-        """Performs a run with the sizes of a refused run. Returns None if the run is cut short or cannot be judged."""
+        """Performs a run with these sizes. Returns None if the run is cut short or cannot be judged."""
         try:
             its = self.outcome(seed, shape, until)
         except (NoVerdict, OSError):
@@ -378,10 +378,10 @@ class Tester:
             self.drop(its.file)
         return None if its.trouble else its
 
-    def told(self, its: Outcome, said: str, refused_of: str, first: int) -> str:
-        """Returns the complete message about a failed run. `first` is the seed of the first failed run."""
-        key, harder = key_in(its.refused), MADE_HARDER if its.shape != self.how.shape_of(its.seed) else ""
-        notes = harder + refused_of + self.passed_before(first) + self.key_line(key, its.shape)
+    def told(self, its: Outcome, said: str, refused_of: str, first: Outcome) -> str:
+        """Returns the complete message about a failed run. `first` is the first failed run."""
+        key, harder = key_in(its.refused), MADE_HARDER if first.shape != self.how.shape_of(first.seed) else ""
+        notes = harder + refused_of + self.passed_before(first.seed) + self.key_line(key, its.shape)
         return FAILED_RUN % (said, its.seed, its.shape.name, its.shape.threads, notes, its.file, self.alone(its.file, key), self.by)
 
     def passed_before(self, seed: int) -> str:
@@ -445,6 +445,11 @@ def key_in(refused: str) -> str:
     """Returns the key that the judge names, as a number."""
     found = OF_KEY.search(refused)
     return found[1] if found else ""
+
+
+def longer(it: Shape) -> Shape:
+    """Returns the sizes of a run with LONGER times as many calls. A run of several sets gets more sets."""
+    return it._replace(sets=it.sets * LONGER) if it.sets > 1 else it._replace(calls=it.calls * LONGER)
 
 
 def contradictions_in(refused: str) -> int:

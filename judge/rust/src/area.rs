@@ -477,7 +477,7 @@ impl<S: Sync> Play<'_, S> {
 
     /// Starts the timer that stops the thread, before some of the calls.
     fn may_stop(&self, stopping: &mut Draws, stops: Option<&Stops>) {
-        let calls = self.of.sets * self.of.calls;
+        let calls = STOPS_PER.min(self.of.sets * self.of.calls);
         let drawn = stopping.below(calls);
         if let Some(it) = stops.filter(|it| drawn < it.starts(calls)) {
             it.after(1 + stopping.below(SOON));

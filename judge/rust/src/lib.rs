@@ -121,6 +121,16 @@ pub(crate) struct Shape {
 }
 
 impl Shape {
+    /// Returns the sizes of a run with `LONGER` times as many calls. A run of several sets gets more sets.
+    fn longer(mut self) -> Shape {
+        if self.sets > 1 {
+            self.sets *= LONGER;
+        } else {
+            self.calls *= LONGER;
+        }
+        self
+    }
+
     /// Returns the maximum number of calls of a thread between two saves of the recording.
     fn rows(&self) -> u32 {
         self.calls.min(PART / self.threads)
@@ -472,12 +482,13 @@ impl<'a, S: Sync> Tester<'a, S> {
 
     /// Performs a run and judges it. Returns the number of calls that overlapped a call that changed the same key.
     fn judged_run(&self, seed: u64, shape: Shape) -> Result<u64, Failure> {
+        let harder = self.options.made_harder(seed, shape);
         match self.outcome(seed, shape, None)? {
             Outcome::Passed(overlapped) => Ok(overlapped),
-            Outcome::CutShort(fault) => Err(Failure::CutShort(fault.failed(self.source, seed, ""))),
+            Outcome::CutShort(fault) => Err(Failure::CutShort(fault.failed(self.source, seed, &harder))),
             Outcome::Refused(first) => {
                 let (best, refused_of) = self.clearest(first, seed, shape);
-                Err(Failure::NotLinearizable(best.failed(self.source, seed, &refused_of)))
+                Err(Failure::NotLinearizable(best.failed(self.source, seed, &(harder + &refused_of))))
             }
         }
     }
@@ -491,7 +502,7 @@ impl<'a, S: Sync> Tester<'a, S> {
         recording.judged(self.source, &self.runner.area, trouble)
     }
 
-    /// Performs further runs like a refused run, with later seeds of the same preset, until one cannot be completed. Returns
+    /// Performs longer runs like a refused run, with later seeds of the same preset, until one cannot be completed. Returns
     /// the run whose refusal states the most contradictions, and the part of the message that counts the refused runs.
     fn clearest(&self, first: Fault<'a>, seed: u64, shape: Shape) -> (Fault<'a>, String) {
         if self.options.is_replay() || !self.runner.has_own_process() {
@@ -502,7 +513,7 @@ impl<'a, S: Sync> Tester<'a, S> {
         let end = Instant::now() + left.min(Duration::from_millis(100) * seconds.min(within).min(10 * FURTHER_FOR));
         let (mut best, mut refused, mut runs) = (first, 1, 1);
         while runs <= FURTHER && Instant::now() < end {
-            match self.outcome(seed + u64::from(runs) * PRESETS.len() as u64, shape, Some(end)) {
+            match self.outcome(seed + u64::from(runs) * PRESETS.len() as u64, shape.longer(), Some(end)) {
                 Ok(Outcome::Passed(_)) => {}
                 Ok(Outcome::Refused(next)) => {
                     refused += 1;

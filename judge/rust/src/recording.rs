@@ -48,14 +48,14 @@ impl Fault<'_> {
         number.unwrap_or(0)
     }
 
-    /// Returns the failed run with the complete message. `first` is the seed of the first failed run, and `refused_of` is
-    /// the part of the message that counts the refused runs.
-    pub(crate) fn failed<S>(mut self, source: &Source<S>, first: u64, refused_of: &str) -> Failed {
+    /// Returns the failed run with the complete message. `first` is the seed of the first failed run, and `notes` is the
+    /// part of the message about its sizes and about the number of refused runs.
+    pub(crate) fn failed<S>(mut self, source: &Source<S>, first: u64, notes: &str) -> Failed {
         let (it, said) = (&mut self.recording, self.said);
         it.is_kept = true;
         let Shape { name, threads, .. } = it.shape;
         let (of_key, alone) = self.key.map_or_else(Default::default, |key| (it.key_line(key, source), it.alone(key)));
-        let notes = it.options.made_harder(it.seed, it.shape) + refused_of + &it.options.passed_before(first) + &of_key;
+        let notes = notes.to_string() + &it.options.passed_before(first) + &of_key;
         let text = say(FAILED_RUN, &[&said, &it.seed, &name, &threads, &notes, &it.path.display(), &alone, it.judge]);
         Failed { seed: it.seed, name: name.into(), said, file: it.path.clone(), judge: it.judge.to_string(), text }
     }
