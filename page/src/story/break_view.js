@@ -82,7 +82,8 @@ function taskHtml({ hints, note }) {
   return `<p class="ask">${ask}</p>${note === "" ? "" : `<p class="again">${note}</p>`}${list}`;
 }
 
-const optionsOf = (name) => [BREAK_LEVELS[name].lacks, ...Object.keys(BREAK_LEVELS[name].others)].sort();
+// Returns the answers to a won level. Sorted by their letters from the tenth on, the right answer is first, second or third about equally often.
+const optionsOf = (name) => [BREAK_LEVELS[name].lacks, ...Object.keys(BREAK_LEVELS[name].others)].sort((one, other) => (one.slice(9) < other.slice(9) ? -1 : 1));
 
 function wonHtml({ note, wrong }) {
   const name = nameNow();

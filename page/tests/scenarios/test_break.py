@@ -48,6 +48,19 @@ def test_a_won_level_does_not_give_away_its_answer(visitor):
     assert visitor.inside("return JSON.parse(localStorage.getItem('listset-broken')).lock").startswith("break lock #list=coarse")
 
 
+def test_the_position_of_an_answer_does_not_give_it_away(visitor):
+    visitor.open("#break")
+    levels = visitor.inside("return Object.keys(listsets.BREAK_LEVELS).filter((name) => name !== 'mark-in-contains')")
+    places = []
+    for name in levels:
+        visitor.open(visitor.inside("return listsets.addressOf(given[0], 99, given[1])", (SCHEDULES / f"{name}.schedule").read_text(), name))
+        visitor.revealed()
+        right = visitor.inside("return listsets.BREAK_LEVELS[given[0]].lacks", name)
+        texts = visitor.script("return [...document.querySelectorAll('[data-option] span')].map((it) => it.textContent)")
+        places.append(texts.index(right))
+    assert places[0] != 0 and max(places.count(it) for it in range(3)) <= 5, places
+
+
 def test_the_contradiction_is_visible(visitor):
     won(visitor)
     assert visitor.text(".ledger .odd") == "4" and visitor.in_window(".ledger") and visitor.in_window(".list svg")
