@@ -112,7 +112,7 @@ const SHORT_CLAIMS = [
   [/It starts again\./, (_, { before, nextWalk }) => nextWalk !== null && nextWalk.word !== "head.link" && before.reply === "none"],
   [/which is marked: it tries to unlink it/, (_, { event, before, linkOf, next }) => !linkOf(ownerOf(event)).endsWith("*") || (next !== null && (next.deed !== "exchange" || next.word !== `${before.pred}.link`))],
   [/reads the arrow of \S+: no mark/, (_, { event, linkOf }) => linkOf(ownerOf(event)).endsWith("*")],
-  [/wants to mark \S+, but the CAS finds it marked already/, (_, { event, linkOf }) => !linkOf(ownerOf(event)).endsWith("*")],
+  [/wants to mark \S+, but its CAS finds a mark/, (_, { event, linkOf }) => !linkOf(ownerOf(event)).endsWith("*")],
   [/the CAS finds it marked\b/, (_, { event, linkOf }) => !linkOf(ownerOf(event)).endsWith("*")],
   [/the CAS finds another arrow/, (_, { event, linkOf }) => linkOf(ownerOf(event)) === event.from],
   [/[Ww]alks? again\./, (_, { next }) => !isNextOn(next, "link", "head")],

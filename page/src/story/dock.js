@@ -27,7 +27,7 @@ function rowOf(figure, thread) {
   const call = isIdle ? { operation: next[0], key: next[1] } : own.at(-1);
   const plan = run.nextOf(thread, next);
   const waits = plan.waitsFor !== null;
-  const words = waits ? `waits for ${letterOf(plan.waitsFor)}` : (spec.words?.[`${call.operation} ${plan.phase}`] ?? spec.words?.[plan.phase] ?? phaseText(plan.phase, call, plan.row, spec.free ? run.trace.lacks : null));
+  const words = waits ? `waits for ${letterOf(plan.waitsFor)}` : (spec.words?.[`${call.operation} ${plan.phase}`] ?? spec.words?.[plan.row] ?? spec.words?.[plan.phase] ?? phaseText(plan.phase, call, plan.row, spec.free ? run.trace.lacks : null));
   const key = letterOf(thread).toLowerCase();
   const given = { class: "step", "data-step": thread, "aria-keyshortcuts": key, ...(waits ? { "aria-disabled": "true" } : {}) };
   const button = tag("button", { ...given, ...(figure.canStep ? {} : { disabled: "" }) }, words, `<kbd aria-hidden="true">${key}</kbd>`);

@@ -46,10 +46,10 @@ export class ShownRun {
 
 /**
  * A run to begin with. `lines` are the first lines of the schedule; lines of a draft are allowed. In a `free` run, the reader can begin any call. A `plain`
- * run ignores the list's lock and does not show it. One press executes the rows in `joined`, of every call or by operation, together with
- * the row before them, unless the run is `free` and not `plain`.
+ * run ignores the list's lock and does not show it. `joined` has rows of the step table, for all calls or by operation: a press that executes the row
+ * before such a row also executes this row. An item "11 14" joins row 14 to row 11 only. A `free` run joins rows only if it is `plain`.
  * @typedef {{ list: string, lacks?: string | null, threads?: number, quota?: number, opening?: number[], lines?: string[], version?: number,
- *   free?: boolean, plain?: boolean, joined?: number[] | Record<string, number[]> }} RunSpec
+ *   free?: boolean, plain?: boolean, joined?: (number | string)[] | Record<string, (number | string)[]> }} RunSpec
  */
 export class LiveRun extends ShownRun {
   /** @param {RunSpec} spec */
@@ -130,8 +130,9 @@ export class LiveRun extends ShownRun {
       const ofLock = isFailed(last) && isLock(last.word);
       const waits = ofLock && after === before; // a broken list can continue after a failed try
       if (waits || (isFailed(last) && !ofLock)) return { steps, phase, waits, last };
+      const isJoined = rows.includes(after) || rows.includes(`${before} ${after}`);
       before = after;
-      if (phaseAt(list, after, plain) !== phase && !rows.includes(after)) break;
+      if (phaseAt(list, after, plain) !== phase && !isJoined) break;
     }
     return { steps, phase: phase === "unlock" && last?.answer === undefined ? "restart" : phase, waits: false, last };
   }

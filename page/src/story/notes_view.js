@@ -70,7 +70,8 @@ export const notesView = {
 };
 
 // ---- The handout: for each slide its picture, its question, and lines to write on.
-const ROOM = { wide: 720, high: 190, hides: ["succ"] };
+const ROOM = { wide: 430, high: 115, hides: ["succ"] };
+const BARS_WIDTH = 380; // less than that of the lists: a print is as wide for both, so the letters on the bars become as large as those of the lists
 
 function pictureOf(figure) {
   const run = new LiveRun(figure);
@@ -98,7 +99,7 @@ function sheetOfSides() {
 
 function sheetOfSeed(seed) {
   const exercise = exerciseOf(askNow("listset_replay", scheduleOfSeed(askNow, seed)).text, "points");
-  const drawn = drawJudged({ exercise, answer: new OwnAnswer(exercise), verdict: null, scale: judgeScale(exercise, ROOM.wide), count: 0 });
+  const drawn = drawJudged({ exercise, answer: new OwnAnswer(exercise), verdict: null, scale: judgeScale(exercise, BARS_WIDTH), count: 0 });
   const ask = "When does each call take effect? Mark a moment on each bar. In the order of the three moments, every reply must be correct.";
   return { prose: `Three calls on the set {${exercise.opening.join(", ")}}, each from its start to its end.`, drawn, ask };
 }

@@ -104,7 +104,7 @@ function linkSaid(moment, owner, who, phase) {
       return isMarked ? `sees a mark on ${who}. It starts again.` : `sees that ${who} points to ${to} now. It starts again.`;
     }
     if (isMarked) return `reads the arrow of ${isPred ? "its pred" : who}, and ${bold("does not look at the mark.")}`;
-    return isPred ? "sees no mark on its pred, which still points to curr." : `sees no mark on ${who} either: the check succeeds.`;
+    return isPred ? "sees no mark on its pred, which still points to curr." : `sees no mark on ${who}: the check succeeds.`;
   }
   if (phase === "again") {
     if (!isPred || before.pc !== 8) return `walks from ${who} once more.`;
@@ -141,7 +141,7 @@ function writeSaid(moment, owner, who) {
   const isDone = event.deed === "store" || event.saw === event.from;
   if (event.to.endsWith("*") && event.call.operation === "remove") {
     if (isDone) return `marks ${who}${who === String(key) ? `: ${bold(`${key} is removed.`)}` : `. ${bold(`Its key is not ${key} any more.`)}`}`;
-    return event.saw.endsWith("*") ? `wants to mark ${who}, but the CAS finds it marked already. ${bold("It was too late")}, and walks again.` : `tries to mark ${who}, but the CAS finds another arrow. It walks again.`;
+    return event.saw.endsWith("*") ? `wants to mark ${who}, but its CAS finds a mark. ${bold("It was too late")}, and walks again.` : `tries to mark ${who}, but the CAS finds another arrow. It walks again.`;
   }
   if (event.put !== undefined) {
     const isIn = state.chain().includes(linkTarget(event.to));

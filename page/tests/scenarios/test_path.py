@@ -18,7 +18,7 @@ def test_a_first_visit_opens_the_path(visitor):
     assert visitor.title.startswith("How does a thread add 5")
 
 
-@pytest.mark.parametrize("number", ["1", "2", "3", "4", "4.2", "4.2b", "4.3", "4.3b", "4.4", "4.5", "5", "6", "7", "7.2", "8", "8.2", "9", "9.2"])
+@pytest.mark.parametrize("number", ["1", "2", "3", "4", "4.2", "4.2b", "4.3", "4.3b", "4.4", "4.5", "5", "6", "7", "7.2", "7.2b", "8", "8.2", "9", "9.2"])
 def test_pressing_show_me_leads_through_each_story(visitor, number):
     visitor.open(f"#story={number}")
     for _ in range(60):
@@ -244,8 +244,8 @@ def test_the_sentence_about_a_change_stays_until_the_next_press(visitor):
 
 
 def test_the_label_of_a_press_names_each_of_its_deeds(visitor):
-    for address, keys, words in (("#story=6", "a", "release; walk and lock once more"), ("#story=7.2", "a", "release; walk and lock once more"), ("#story=7", "", "walk to 5, read its mark, return"),
-                                 ("#story=4.2", "a", "change the arrow of pred, return"), ("#story=4.3b", "ab", "lock 7, unlink it, return"), ("#story=9.2", "aa", "unlink 5 for B, then link 6 in")):
+    for address, keys, words in (("#story=6", "a", "release; walk and lock once more"), ("#story=7.2b", "a", "release; walk and lock once more"), ("#story=7", "", "walk to 5, read its mark, return"),
+                                 ("#story=4.2", "a", "change the arrow of pred, return"), ("#story=4.3b", "ab", "lock 7, unlink it, return"), ("#story=9.2", "aa", "unlink 5 for B"), ("#story=9.2", "aaa", "walk on; link 6 in, return")):
         visitor.open(address)
         visitor.step(keys)
         assert words in visitor.text(".dock"), address
@@ -269,13 +269,32 @@ def test_show_a_step_continues_from_the_current_event(visitor):
 
 
 def test_a_mark_warns_an_add_and_a_thread_helps(visitor):
-    for address, told, word in (("#story=6", "pred is no longer in the list", "the second walk saved it"), ("#story=7.2", "sees a mark on its pred", "the mark warned A"), ("#story=9.2", "5, which is marked", "6 is not lost")):
+    for address, told, word in (("#story=6", "pred is no longer in the list", "the second walk saved it"), ("#story=7.2b", "sees a mark on its pred", "the mark warned A"), ("#story=9.2", "5, which is marked", "6 is not lost")):
         visitor.open(address)
         seen = ""
         while not visitor.is_seen(".reveal"):
             visitor.step("a")
             seen += visitor.text(".said")
         assert told in seen and word in visitor.text(".why b"), address
+
+
+def test_an_add_that_looks_at_no_mark_loses_its_number(visitor):
+    visitor.open("#story=7.2")
+    visitor.step("a")
+    visitor.revealed()
+    assert visitor.text(".ledger .gap") == "no 6" and visitor.text(".why b").startswith("6 is lost") and visitor.is_seen(".list .lost")
+    visitor.click(".why a", "Try it")
+    visitor.wait("return location.hash === '#story=7.2b'")
+
+
+@pytest.mark.parametrize("number", ["1", "2", "4.2", "4.2b", "4.3", "4.3b", "4.5", "5", "6", "7.2", "7.2b", "9", "9.2"])
+def test_a_finished_run_holds_no_locks(visitor, number):
+    visitor.open(f"#story={number}")
+    while not visitor.is_seen(".reveal"):
+        visitor.click("#show-me")
+        visitor.idle()
+    assert visitor.inside("const { shown, run } = listsets.scene.figure; return run.trace.calls.every(({ thread, reply }) => reply !== null || !shown.includes(thread))")
+    assert visitor.inside("return Object.values(listsets.scene.figure.run.state.locks()).flat()") == []
 
 
 def test_the_answer_about_a_marked_node_depends_on_the_order(visitor):

@@ -4,6 +4,8 @@ a student sees who opens the link.
 
 import json
 
+import pytest
+
 LINK = "#assignment=Week+3&learn=one-lock.lost-pred&break=3.4&judge=lazy.2.5.2.17"
 
 
@@ -83,6 +85,21 @@ def test_notes_follow_the_slides_and_a_handout_can_be_printed(visitor):
     assert visitor.script("return document.querySelectorAll('.sheet .list svg').length") == 12  # slide 8 has two pictures
     slides = visitor.script("return [...document.querySelectorAll('.sheet h2')].map((it) => it.innerText)")
     assert len(slides) == 11 and slides[0] == "1. Lose a number" and slides[10] == "11. Everybody judges"
+
+
+SMALL_PRINT = """return [...document.querySelectorAll(".handout *")].filter((it) => it.getClientRects().length > 0 && [...it.childNodes].some((node) => node.nodeType === 3 && node.textContent.trim() !== ""))
+    .filter((it) => parseFloat(getComputedStyle(it).fontSize) * (it.ownerSVGElement ? it.getScreenCTM().a : 1) * .75 < 10.95).map((it) => it.textContent)"""
+
+
+def test_the_handout_is_printed_in_letters_of_11_points(visitor):
+    if visitor.name != "chromium":
+        pytest.skip("only Chromium's driver can show a page as printed")
+    visitor.size(1062, 800)
+    visitor.open("#handout")
+    visitor.devtools("Emulation.setEmulatedMedia", media="print")
+    small = visitor.script(SMALL_PRINT)
+    visitor.devtools("Emulation.setEmulatedMedia", media="")
+    assert small == []
 
 
 def test_an_assignment_names_its_unknown_tasks(visitor):
