@@ -106,7 +106,7 @@ const SHORT_CLAIMS = [
   [/which still points to curr|pred still points to curr/, (_, { event, before, linkOf }) => ownerOf(event) !== before.pred || linkOf(before.pred) !== before.curr],
   [/sees a mark on/, (_, { event, linkOf }) => !linkOf(ownerOf(event)).endsWith("*")],
   [/, and does not look at the mark/, (_, { event, linkOf, lacks }) => lacks === null || !linkOf(ownerOf(event)).endsWith("*")],
-  [/on \S+ either: the check succeeds/, (_, { event, before, linkOf }) => ownerOf(event) !== before.curr || linkOf(before.curr).endsWith("*")],
+  [/on \S+: the check succeeds/, (_, { event, before, linkOf }) => ownerOf(event) !== before.curr || linkOf(before.curr).endsWith("*")],
   [/something was linked in between/, (_, { chain, before }) => !chain.includes(before.pred) || !(chain.indexOf(before.curr) > chain.indexOf(before.pred) + 1)],
   [/curr was unlinked/, (_, { chain, before }) => chain.includes(before.curr)],
   [/It starts again\./, (_, { before, nextWalk }) => nextWalk !== null && nextWalk.word !== "head.link" && before.reply === "none"],
