@@ -8,7 +8,6 @@ import { assignmentOfLink, checkAll, commonText, copiesText, countOf, countText,
 import { part } from "./scene.js";
 
 const MOST_BYTES = 2_000_000; // largest size of a file
-const MOST_NOTES = 3; // notes of a student in the table; the CSV has all notes
 const given = { files: [], tooLong: [], result: null, title: "", turn: 0 };
 const MARKS = { solved: '<b class="yes">✓</b>', wrong: '<b class="no" title="handed in, and wrong">✗</b>', none: "–" };
 const piece = (name) => part(`#in-${name}`);
@@ -74,8 +73,8 @@ function showRows() {
 }
 
 function notesOf({ notes }) {
-  const more = notes.length > MOST_NOTES ? ` … and ${notes.length - MOST_NOTES} more` : "";
-  return `${escaped(notes.slice(0, MOST_NOTES).join("; "))}${more}`;
+  const text = escaped(notes.join("; "));
+  return `<div title="${text}">${text}</div>`;
 }
 
 function drawRow(row, columns) {
