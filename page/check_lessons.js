@@ -23,7 +23,7 @@ const USAGE = "node page/check_lessons.js [--assignment LINK] [--csv FILE] FILE|
 
 class Trouble extends Error {}
 
-const UNTRUSTED = /[\x00-\x1f\x7f-\x9f\u2028\u2029\u202a-\u202e]/g; // characters that are not printed to a terminal
+const UNTRUSTED = /[\x00-\x1f\x7f-\x9f\u2028\u2029\u202a-\u202e]/g; // characters of a hand-in that could control a terminal; they are not printed
 const printable = (text) => text.replace(UNTRUSTED, "?");
 const counted = (count, word) => inPage("counted")(count, word);
 const say = (line) => process.stdout.write(`${printable(line)}\n`);

@@ -54,7 +54,6 @@ function uncover({ target }) {
   if (isCovered && target.matches(":focus-visible")) target.scrollIntoView({ block: "nearest" });
 }
 
-// Draws everything from the state: first which parts are visible, then their contents.
 function render() {
   showParts(now);
   const isInScene = isScene(now);

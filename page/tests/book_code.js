@@ -28,7 +28,7 @@ check("each broken list is a level", Object.keys(levels).sort().join() === Objec
 const NUMBERS = [
   "lock", "second-lock", "hand-over-hand", "second-walk", "same-node", "marks-in-validation", "mark-in-remove", "mark", "mark-in-add", "mark-at-key",
   "new-slot", "mark-in-ceiling", "mark-in-contains",
-]; // assignments name the levels by them
+]; // the links of assignments contain these numbers
 check(`the numbers of the levels: ${Object.keys(levels)}`, Object.keys(levels).join() === NUMBERS.join());
 for (const [name, { hints, lacks, others, missing }] of Object.entries(levels)) {
   check(`${name} has three hints and a sentence`, hints.length === 3 && lacks.endsWith("."));

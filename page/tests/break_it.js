@@ -76,7 +76,7 @@ function checkContents(trace) {
 function checkFile(ask, name) {
   const { text } = ask("listset_lacking", name, scheduleOf(name), "trace");
   check(`${name}: its trace is one`, inPage("traceIn")(text)?.lacks === name);
-  const given = text.replace(/^lacks .*\n/m, ""); // as if the correct list had made it
+  const given = text.replace(/^lacks .*\n/m, ""); // (so that the trace does not name the broken list)
   const own = ask("listset_trace", inPage("scheduleOfTrace")(inPage("traceIn")(given))).text;
   const said = inPage("comparedTrace")(given, own);
   const event = departureOf(ask, new Trace(text, 2));

@@ -36,7 +36,7 @@ const wrappedAtSigns = (text, width) =>
   text.replace(/^.+$/gm, (line) => (isShort(line) ? line : line.replace(new RegExp(`(.{1,${width - 1}}[ ,&-]|.{${width}})(?=.)`, "g"), "$1\n").replace(/ \n/g, "\n")));
 const coded = (text) => text.replaceAll("=", "=3D").replace(/(.{60}[^=]{3})(?=.)/g, "$1=\n");
 
-// What mail programs do to a text: quoting, wrapping, encoding, and adding lines around it.
+// Changes that mail programs make to a text: they quote, wrap and encode it, and add lines around it.
 const MAILED = {
   "as it is": (text) => text,
   "with CRLF": (text) => text.replaceAll("\n", "\r\n"),

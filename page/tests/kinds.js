@@ -292,7 +292,7 @@ module.exports = ({ draw, pick, replyOf, keysAfter, paddingAfter }) => {
         return reply;
       }, 4, 2, ["add", "remove", "contains", "contains"]);
     },
-    function transit() { // now and then no key is found for a while
+    function transit() { // from time to time, all calls find no key for a while
       let [changes, hidden] = [0, 0];
       return madeBy([1, 2, 3, 4, 5, 6, 7, 8], 60, ({ call, set }) => {
         if (hidden > 0) hidden--;

@@ -155,7 +155,7 @@ function readRun(trace) {
     const moment = inPage("momentAt")(state, event.number);
     const [sentence, short] = [inPage("sentenceOf")(moment), inPage("saidOf")(moment, { isPath: true })].map((text) => text.replace(/<[^>]*>/g, ""));
     const facts = factsAfter(state, event, before);
-    const ofLong = trace.lacks === null ? falseIn(CLAIMS, sentence, facts) : []; // the page shows them of correct lists alone
+    const ofLong = trace.lacks === null ? falseIn(CLAIMS, sentence, facts) : []; // the page shows the long sentences only for correct lists
     const wrong = [...ofLong, ...falseIn(SHORT_CLAIMS, short, { ...facts, before: moment.before })];
     return { number: event.number, sentence, short, wrong };
   });

@@ -43,7 +43,7 @@ function begin({ given }) {
   Object.assign(shown, { sides: null, figures: [] });
   const threads = turns.split(".").filter((thread) => thread !== "").map(Number);
   beginSides(threads);
-  if (now.place.slide > 0) turnTo(threads.lastIndexOf(threads[0]) + 1); // a slide begins when the first thread has stopped
+  if (now.place.slide > 0) turnTo(threads.lastIndexOf(threads[0]) + 1); // a slide begins after the turns of the first thread
 }
 
 function beginSides(turns = []) {
@@ -76,7 +76,7 @@ const turnTo = (at) => setScene({ at: Math.min(Math.max(at, 0), shown.sides.turn
 function draw({ at, note }) {
   const { sides } = shown;
   if (sides === null) return;
-  if (now.place.slide > 0) part("h1").textContent = note || LECTURE[now.place.slide - 1][3]; // the answer or the question
+  if (now.place.slide > 0) part("h1").textContent = note || LECTURE[now.place.slide - 1][3]; // the answer, if the lecturer has opened it, else the question
   const wordsOf = (call) => (call === undefined ? "is done" : `next step <span class="roomy">of ${call}</span>`);
   const button = (_, thread) => tag("button", { "data-do": "turn", "data-thread": thread }, `${chipOf(thread)} ${wordsOf(sides.callOf(thread, at))}`);
   redraw(sidesPart("turns"), sides.program.map(button).join(" "));

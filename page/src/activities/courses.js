@@ -46,8 +46,7 @@ async function copyCourseLink() {
   const { course } = learning.panel;
   const address = await courseAddress(course.text);
   if (course !== learning.panel.course || lessonPart("faults").dataset.isGood !== "yes") return; // another course was checked while the link was made
-  const tooLong = "This course is too long for a link: save it, and hand out the file.";
-  if (address === null) return (lessonPart("faults").textContent = tooLong);
+  if (address === null) return (lessonPart("faults").textContent = "This course is too long for a link: save it, and hand out the file.");
   const link = linkTo(address);
   const box = lessonPart("link-text");
   box.value = link;

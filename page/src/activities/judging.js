@@ -101,10 +101,10 @@ class Judging {
     const { verdict, tries } = this;
     const isAsked = homeworkOf(now.place, now.task) !== null && verdict?.isRight !== true; // in homework, buttons that reveal the answer are hidden until the reader's answer is right
     for (const name of ["end", "levels"]) judgePart(name).style.visibility = isAsked ? "hidden" : "";
-    const answer = isLecture() ? now.scene.note : ""; // the answer, at the end of the last slide
+    const answer = isLecture() ? now.scene.note : ""; // the answer that the lecturer has opened, or ""
     const link = linkTo(slideAddress(now.place.slide));
     const short = link.replace(/^file:.*\/|^https?:../, "").replace("/index.html", "/");
-    const where = isNarrow() ? "" : ` · ${short}${warningOf(link) === "" ? "" : " (this computer only)"}`; // for the class
+    const where = isNarrow() ? "" : ` · ${short}${warningOf(link) === "" ? "" : " (this computer only)"}`; // a slide shows the address that the class opens
     const kind = answer === "" ? ({ true: "right", false: "wrong" }[verdict?.isRight] ?? "") : "shown";
     judgePart("verdict").className = kind;
     judgePart("verdict").textContent = answer || (verdict?.says ?? (now.place.slide === 0 ? "" : `${LISTS[now.run.trace.kind].name}${where}`));

@@ -86,11 +86,6 @@ export function drawLearnMap() {
   beginLearn();
 }
 
-function openBook() {
-  learning.panel.takeCourse(bookCourse());
-  drawLearnMap();
-}
-
 function judgeHtml() {
   const judged = Object.keys(judgedLines());
   const cardOf = ({ name, kind }) => {
@@ -121,7 +116,7 @@ const mapOf = (name, html, more = {}) => ({ kind: "asks", title: () => `${name()
 export const MAPS = {
   "ask map": mapOf(() => "Guess, then see", askHtml),
   "break map": mapOf(() => "Break it", breakHtml),
-  "learn map": mapOf(() => learning.panel.course.name, learnHtml, { begin: beginLearn, end: endLearn, deeds: { book: openBook } }),
+  "learn map": mapOf(() => learning.panel.course.name, learnHtml, { begin: beginLearn, end: endLearn, deeds: { book: () => (learning.panel.takeCourse(bookCourse()), drawLearnMap()) } }),
   judge: mapOf(() => "Judge", judgeHtml, { begin: listenToRecorded, deeds: { seed: openSeed, recorded: () => part("#recorded-box").scrollIntoView({ behavior: "smooth" }) } }),
   read: mapOf(() => "Read", readHtml),
 };

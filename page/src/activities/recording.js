@@ -4,8 +4,7 @@ import { byId } from "../page/dom.js";
 import { onFile } from "../page/files.js";
 import { askNow, askSoon, LONG_TEXT } from "../page/now.js";
 import { escaped, letterOf, tag } from "../run/markup.js";
-import { RECORDED_EXAMPLE, recordedInWords, verdictOnCalls, withNewline } from "../run/recorded.js";
-import { diagnosisIn } from "../run/why.js";
+import { diagnosisIn, RECORDED_EXAMPLE, recordedInWords, verdictOnCalls, withNewline } from "../run/recorded.js";
 import { isNarrow } from "../story/figure_parts.js";
 
 const WIDEST = 800; // pixels of a drawing, before it is made larger

@@ -38,7 +38,7 @@ class CourseReader {
     this.faults = [];
     this.name = "";
     this.lessons = [];
-    this.block = null; // the part that contains the following lines that begin with two spaces
+    this.block = null; // the part of the text to which the following indented lines belong
     const lines = withoutIndent(text).map((line, index) => ({ line, number: index + 1 }));
     const [title, ...rest] = lines.filter(({ line }) => line !== "" && !line.startsWith("#"));
     if (title?.line !== COURSE_TITLE) this.fault(title?.number ?? 1, `expected "${COURSE_TITLE}" here`);
@@ -92,7 +92,7 @@ class CourseReader {
       return null;
     }
     const linesOf = (word) => (parts[word]?.lines ?? []).map(({ line }) => line);
-    const events = ["start", "answer"].flatMap((word) => parts[word]?.lines ?? []); // lines with their numbers
+    const events = ["start", "answer"].flatMap((word) => parts[word]?.lines ?? []); // these lines also have their numbers
     const lacks = parts.lacks?.value ?? null;
     if (lacks !== null && LACKING[lacks] !== parts.list.value) {
       const own = Object.keys(LACKING).filter((name) => LACKING[name] === parts.list.value);

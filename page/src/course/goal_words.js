@@ -1,4 +1,4 @@
-// Evaluates goals of lessons: each line asks for a call or an event. A condition (`say ..`) holds if one choice of these satisfies all lines above it.
+// Evaluates goals of lessons: each line asks for a call or an event. A condition (`say ..`) holds if some choice of calls and events satisfies all lines above the condition.
 import { isFailed, isLock, ownerIn } from "../run/outcomes.js";
 import { State } from "../run/state.js";
 

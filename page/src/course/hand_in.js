@@ -120,7 +120,7 @@ export function readSchedule(link) {
   }
 }
 
-// Judges a solution. `shorter` has the same part with fewer joined lines of the mail. The first of these texts that solves its task counts.
+// Judges a solution. A mail can wrap its line: the texts in `shorter` join fewer of the mail's lines than `line`. The first text that is right counts.
 export function judgedSolution(ask, lessons, { line, shorter }) {
   const lines = [line, ...shorter];
   /** @type {any[]} */

@@ -1,5 +1,5 @@
 // The levels of Break it, one for each list that lacks a check. A level states the missing check, wrong guesses at it with a reply to each, the first calls, how many
-// events and calls the shortest known run has, and the code to strike out. Links and cards have the position of a level, so a new level is added at the end.
+// events and calls the shortest known run has, and the code to strike out. A link to a level contains the position of the level, so a new level is added at the end.
 
 export const BREAK_LEVELS = {
   lock: {

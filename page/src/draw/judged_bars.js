@@ -97,7 +97,6 @@ function drawWhen(call, at, y, scale) {
   return isRoomy(x - leftOf(call, scale)) ? label({ x: x - 11, y: y + 5, "text-anchor": "end" }, momentInWords(at)) : "";
 }
 
-// Draws the contents of the set between the moments that the reader has chosen.
 export function drawOwnSet(answer, scale) {
   const changing = answer.order().filter(({ call, reply }) => call.operation !== "contains" && reply === "true");
   const changes = changing.map(({ call, at }) => ({ number: at, [call.operation === "add" ? "put" : "took"]: call.key }));

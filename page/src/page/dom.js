@@ -3,9 +3,8 @@
 /** @type {(id: string) => any} */
 export const byId = (id) => document.getElementById(id);
 
-// Redraws a box. If the focused element is drawn again, it keeps the focus. Otherwise the first button gets it (no field, Undo or Start over).
+// Redraws a box. If the focused element is drawn again, it keeps the focus. Otherwise the first button or link gets it, except Undo and Start over.
 export function redraw(box, html) {
-  /** @type {any} */
   const before = box.contains(document.activeElement) ? document.activeElement : null;
   const keyOf = (part) => JSON.stringify({ ...part.dataset, name: part.tagName });
   const key = before === null ? "" : keyOf(before);
@@ -33,9 +32,8 @@ export function scrollToLine(box, line, above, below) {
 }
 
 export function setHtml(box, html) {
-  if (texts.get(box) === html) return false;
+  if (texts.get(box) === html) return;
   texts.set(box, html);
   box.innerHTML = html;
-  return true;
 }
 const texts = new WeakMap();

@@ -72,7 +72,6 @@ export async function askSoon(name, text) {
   return askNow(name, text);
 }
 
-// Shows an error of the schedule, and selects its line in the box.
 export function sayFault(line, cause, said, isOld = true) {
   change("run", { isRun: !isOld });
   byId("stage").classList.toggle("old", isOld);

@@ -93,11 +93,6 @@ function addressOfLevel({ id }, { text }) {
   return withTry(`#break=${id}`, text === startOfLacking(levelOfNumber(id)) ? "" : text);
 }
 
-// Returns the address of a lesson: its course (unless that is the book's), its name, and the reader's attempt unless the address would be too long.
-function addressOfLesson({ id }, { text }, { course }) {
-  return withTry(`${course === null ? "#" : `${course}&`}learn${id === "" ? "" : `=${id}`}`, text);
-}
-
 export const addressOfAssignment = ({ id, given }) => `#${new URLSearchParams({ assignment: id, ...given })}`.replaceAll("%2C", ",");
 const plainAddress = ({ activity, id }) => `#${activity}${id === "" ? "" : `=${id}`}`;
 
@@ -105,7 +100,7 @@ const ADDRESSES = {
   code: ({ id, given }, { text }) => text || `#${new URLSearchParams({ code: id, ...given })}`,
   compare: (place, { text }) => text || plainAddress(place),
   break: addressOfLevel,
-  learn: addressOfLesson,
+  learn: ({ id }, { text }, { course }) => withTry(`${course === null ? "#" : `${course}&`}learn${id === "" ? "" : `=${id}`}`, text), // without a course: the book's
   assignment: addressOfAssignment,
 };
 

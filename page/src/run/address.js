@@ -4,7 +4,7 @@ import { LISTS } from "../../made/rows.js";
 import { scheduleText, versionOf } from "./schedule_text.js";
 import { isTrace, Trace } from "./trace.js";
 
-export const LONGEST_ADDRESS = 30000; // characters; a longer schedule has no address
+export const LONGEST_ADDRESS = 30000; // characters; a schedule whose address would be longer has none
 const SHORT_EVENT = String.raw`(b\d+\.[a-z]+\.\d+|g\d+\.\d+)`;
 const NUMBER = /^\d+$/;
 const KIND = `(${Object.keys(LISTS).join("|")})`;
@@ -113,8 +113,8 @@ export const warningOf = (link) =>
 
 // ---- Numbered runs: the engine generates a schedule from a number. All readers get the same run for the same number.
 const TRIES = 200;
-const MOST_TRIED_CALLS = 8; // a run with more calls is not chosen among several
-const MOST_SEEN = 60; // events; in a longer run a reader cannot distinguish them
+const MOST_TRIED_CALLS = 8; // of a seed; for more calls, the first generated schedule is used
+const MOST_SEEN = 60; // events; in a longer run, a reader cannot tell the events apart
 
 // Returns the seed of a numbered run: five calls of two threads on two keys, few enough to judge by eye.
 export const seedOf = (kind, number) => `${kind}.2.5.2.${number}`;
@@ -141,7 +141,7 @@ export function scheduleOfSeed(ask, seed) {
   return joined(text);
 }
 
-// Decides whether a run is interesting: a key is added, a key is removed, and a contains or a call with the reply false overlaps another thread's.
+// Decides whether a run is interesting: a key is added, a key is removed, and a contains, or a call that returns false, overlaps a call of another thread.
 function isWorthIt({ calls, changes, total }) {
   const puts = changes.some(({ put }) => put !== undefined) && changes.some(({ took }) => took !== undefined);
   const isBeside = (one, other) => one.thread !== other.thread && one.begun < other.ended && other.begun < one.ended;

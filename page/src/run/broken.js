@@ -57,7 +57,7 @@ function isLost({ calls, opening, keys }, key) {
   return count("add") === 1 && count("remove") === 0 && !isThere;
 }
 
-// Describes a call that the judge names, by the report: the judge treats a ceiling, and an add that returned full, as a contains.
+// Describes a call that the judge names, in the words of the report. (To the judge, a ceiling, and an add that returned `full`, are a contains.)
 function callInWords({ calls }, { thread, begun }) {
   const call = calls.find((one) => one.thread === thread && one.begun === Number(begun));
   return `${nameOfCall(call)} ${call.ended === null ? "is pending" : `answers ${call.reply}`}`;

@@ -34,7 +34,7 @@ export function repliesOf(exercise, { operation }) {
 export class OwnAnswer {
   constructor(exercise) {
     this.exercise = exercise;
-    this.points = new Map(); // by the call's number: { at, turn }
+    this.points = new Map(); // for each placed call, by number: its moment `at`, and in which turn the reader placed it (from 0)
     this.replies = new Map();
     this.turn = 0;
   }
@@ -65,7 +65,7 @@ export class OwnAnswer {
     return placed.map(({ call, at }) => ({ call, at, reply: this.replyOf(call) }));
   }
 
-  // Returns what is not stated yet. Two calls with one name are told apart by their first events.
+  // Returns what the reader has not stated yet. Two calls with the same name are told apart by the events at which they began.
   unsaid() {
     const { calls } = this.exercise;
     const nameIn = (call) => nameOfCall(call) + (calls.filter((other) => nameOfCall(other) === nameOfCall(call)).length > 1 ? ` from event ${call.begun}` : "");
@@ -97,7 +97,7 @@ export function verdictOn(ask, answer) {
 
 const COUNTS = ["", "", "two", "three", "four", "five", "six", "seven", "eight", "nine", "ten"];
 
-// Decides whether the reader's order explains a run of these calls with the reader's replies. That run can leave other numbers.
+// Decides whether the reader's order explains another run: the same calls with the reader's replies, and perhaps other final keys.
 function isPossible(ask, answer) {
   const { calls, callLines } = answer.exercise;
   const ownLines = callLines.map((line, at) => (calls[at].ended === null ? line : line.replace(/\S+$/, answer.replyOf(calls[at]))));
@@ -129,7 +129,7 @@ function faultInWords(answer, { fault, call, place, reply, set, answer: due, beg
 // Returns an answer as the last word of a line to hand in, such as 0-true,2-true,1-false,3-true. Returns "" if no call is placed.
 export const wordOfAnswer = (answer) => answer.order().map(({ call, reply }) => `${call.id}-${reply}`).join();
 
-// Reads such a word. Each call is placed at the earliest moment of its bar that keeps the order. Returns null for any other text.
+// Reads an answer that `wordOfAnswer` has written. Each call is placed at the earliest moment of its bar that keeps the order. Returns null for any other text.
 export function answerOfWord(exercise, word) {
   const answer = new OwnAnswer(exercise);
   let at = 0;

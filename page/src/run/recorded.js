@@ -1,5 +1,5 @@
 // Calls recorded from the reader's own set: the judge's verdict in words, and the calls to draw.
-import { callsOfRecording, leavesKey, readVerdict, sentenceOn } from "../engine/answers.js";
+import { callOfRecording, callsOfRecording, leavesKey, readVerdict, sentenceOn } from "../engine/answers.js";
 import { nameOfCall } from "./judged.js";
 
 export const RECORDED_EXAMPLE = `listset-calls 1
@@ -79,4 +79,21 @@ export function verdictOnCalls(ask, answer, text) {
   if (judged.kind === "ok") return { kind: "ok", says: okInWords(judged), reasons: remarksOn(judged), calls: callsOfRecording(text, MOST_DRAWN) };
   if (judged.kind === "none") return verdictOfRefusal(judged.why, text);
   return { kind: "fault", says: troubleInWords(ask, judged.fault), reasons: [], calls: [] };
+}
+
+// ---- The diagnosis of a refused recording, which the engine returns as a record.
+/**
+ * A call on the key that shows the bug. `mark` is a note: the expected answer, the state that the call leaves, or that either answer was allowed.
+ * @typedef {ReturnType<typeof callOfRecording> & { mark: string }} CallOfBug
+ * @typedef {{ headline: string, calls: CallOfBug[], also: CallOfBug[], facts: string[], likely: string | null, because: string | null }} Diagnosis
+ */
+
+/** Returns the diagnosis of a record, or null if the record has none. @param {string} text @returns {Diagnosis | null} */
+export function diagnosisIn(text) {
+  const lines = text.split("\n").filter((line) => line !== "").map((line) => ({ word: line.split(" ")[0], rest: line.slice(line.indexOf(" ") + 1) }));
+  const all = (word) => lines.filter((line) => line.word === word).map(({ rest }) => rest);
+  const [headline] = all("headline");
+  if (headline === undefined) return null;
+  const callsOf = (word) => all(word).map((rest) => ({ ...callOfRecording(`${word} ${rest}`), mark: rest.split(" ").slice(6).join(" ").replace(/^-$/, "") }));
+  return { headline, calls: callsOf("call"), also: callsOf("also"), facts: all("fact"), likely: all("likely")[0] ?? null, because: all("because")[0] ?? null };
 }

@@ -118,7 +118,7 @@ export function eventsInCommon(one, other) {
   return count;
 }
 
-// Sorts the calls by when they take effect. At one moment the call that changes the set comes first, then the others by number.
+// Sorts the calls by when they take effect. Of the calls at one moment, the call that changes the set is first; the others follow by number.
 function orderOf(calls) {
   const placed = calls.filter((call) => call.at !== null);
   return placed.sort((one, other) => one.at - other.at || Number(other.changes) - Number(one.changes) || one.id - other.id);

@@ -79,7 +79,7 @@ export const QUESTIONS = [
     question: "A asks contains(5). Whenever A took a step, 5 was in the set, and it is in now. A is about to return false. When is A’s false correct?",
     options: [
       { text: "Never: it is a bug", says: "It looks like one. But A’s call is also pending while A is paused." },
-      { text: "After B’s mark, before B links 5 in again", right: true, says: "" },
+      { text: "After B’s mark, before its link", right: true, says: "" },
       { text: "When A answers", says: "Then 5 is in the set, in a new node." },
     ],
     why: "<b>From B’s mark to B’s link, 5 was not in the set,</b> and A’s call was pending. A’s call takes effect in the step in which B marks 5.<span class='aloud'> If you look only at A’s own steps, you find no such moment and would call a correct list wrong.</span>",

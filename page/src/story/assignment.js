@@ -105,7 +105,7 @@ function linesDone(tasks) {
 }
 
 // ---- The student's view: the tasks of a link, a tick for each solved task, and the text to hand in.
-export const titleOfAssignment = ({ id }) => id || "Assignment";
+const titleOfAssignment = ({ id }) => id || "Assignment";
 
 function doneOf(place) {
   const { tasks, unknown } = tasksOf(place.given);

@@ -129,13 +129,7 @@ function answer(index) {
 
 // Replays the winning run, from two steps before the first step that the correct list would not execute.
 function replay() {
-  const { figure } = scene;
-  figure.replay(Math.max(0, (departureOf(askNow, figure.run.trace) ?? 1) - 2));
-}
-
-function hint() {
-  if (now.scene.hints === HINTS) return scene.figure.again();
-  setScene({ hints: now.scene.hints + 1 });
+  scene.figure.replay(Math.max(0, (departureOf(askNow, scene.figure.run.trace) ?? 1) - 2));
 }
 
 function afresh() {
@@ -153,5 +147,9 @@ export const breakView = {
     if (now.scene.stage === "done" && numberOfKey(event) !== -1) answer(numberOfKey(event));
     else pressThread(event);
   },
-  deeds: { answer: ({ dataset }) => performance.now() - scene.figure.brokenAt > LATE && answer(Number(dataset.option)), hint, replay, afresh },
+  deeds: {
+    answer: ({ dataset }) => performance.now() - scene.figure.brokenAt > LATE && answer(Number(dataset.option)),
+    hint: () => (now.scene.hints === HINTS ? scene.figure.again() : setScene({ hints: now.scene.hints + 1 })),
+    replay, afresh,
+  },
 };

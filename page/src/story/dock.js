@@ -13,7 +13,7 @@ const AGAIN = `<span class="again"><button data-undo class="quiet small" title="
 export function showDock(figure) {
   const { spec, run } = figure;
   if (spec.dock === false || figure.hidesDock) return redraw(figure.part("dock"), "");
-  if (figure.isBusy && figure.part("dock").childElementCount > 0) return; // while steps are shown, the buttons stay as they are
+  if (figure.isBusy && figure.part("dock").childElementCount > 0) return; // the buttons do not change while steps are shown
   const isChanged = run.lines.length !== run.first.length && spec.again !== false;
   redraw(figure.part("dock"), figure.shown.map((thread) => rowOf(figure, thread)).join("") + (isChanged ? AGAIN : ""));
 }
@@ -138,7 +138,6 @@ export function chooseCall(figure, row) {
   figure.chosen = { ...figure.chosen, [row.dataset.thread]: call };
 }
 
-// Asks the reader which call an idle thread begins, and focuses its fields.
 export function askCall(figure, thread) {
   figure.say(`Which call should ${chipOf(thread)} begin? Choose an operation and a number, then press <b>begin</b>.`);
   figure.box.querySelector(`[data-thread="${thread}"] select`)?.focus();

@@ -30,7 +30,7 @@ export class Figure {
   isLost = false; // lost nodes are drawn as lost
   isSlow = false; // a node falls out of the chain, in slow motion
   hides = true; // the history shows no later events
-  drawn = { count: 0, chain: [], slots: 0, tight: 0 }; // the event and the chain of the last drawing; the most nodes and the tightest form of all drawings
+  drawn = { count: 0, chain: [], slots: 0, tight: 0 }; // of the last drawing: the event and the chain; of all drawings: the most nodes and the tightest form
   wide = 0; // width of the list in pixels
   tall = 0; stripWide = 0; scroll = 0;
   said = null; // a sentence that replaces the sentence about the step
@@ -107,7 +107,6 @@ export class Figure {
     await this.play(thread, next.steps, before);
   }
 
-  // Handles a thread's key: the thread takes its next steps, or begins the call that is entered in its fields.
   press(thread) {
     if (!this.canStep || !this.shown.includes(thread)) return;
     const isFree = this.run.isIdle(thread) && this.left(thread).length === 0 && this.spec.free;
@@ -169,7 +168,6 @@ export class Figure {
     await this.show(from);
   }
 
-  // Waits between two presses of thread buttons that the page makes for the reader.
   async rest() {
     markBusy(true);
     await sleep(wantsStill() ? 0 : BETWEEN);

@@ -109,7 +109,7 @@ function titleOf(task, courses) {
 
 export const markOf = ({ solved, wrong }, { id }) => (solved.has(id) ? "solved" : wrong.has(id) ? "wrong" : "none");
 export const countOf = ({ solved }, columns) => columns.filter(({ id }) => solved.has(id)).length;
-export const countText = (row, columns, none) => (row.isCounted ? countOf(row, columns) : none); // a student who handed in for another assignment has not failed in this one
+export const countText = (row, columns, none) => (row.isCounted ? countOf(row, columns) : none); // a hand-in for another assignment is no failure in this one
 
 function notesOnNames(row, rows) {
   const { name, number, files } = row;

@@ -39,7 +39,7 @@ function begin({ id, given }) {
   const codeNote = lesson.lacks === null ? "" : LACKS_ONE;
   const run = { ...runOfText(lesson.begun), version: versionOf(lesson.begun), lacks: lesson.lacks };
   const figure = takeFreeFigure(lesson.list, { ...run, scrub: true, operations, codeNote, asksCall: true });
-  Object.assign(figure, { onStep: looked, onFork: goOnFromHere });
+  Object.assign(figure, { onStep: looked, onFork: ({ run }) => run.count < run.trace.total && run.take(run.linesHere()) });
   if (own !== null && own !== lesson.begun && fits(own)) takeTry(figure, linesOf(own));
   looked();
 }
@@ -50,10 +50,6 @@ function takeTry(figure, lines) {
   figure.run.take(lines);
   if (figure.run.trace.refused !== null) figure.run.take(figure.run.first);
   figure.draw();
-}
-
-function goOnFromHere({ run }) {
-  if (run.count < run.trace.total) run.take(run.linesHere());
 }
 
 function looked() {

@@ -23,7 +23,6 @@ export function runOfText(text) {
 export class RunFault extends Error {}
 
 export class ShownRun {
-  /** @param {any} trace @param {any} state */
   constructor(trace, state, count = 0) {
     this.trace = trace;
     this.state = state;
@@ -34,7 +33,6 @@ export class ShownRun {
     return this.state.threads[thread].pc === 0;
   }
 
-  // `promised` returns the keys in the set after `count` events according to the linearization points. `has` returns the keys that a walk over the list finds.
   promised(count = this.trace.total) {
     return promisedKeys(this.trace, count);
   }

@@ -71,7 +71,7 @@ export const notesView = {
 
 // ---- The handout: for each slide its picture, its question, and lines to write on.
 const ROOM = { wide: 430, high: 115, hides: ["succ"] };
-const BARS_WIDTH = 380; // less than that of the lists: a print is as wide for both, so the letters on the bars become as large as those of the lists
+const BARS_WIDTH = 380; // the print enlarges bars and lists to the same width; narrower bars get letters as large as those of the lists
 
 function pictureOf(figure) {
   const run = new LiveRun(figure);
@@ -107,7 +107,6 @@ function sheetOfSeed(seed) {
 /** @param {any[]} slide */
 function sheetOf([, title, address], at) {
   const { story, ask: name, seed } = Object.fromEntries(new URLSearchParams(address.slice(1)));
-  /** @type {any} */
   const sheet = story ? sheetOfScreen(SCREENS[Number(story) - 1]) : name ? sheetOfItem(QUESTIONS.find((item) => item.name === name)) : seed ? sheetOfSeed(seed) : sheetOfSides();
   const { prose, drawn, ask, options = [] } = sheet;
   const choices = options.length === 0 ? "" : tag("ol", { class: "choices" }, ...options.map(({ text }) => tag("li", {}, text)));

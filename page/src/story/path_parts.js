@@ -29,7 +29,6 @@ export function welcome(done) {
 
 const asked = (text, note = "") => `<p class="ask">${text}</p>${note === "" ? "" : `<p class="again">${note}</p>`}`;
 
-// Returns the question of a screen with the reply.
 function askedBefore({ ask }, reply) {
   if (ask === undefined) return "";
   return (reply || '<p class="you"></p>').replace(">", `><span class="was">${partsOfQuestion(ask)[1]}</span> `);
@@ -61,7 +60,6 @@ export function drawBar(stage, number, words = number === SCREENS.length ? "And 
 
 export const LAST = SCREENS.length + 1; // the number of the last screen
 
-// Returns the last screen: its text is in index.html.
 export function endHtml(done) {
   const count = SCREENS.filter(({ id }) => done[id]).length;
   return byId("path-end").innerHTML.replace("COUNT", `${count} of the ${SCREENS.length}`).replace("<!-- truth -->", byId("truth").innerHTML);

@@ -29,7 +29,7 @@ const here = () => screenOf(now.place);
 const PLACES = Array.from({ length: LAST }, (_, index) => partsOf(index + 1).map((screen) => `${index + 1}.${partName(screen)}`.replace(/[.]1$/, ""))).flat();
 
 function goBy(by) {
-  if (now.place.slide > 0) return toSlide(by); // a slide has only the first part of a screen
+  if (now.place.slide > 0) return toSlide(by); // a slide shows only the first part of a screen
   let to = PLACES.indexOf(now.place.id) + by;
   if (!here()?.isExtra) while (screenOf({ id: PLACES[to] })?.isExtra) to += by;
   location.hash = `#story=${PLACES[to]}`;
@@ -61,7 +61,7 @@ function begin(place) {
 function draw(state) {
   const screen = here();
   if (screen === null || state.stage === "") return;
-  if (state.stage !== "done" || part(".reveal") === null) showPrompt(promptOf(screen, state, scene.figure)); // the reader can step on after the reveal
+  if (state.stage !== "done" || part(".reveal") === null) showPrompt(promptOf(screen, state, scene.figure)); // after the reveal, the reader can make more steps
   drawBar(state.stage, placeIn(now.place).number, screen.onWords);
   if (scene.figure.placing !== null) showStrip(scene.figure);
   byId("scene").dataset.stage = state.stage;
@@ -124,11 +124,6 @@ function placed(moments) {
   else if (verdict !== null) setScene({ note: verdict.says });
 }
 
-function saidNone() {
-  if (here().hasNone) done();
-  else setScene({ note: here().again });
-}
-
 function done() {
   const { figure } = scene;
   if (here().ledger) figure.set({ isLost: true });
@@ -146,7 +141,7 @@ function keepPart({ number, at }, { id }) {
 
 function focusOn() {
   const isElsewhere = () => document.activeElement.closest(":is(button, a, input, [tabindex='0']):not(.again button, [role=slider])")?.getClientRects().length > 0; // (a low window hides the buttons of threads)
-  if (!isLecture()) setTimeout(() => isElsewhere() || part("#go-on")?.focus({ preventScroll: true })); // after the key press, which would press the button too
+  if (!isLecture()) setTimeout(() => isElsewhere() || part("#go-on")?.focus({ preventScroll: true })); // later, since this key press would also press the focused button
 }
 
 // Returns the thread to press next to complete the task. If the task can fail, a search finds the thread; otherwise the screen's `help` lists the presses.
@@ -210,5 +205,5 @@ export const pathView = {
   fault: ({ id }) => (id === "" || PLACES.includes(id) ? null : `the path has no screen "${id}"`),
   title: (place) => `${screenOf(place)?.question ?? "So, why not just one lock?"} · Why not just one lock?`,
   html, begin, draw, press, goes,
-  deeds: { none: saidNone, answer: ({ dataset }) => guessed(Number(dataset.option)), show: showMe, on: () => goBy(1), back: () => goBy(-1), afresh: startAfresh },
+  deeds: { none: () => (here().hasNone ? done() : setScene({ note: here().again })), answer: ({ dataset }) => guessed(Number(dataset.option)), show: showMe, on: () => goBy(1), back: () => goBy(-1), afresh: startAfresh },
 };

@@ -50,7 +50,6 @@ export class Placing {
     this.box = this.scale = null;
   }
 
-  // Returns the reader's answer, made of the moments in the state.
   get answer() {
     const answer = new OwnAnswer(this.exercise);
     for (const [id, at] of now.scene.moments) answer.place(this.exercise.calls[id], at);

@@ -23,7 +23,7 @@ const PHASES = {
 };
 
 export const phaseAt = (list, row, plain) => PHASES[plain ? "plain" : list][row] ?? "answer";
-// Returns the rows that always belong to the press before them, whatever their phase.
+// Returns the rows that a press always executes together with the row before them, whatever their phase.
 export const joinedRows = (list, plain) => (plain ? [10] : list === "lock-free" || list === "lazy" ? [22, 25] : []);
 
 const WORDS = {

@@ -18,7 +18,6 @@ const JUDGED = "listset-judged";
 export const judgedLines = () => Object.fromEntries(textsKept(keptUnder(JUDGED)));
 export const keepJudged = (run, line) => keepUnder(JUDGED, { ...keptUnder(JUDGED), [run]: line });
 const isBrokenLine = ([name, line]) => Object.hasOwn(LACKING, name) && isText(line);
-// Returns the lines to hand in about broken lists, each with the name of its list.
 export const brokenLines = () => Object.entries(keptUnder(BROKEN) ?? {}).filter(isBrokenLine).map(([name, line]) => [name, isNamed(name) ? `${line} ${NAMED_TOO}` : line]);
 export const isBrokenOnce = (name) => brokenLines().some(([one]) => one === name);
 export const keepBrokenLine = (name, line) => keepUnder(BROKEN, { ...keptUnder(BROKEN), [name]: line });
@@ -32,7 +31,7 @@ export function startAfresh(button) {
     button.textContent = "Press again to delete";
     return;
   }
-  change("run", { text: "" }); // so that the text is not stored again
+  change("run", { text: "" }); // otherwise the text would be stored again
   try {
     for (const name of Object.keys(localStorage)) if (name.startsWith("listset-")) localStorage.removeItem(name);
   } catch {

@@ -22,7 +22,7 @@ export function saidOf(moment, { plain = false, isPath = false } = {}) {
   return `${chipOf(event.thread)} ${said}${answer}`;
 }
 
-// Tells that a remove does not lock its node. Only the path tells this: in Break, it would name the missing check.
+// Returns the sentence that a remove does not lock its node. Only the path shows the sentence: in Break, it would name the missing check.
 function lockLeftOut({ trace, event: { call, word, saw } }) {
   const isFound = trace.lacks === "second-lock" && call.operation === "remove" && word?.endsWith(".key") && Number(saw) === call.key;
   return isFound ? ` It does not lock ${saw}.` : "";

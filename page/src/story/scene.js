@@ -63,15 +63,15 @@ export function renderScene({ place, scene: state }) {
   view.draw?.(now.scene);
   if (!scene.isFirst && ["BODY", "MAIN"].includes(document.activeElement.tagName)) box.querySelector("h1")?.focus({ preventScroll: true });
   if (!scene.isFirst) scene.begun = performance.now();
-  scene.isFirst = false; // the focus moves to the title of the opened place
+  scene.isFirst = false; // from now on, the focus moves to the title of each opened place
 }
 
-// Decides whether a click on the button at the right was meant for the place before: that button was at the same position.
+// Decides whether a click on the button at the right was meant for the screen before, which had a button at the same position.
 const isSecondClick = (target) => performance.now() - scene.begun < JUST_OPENED && target.closest("#go-on:not(.ready)") !== null;
 const JUST_OPENED = 700; // milliseconds
 
 export function openScene({ activity, id = "", given = {}, view = null, slide = 0 }) {
-  scene.key = ""; // so that a place that is shown already begins again
+  scene.key = ""; // otherwise a place that is already shown would not begin again
   change("view", { view, slide });
   dispatch("place", { activity, screen: "scene", id, given });
 }

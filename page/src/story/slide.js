@@ -1,4 +1,4 @@
-// Handles a presenter's keys: through the steps of a slide, and on to the next slide. Keys pressed during an animation are handled after it.
+// Handles a presenter's keys, which move through the steps of a slide and then to the next slide. A key pressed during an animation waits.
 import { LECTURE, slideAddress } from "../data/lecture.js";
 import { isLecture, now } from "../page/now.js";
 import { goByHand, goToTurn } from "../page/play.js";

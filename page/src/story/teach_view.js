@@ -79,7 +79,7 @@ function fill() {
   piece("count").textContent = count === 0 ? "Nothing is ticked yet." : `${counted(count, "task")}.${warningOf(linkTo(address))}`;
   piece("link").textContent = linkTo(address);
   piece("open").href = address;
-  if (count > 0) Object.assign(part("#in-link"), { value: linkTo(address) }).oninput?.(); // the panel of hand-ins then checks for this assignment
+  if (count > 0) Object.assign(part("#in-link"), { value: linkTo(address) }).oninput?.(); // the panel of hand-ins then counts the tasks of this assignment
   const item = (seed, at) => `<li><code>${seed}</code> <a href="#seed=${seed}" target="_blank">look</a>
     <button class="quiet small" data-do="drop" data-at="${at}" aria-label="leave out ${seed}">✕</button></li>`;
   piece("seeds").innerHTML = work.seeds.map(item).join("");
