@@ -126,7 +126,8 @@ def test_a_faulty_course_has_no_link(visitor):
     visitor.wait("return document.getElementById('lesson-faults').innerText.includes('it opens')")  # a later line would move the button
     visitor.type("#lesson-course-text", COURSE.replace("list lazy", "list crazy"))
     visitor.click("#lesson-link")
-    assert visitor.text("#lesson-faults").startswith("line 5:") and not visitor.is_seen("#lesson-link-text")
+    visitor.wait("return document.getElementById('lesson-faults').innerText.startsWith('line 5:')")
+    assert not visitor.is_seen("#lesson-link-text")
 
 
 def test_a_goal_without_a_bound_is_reported(visitor):

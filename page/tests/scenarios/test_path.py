@@ -227,11 +227,17 @@ def test_the_second_press_of_a_double_press_skips_nothing(visitor):
     visitor.wait("return location.hash === '#story=3'")
 
 
+FIRST_REPLY = """window.first = null; new MutationObserver(() => { const you = document.querySelector("#prompt .you");
+    if (you !== null) window.first ??= [you.innerText, document.querySelector("#prompt :is(.right, .wrong)") === null]; }).observe(document.getElementById("scene"), { subtree: true, childList: true })"""
+
+
 def test_a_reply_does_not_reveal_the_answer_before_it_is_seen(visitor):
     for number, key in ((3, "1"), (3, "3")):
         visitor.open(f"#story={number}")
+        visitor.script(FIRST_REPLY)
         visitor.press(key)
-        assert visitor.text(".you").endswith("Let us see.") and not visitor.is_seen(":is(.right, .wrong)"), (number, key)
+        text, is_hidden = visitor.wait("return window.first")
+        assert text.endswith("Let us see.") and is_hidden, (number, key)
     visitor.open("#story=3")
     guess(visitor, "1")
     assert visitor.text(".you").startswith("How far does B get? You said: to its answer.")
