@@ -1,4 +1,4 @@
--- Proof: the stored state of a stream (which judges calls one after another) stays correct when a call starts.
+-- Proof: the stored state of a stream (a judge of calls in sequence) stays correct when a call starts.
 use Rattle.std.proofs.Common.{◌≡◌, ◌≢◌, ℕ, suc, ◌+◌, ◌-◌, ◌<◌, ◌≤◌, true, List, [], ◌∷◌, ◌++◌, refl, sym, ap, ◌∙◌, arith, subst, inl, inr}
 use Rattle.std.proofs.Common.{length, get_or, length-append}
 use Rattle.std.specs.Prelude.{Option, Some, None, IfSome, IsSomeAnd, All, Contains}
@@ -68,7 +68,7 @@ end_met threads opening calls s t moment p rest upto next pending at met is =
           (subst (λ (q : Pending). IsMetBy s.states (key_in q) q.end (event_of q) t.states s.failed t.failed) (sym own) met) is.judged);
     }
 
--- ---- Proof that the stored state of the stream stays correct when call x starts
+-- ---- Proof for the start of a call x
 
 module _ (threads : ℕ) (opening : List ℕ) (calls : List CallRecord) (s : Stream) (is : IsStreamOf threads opening calls s) (x : CallRecord)
     (may : MayCome s.pending s.moment x) (met : All (λ (p : Pending). x.begun ≤ p.end) s.pending) where

@@ -1,4 +1,4 @@
--- Proof: if two calls contradict each other, no order explains the calls, whatever other calls there are.
+-- Proof: if two calls on a key contradict each other, no order explains the calls.
 use Rattle.std.proofs.Common.{◌≡◌, ℕ, ◌<◌, ◌≤◌, ◌⊎◌, List, [], ◌∷◌, Bool, true, false, inl, inr, refl, sym, ap, ◌∙◌, arith, subst, length, get_or, map}
 use Rattle.std.specs.Prelude.{not, ◌||◌, Option, Some, None, IfSome, IsSomeAnd, All, Contains as Has, ◌==◌}
 use Rattle.std.specs.List.{AllByRecursion}
@@ -34,7 +34,7 @@ use Rattle.lset_judge.proofs.PlacedCalls.{below_test}
 use Rattle.lset_judge.proofs.TimelineOfKey.{In, one_of, Act, act, suits, becomes, TakeTurns, Apart, IsAct}
 use Rattle.lset_judge.proofs.TimelineFromOrder.{does, begins_told, stands, ready}
 
--- ---- Lemmas about the acts in an order. An act is the effect of a call on the key.
+-- ---- Lemmas about the acts (effects of calls on the key) in an order
 
 abbrev Before : Act → Act → List Act → Type 0
 Before x t [] = ⊥
@@ -90,7 +90,7 @@ after_left left s b x (p ∷ ys) turns pairs (inl e) l n = stays_left left (beco
     (λ a j d. n a (inr j) d (subst (λ (q : Act). q.begun < a.until) e (one_of (Apart p) a ys pairs.0 j).in_time))
 after_left left s b x (p ∷ ys) turns pairs (inr i) l n = after_left left (becomes s p.does) b x ys turns.1 pairs.1 i l (λ a j. n a (inr j))
 
--- ---- Lemmas about the key's state after a call, and about the state that a call needs
+-- ---- Lemmas about the state that a call leaves, and the state that a call needs
 
 pub some_same : (p q : Presence) → Some p ≡ Some q → p ≡ q
 some_same p q e = cc
@@ -137,7 +137,7 @@ ended_by_then since u last x (Some d) e is h =
 pub before_end : (begun : ℕ) (e : ℕ × Reply) (y : CallRecord) → y.ended ≡ Some e → begun < e.0 → is_before begun (Some y) ≡ true
 before_end begun e y is l = rw is (below_test begun e.0 l)
 
--- ---- Lemmas about the acts that an order of the calls determines. An act is the effect of a call on the key.
+-- ---- Lemmas about the acts (effects of calls on the key) in an order of the calls
 
 module _ (threads : ℕ) (calls : List CallRecord) (history : IsHistory threads calls) (last : ℕ) (upto : latest_moment calls ≤ last) (k : ℕ)
     (there : Presence) (left : Option Presence) (finally : Bool) (leaves : IfSome left (λ (l : Presence). finally ≡ is_there l))
@@ -232,7 +232,8 @@ clash_refutes h keys k there left was first second history opens leaves c order 
     by_last : (o : Option CallRecord) (x : CallRecord) (e : ℕ × Reply) → IsOf h.calls k x → o ≡ Some x → x.ended ≡ Some e → e.0 ≤ latest_moment h.calls
     by_last o x e is same ended = end_below h.calls is.known.0 x e is.known.1 (ap (λ (z : CallRecord). z.ended) is.known.2 ∙ ended)
 
--- If two calls on a key contradict each other, no order explains the key's calls, with any quota.
+-- Lemma: if two calls on a key contradict each other, no order explains the key's calls, with any quota (the number of
+-- successful `add`s that one thread can make).
 pub clash_has_none : (threads key : ℕ) (there : Presence) (left : Option Presence) (was : Presence) (first second : Option CallRecord) (calls : List CallRecord)
     → IsHistory threads calls → IsClash calls key there left was first second → HaveNone threads key there left calls
 clash_has_none threads key there left was first second calls history c quota keys leaves =
@@ -243,7 +244,7 @@ clash_has_none threads key there left was first second calls history c quota key
     left_as None e = tt
     left_as (Some l) e = ap (has_key key) e ∙ opens_so (is_there l) key
 
--- ---- Lemmas about the tests that the code performs
+-- ---- Lemmas about the checks in the code
 
 ends : (a b c : Bool) → a ≡ true → b ≡ true → (not a || (not b || c)) ≡ true → c ≡ true
 ends true true c e f h = h

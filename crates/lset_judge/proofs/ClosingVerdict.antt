@@ -1,4 +1,4 @@
--- Proof: once the starts and ends of all recorded calls have been processed, the verdict is correct.
+-- Proof: once the judge has processed the starts and ends of all recorded calls, its verdict is correct.
 use Rattle.std.proofs.Common.{◌≡◌, ◌≢◌, ℕ, ◌-◌, ◌<◌, ◌≤◌, Bool, false, List, [], ◌∷◌, sym, ap, ◌∙◌, arith, inl, inr, zero, suc, true, refl, subst, length, get_or}
 use Rattle.std.specs.Prelude.{◌==◌, ◌&&◌, nat_le, None, IfSome, ◌||◌, Option, Some, is_some, MatchOption, All}
 use Rattle.std.specs.List.{AllByRecursion}
@@ -32,7 +32,7 @@ use Rattle.lset_judge.proofs.PlacedCalls.{same_flips}
 use Rattle.lset_judge.proofs.RuleLeads.{at_once, no_state, settled_none}
 use Rattle.lset_judge.proofs.StreamSteps.{same_some, until_end}
 
--- ---- Calls that start after a moment do not change the result of the judge's test of a key up to this moment
+-- ---- Lemmas about calls that start after a moment
 
 abbrev EndsLater : CallRecord → Type 0
 EndsLater x = IfSome x.ended (λ (e : ℕ × Reply). x.begun < e.0)
@@ -126,7 +126,7 @@ as_it_is s = of s.there (has_any (options s))
     of true b = refl
     of false b = refl
 
--- ---- No event is after the last moment of the history
+-- ---- Lemmas about the last moment of a history
 
 pub latest_upto : (G : ℕ) (xs : List CallRecord) → All (λ (x : CallRecord). (x.begun ≤ G) × IfSome x.ended (λ (e : ℕ × Reply). e.0 ≤ G)) xs → latest_moment xs ≤ G
 latest_upto G [] a = omega arith
@@ -140,7 +140,7 @@ latest_upto G (x ∷ xs) a =
     upto None h = omega arith
     upto (Some e) h = h
 
--- ---- Proof that the verdict is correct
+-- ---- Proof of the verdict
 
 module _ (threads : ℕ) (opening : List ℕ) (calls : List CallRecord) (s : Stream) (is : IsStreamOf threads opening calls s)
     (met : All (λ (p : Pending). behind_all ≤ p.end) s.pending) where

@@ -1,5 +1,5 @@
 -- Proof: if a key would have to change back between calls more often than other calls can change it, no order explains
--- the calls. This holds whatever the other calls did.
+-- the calls.
 use Rattle.std.proofs.Common.{◌≡◌, ◌≢◌, ℕ, zero, suc, ◌+◌, ◌<◌, ◌≤◌, ◌⊎◌, List, [], ◌∷◌, Bool, true, false, inl, inr, refl, sym, ap, ◌∙◌, arith, subst, length}
 use Rattle.std.proofs.Common.{◌-◌, drop, get_or, map, take}
 use Rattle.std.proofs.lemmas.Grind.{common_steps}
@@ -68,8 +68,7 @@ empty_or_not : (xs : List ℕ) → (xs ≡ []) ⊎ ((u : ℕ) × (has_key u xs �
 empty_or_not [] = inl refl
 empty_or_not (x ∷ xs) = inr (x, has_head x xs)
 
--- ---- Lemmas about the acts in a count. An act is the effect of a call; the key must change back between any two of
--- them.
+-- ---- Lemmas about the acts (effects of calls on the key) in a count
 
 abbrev Needs : Bool → Kind → Type 0
 Needs b k = (s : Bool) → suits s k → s ≡ not b
@@ -103,10 +102,10 @@ turns_or_not false s (changes false) h = inr (let a = against_so false false ref
 turns_or_not b s (sees w) h = inr (omega arith)
 turns_or_not b s nothing h = inr (omega arith)
 
--- An act is the effect of a call, and `us` are the ends of the counted acts. `Earlier` holds if a counted act other
--- than t starts before t ends. `Later` holds if a counted act other than a ends after a starts. If `o` is None, the
--- opening state counts as an act, and `Earlier` holds. If `c` is None, the final state counts as an act, and `Later`
--- holds.
+-- `Earlier` holds if an act other than t, with its end in `us`, starts before t ends. `Later` holds if an act other
+-- than a, with its end in `us`, ends after a starts. (An act is the effect of a call. `us` contains the ends of the
+-- counted acts.) If `o` is None, the key's opening state counts as an act, and `Earlier` always holds. If `c` is None,
+-- the key's final state counts as an act, and `Later` always holds.
 abbrev Earlier : Option ℕ → List ℕ → List Act → Act → Type 0
 Earlier o us ys t = ((a : Act) × In a ys × (has_key a.until us ≡ true) × (a.until ≢ t.until) × (a.begun < t.until)) ⊎ (o ≡ None)
 
@@ -195,8 +194,9 @@ module _ (b left : Bool) (c : Option ℕ) where
         ])
       ]
 
-  -- The number of counted acts is at most the number of changes back plus one. Between any two counted acts, the key
-  -- must change back. (An act is the effect of a call. The final state counts as an act if c is None.)
+  -- Lemma: the number of counted acts is at most one more than the number of changes back, because the key must change
+  -- back between any two counted acts. (An act is the effect of a call. The key's final state counts as an act if c is
+  -- None.)
   count_from : (s : Bool) (o : Option ℕ) (us zs : List ℕ) (ys : List Act) → TakeTurns left s ys → Pairs Apart ys → Due b left o c us zs ys
       → length us + also c ≤ suc (length zs)
   count_from s o (u ∷ us) zs [] turns pairs d = absurd (d.stand u (has_head u us)).1
@@ -276,7 +276,7 @@ module _ (f : CallRecord → ℕ) where
     no_twice_mapped xs p.1,
   )
 
--- ---- Lemmas about the calls in a count, which are too many calls on a key for any order
+-- ---- Lemmas about the calls in a count (so many calls on a key that no order can contain all of them)
 
 until_is : (last : ℕ) (x : CallRecord) (e : ℕ × Reply) → x.ended ≡ Some e → until last x ≡ e.0
 until_is last x e is = rw is refl
@@ -307,7 +307,7 @@ other_not : (p : Presence) → is_there (other p) ≡ not (is_there p)
 other_not Present = refl
 other_not Absent = refl
 
--- ---- Lemmas about the acts that an order of the calls determines. An act is the effect of a call on the key.
+-- ---- Lemmas about the acts (effects of calls on the key) in an order of the calls
 
 module _ (threads : ℕ) (calls : List CallRecord) (history : IsHistory threads calls) (last : ℕ) (upto : latest_moment calls ≤ last) (k : ℕ)
     (there : Presence) (left : Option Presence) (finally : Bool) (leaves : IfSome left (λ (l : Presence). finally ≡ is_there l))
@@ -346,7 +346,8 @@ module _ (threads : ℕ) (calls : List CallRecord) (history : IsHistory threads 
       let t : x.begun ≡ y.begun = ap (λ (z : CallRecord). z.begun) s in let l = n.later in omega (arith, t, l))
       (ap (until last) (numbered x p) ∙ q ∙ sym (ap (until last) (numbered y r)))
 
-  -- Holds if act a is the effect of some counted call x: both have the same start, end and effect.
+  -- Holds if the act a (the effect of a call on the key) belongs to a counted call x: a and x have the same start, end
+  -- and effect.
   record IsDue (a : Act) : Type 0 where
     x : CallRecord
     counts : In x counted
@@ -472,7 +473,7 @@ count_refutes h keys k there left was since til counted history opens leaves c o
     (subst (λ b. TakeTurns (has_key k keys) b acts) opens r.take_turns) r.pairs r.acts
     (stands h.opening.threads h.calls history last upto k h.opening.quota (opening_set h.opening) order ex.linearizes) was since til counted c
 
--- ---- Lemmas about the tests that the code makes
+-- ---- Lemmas about the checks in the code
 
 pub one_more : {X : Type 0} (P : X → Type 0) (xs : List X) (n : ℕ) (e : X) → ((i : ℕ) (d : X) → i < n → P (get_or xs i d)) → n < length xs
     → P (get_or xs n e) → (i : ℕ) (d : X) → i < n + 1 → P (get_or xs i d)

@@ -1,4 +1,4 @@
--- Proofs about the moments when pending changes end. The code stores these moments in a heap, and contracts describe
+-- Proofs about the moments when pending changes end. The code stores the moments in a heap, and the contracts describe
 -- them as a list in increasing order.
 use Rattle.std.proofs.Common.{◌≡◌, ℕ, suc, ◌+◌, ◌-◌, ◌<◌, ◌≤◌, List, [], ◌∷◌, Bool, true, false, inl, inr, refl, sym, ap, ◌∙◌, arith, subst, length}
 use Rattle.std.specs.Prelude.{◌==◌, nat_lt, slice_index_or, slice_get, if◌then◌else◌, Option, Some, None, All, MatchOption}
@@ -157,7 +157,7 @@ first_popped end moment old new (Some e) first all early is =
     let h : Some e ≡ Some end = subst (λ (xs : List ℕ). slice_get xs 0 ≡ Some end) is.0 first in let same : end ≡ e = cc in
     (is.0, subst (λ (n : ℕ). n < moment) same early, subst (λ (n : ℕ). All (λ (o : ℕ). n ≤ o) old) same all)
 
--- ---- Lemmas about the loop that makes pending changes take effect, one after another
+-- ---- Lemmas about pending changes that take effect one after another
 
 pub put_turned : (m t end : ℕ) (b : Bool) (ps ks rest : List ℕ) → b ≡ false → ps ≡ end ∷ rest → nearest end rest ≡ end
     → turned_if m (at b t ps ks) (options (at b t ps ks)) ≡ Some (at true m rest ks)
@@ -190,8 +190,8 @@ one_fewer m true t ps (x ∷ xs) g e =
     omega (arith, l, n)
 one_fewer m b t ps ks g e = no_state g e _
 
--- A step of the judge's test. If the event v is not possible in the key's state s, one pending change takes effect, and
--- the test continues from the new state g.
+-- Lemma: if the event v is not possible in the key's state s, the judge's test lets one pending change take effect and
+-- continues from the resulting state g.
 pub settles_on : (m : ℕ) (v : Event) (s g : State) → fits (suc m) v s ≡ false → turned_if m s (options s) ≡ Some g
     → settled (open_changes s) m v (Some s) ≡ settled (open_changes g) m v (Some g)
 settles_on m v s g f e =

@@ -1,4 +1,4 @@
--- Proofs about the events of a key: the starts and ends of the calls on this key.
+-- Proofs about the events of a key: the starts and ends of the calls on the key.
 use Rattle.std.proofs.Common.{◌≡◌, ◌≢◌, ◌⊎◌, ℕ, zero, suc, ◌<◌, ◌≤◌, List, [], ◌∷◌, Bool, true, false, inl, inr, refl, sym, ap, ◌∙◌, arith}
 use Rattle.std.proofs.Common.{subst, length, get_or}
 use Rattle.std.specs.Prelude.{◌==◌, if◌then◌else◌, Option, Some, None, AllPairs, IfSome, filter}
@@ -83,7 +83,7 @@ told last k m (x ∷ xs) = elim (cases_Bool ((key_of x.call).0 == k)) [
   ]
 ]
 
--- ---- Lemmas about the end of a call, if the call has ended
+-- ---- Lemmas about the end of a call
 
 pub none_or_some : (o : Option (ℕ × Reply)) → (o ≡ None) ⊎ ((e : ℕ × Reply) × (o ≡ Some e))
 none_or_some None = inl refl
@@ -96,7 +96,7 @@ pub for_some : (P : ℕ × Reply → Type 0) (o : Option (ℕ × Reply)) → ((e
 for_some P None h = tt
 for_some P (Some e) h = h e refl
 
--- ---- Lemmas about the event when a call starts
+-- ---- Lemmas about the start of a call
 
 pub ends_not : (m : ℕ) (o : Option (ℕ × Reply)) → IfSome o (λ (e : ℕ × Reply). e.0 ≢ m) → ends_at m o ≡ false
 ends_not m None h = refl

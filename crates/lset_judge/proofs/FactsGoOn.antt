@@ -1,5 +1,5 @@
 -- Proof: the facts that the judge stores about the calls on each key are correct when the set opens, and stay correct
--- when a call starts or ends. With these facts, the judge finds two calls that contradict each other.
+-- when a call starts or ends. From these facts, the judge finds a clash (two calls that contradict each other).
 use Rattle.std.proofs.Common.{inl, inr, ◌≡◌, ◌≢◌, ℕ, suc, ◌-◌, ◌<◌, ◌≤◌, true, false, List, [], ◌∷◌, ◌++◌, refl, sym, ap, ◌∙◌, arith, subst, length, get_or}
 use Rattle.std.proofs.Common.{append_assoc, append-nil}
 use Rattle.std.specs.Prelude.{Option, Some, None, IfSome, IsSomeAnd, All, Contains, is_some, nat_lt}
@@ -37,7 +37,7 @@ use Rattle.lset_judge.specs.Judge.{ClashesIn}
 use Rattle.lset_judge.specs.Pending.{IsNext}
 use Rattle.lset_judge.proofs.RuleLeads.{at_once}
 
--- ---- The stored facts about the calls on each key are correct when the set opens
+-- ---- The stored facts are correct when the set opens
 
 pub first_facts : (opening : List ℕ) (k : ℕ) (f : Facts) → f ≡ facts_opened (presence (has_key k opening)) → AreFacts opening [] k f
 first_facts opening k f e = subst (AreFacts opening [] k) (sym e) (record {
@@ -45,7 +45,7 @@ first_facts opening k f e = subst (AreFacts opening [] k) (sym e) (record {
   over = λ there i d low. absurd (omega (arith, low));
 })
 
--- ---- If the facts that the judge stores show a clash of two calls, no order can contain both
+-- ---- The stored facts show only clashes that exist
 
 ended_since : (since begun : ℕ) (o : Option (ℕ × Reply)) → until_if behind_all begun o ≤ since → since < behind_all → has_ended since o ≡ true
 ended_since since begun None low bound = absurd (omega (arith, low, bound))
@@ -160,7 +160,7 @@ clash_found opening calls f call facts before moment c s is by_then = λ later a
     (is_clash opening calls k f facts before moment call is e.0 e.1 (by_then e.0 e.1) later after f.was (first_of k f) facts.was
     s.clashing.standing s.clashing.needs s.clashing.order)
 
--- ---- The stored facts about the calls on each key stay correct when a call ends
+-- ---- The stored facts stay correct when a call ends
 
 pub ended_facts : (opening : List ℕ) (calls : List CallRecord) (call : StreamCall) (old new : Facts) → AreFacts opening calls (own_key call) old
     → IsEnded call old new → IsOf calls (own_key call) (record_of call) → AreFacts opening calls (own_key call) new
@@ -238,7 +238,7 @@ module _ (threads : ℕ) (opening : List ℕ) (calls : List CallRecord) (s t : S
       → AreKnownBy opening calls s.moment s.states s.failed s.clash → AreKnownBy opening calls t.moment t.states t.failed t.clash
   end_known kept met known = failed_at s.failed t.failed t.clash met kept known
 
--- ---- The stored facts about the calls on each key stay correct when a call starts
+-- ---- The stored facts stay correct when a call starts
 
 pub first_still : (v : Event) (k : ℕ) (f : Facts) → first_of k (begun_by v f) ≡ first_of k f
 first_still (begins w u) k f = refl
@@ -336,7 +336,7 @@ module _ (opening : List ℕ) (calls : List CallRecord) (x : CallRecord) where
         → AreKnownBy opening calls s.moment s.states s.failed s.clash → AreKnownBy opening with_x t.moment t.states t.failed t.clash
     begin_known met kept same known = subst (AreKnownBy opening with_x t.moment t.states t.failed) (sym same) (begin_at s.failed t.failed met kept known)
 
--- ---- The clash (two calls that contradict each other) found after the last call is correct
+-- ---- The clash found after the last call is correct
 
 pub clash_of_met : (s : Stream) (refusal : Refusal) → IsToldBy s.failed (NotLinearizable refusal) → (clash : Option Clash) → clash ≡ clash_met s.failed s.clash
     → IfSome clash (λ (c : Clash). (opening : List ℕ) → ClashesStream opening refusal None s c)

@@ -1,5 +1,5 @@
--- Proof about two calls on a key that contradict each other. If one of the calls ends before the other starts, the
--- facts that the judge stores about the key suffice to find a clash.
+-- Proof: if two calls on a key contradict each other and the first ends before the second starts, the facts that the
+-- judge stores about the key suffice to find a clash (two calls that contradict each other).
 use Rattle.std.proofs.Common.{inl, inr, ◌≡◌, ◌≢◌, ◌⊎◌, ℕ, ◌+◌, ◌<◌, ◌≤◌, true, false, List, [], ◌∷◌, ◌++◌, refl, sym, ap, ◌∙◌, arith, subst, get_or}
 use Rattle.std.proofs.Common.{append-nil, length-append}
 use Rattle.std.specs.Prelude.{Option, Some, None, IfSome, IsSome, is_some, IsSomeAnd, All, Contains, ◌-◌}
@@ -126,8 +126,7 @@ latest_low calls key p n since second (inr y) none before =
     let u = ended_by_then since (until_if behind_all x.begun x.ended) behind_all x x.ended refl refl ended in
     let v = y.3 in omega (arith, u, v)
 
--- ---- When the set opens, the facts that the judge stores suffice to find a clash (two calls that contradict each
--- other)
+-- ---- The stored facts suffice to find a clash when the set opens
 
 pub complete_first : (opening : List ℕ) (k : ℕ) (f : Facts) → f ≡ facts_opened (presence (has_key k opening)) → AreComplete opening [] 0 k f
 complete_first opening k f e = subst (AreComplete opening [] 0 k) (sym e) (record {
@@ -149,8 +148,7 @@ complete_first opening k f e = subst (AreComplete opening [] 0 k) (sym e) (recor
     best p None so past low = record { was = so; standing = low; early = λ n h. tt }
     best p (Some x) so past low = absurd (let c = so.0.known.1 in omega (arith, c))
 
--- ---- When a call starts, the facts that the judge stores still suffice to find a clash (two calls that contradict
--- each other)
+-- ---- The stored facts still suffice to find a clash when a call starts
 
 until_begun : (kind : Kind) (u : ℕ) (f : Facts) (there : Presence) → (until_of there (begun_by (begin_event kind u) f) ≡ until_of there f)
     ⊎ ((turns_to there kind ≡ true) × (until_of there (begun_by (begin_event kind u) f) ≡ u))
@@ -299,8 +297,7 @@ complete_begin threads opening calls s is x may met t moment by kept same old =
           let u = w.1 in ne (omega (arith, far, u, low)))
     ]
 
--- ---- When a call ends, the facts that the judge stores still suffice to find a clash (two calls that contradict each
--- other)
+-- ---- The stored facts still suffice to find a clash when a call ends
 
 apart_calls : (threads : ℕ) (calls : List CallRecord) → IsHistory threads calls → (x y : CallRecord) → Contains calls x → Contains calls y → (x ≡ y → ⊥)
     → (x.begun ≢ y.begun) × ((e : ℕ × Reply) → x.ended ≡ Some e → e.0 ≢ y.begun)
@@ -599,7 +596,7 @@ module _ (threads : ℕ) (opening : List ℕ) (calls : List CallRecord) (s t : S
       → AreCompleteBy opening calls t.moment t.states t.failed t.clash
   complete_end met kept missed known old = complete_after s.failed t.failed t.clash met kept missed is.judged now.judged known old
 
--- ---- If the verdict contains no two calls that contradict each other, no call on the key contradicts a later call
+-- ---- A verdict without a clash is correct
 
 pub none_at_end : (s : Stream) (opening : List ℕ) (refusal : Refusal) (left : Option Presence) → IsToldBy s.failed (NotLinearizable refusal)
     → (IsSome left → refusal.moment ≡ None)

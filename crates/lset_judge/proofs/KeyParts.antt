@@ -1,5 +1,5 @@
--- Proof of locality: the judge's test of a key has the same result in the key's part of the history as in the whole
--- history. Therefore some order explains the history if and only if some order explains each part.
+-- Proof of locality: the judge's test of a key has the same result on the part of the history to which the key belongs
+-- as on the whole history. Therefore some order explains the history if and only if some order explains each part.
 use Rattle.std.proofs.Common.{◌≡◌, ℕ, true, false, List, sym, ap, ◌∙◌, ◌<◌, ◌≤◌, Bool, refl, arith, inl, inr}
 use Rattle.std.specs.Prelude.{◌==◌, ◌&&◌, cond, not, IfSome}
 use Rattle.std.specs.List.Sorted.{IsStrictlyIncreasing}
@@ -25,7 +25,7 @@ use Rattle.lset_judge.proofs.StatesAfter.{left_alike, idle_key}
 use Rattle.lset_judge.proofs.RuleDecides.{explained}
 use Rattle.lset_judge.proofs.TimelineFromOrder.{rule_refutes}
 
--- ---- The calls in a key's part cause the same events of the key as all calls
+-- ---- Lemmas about the events of a key in its part
 
 keys_by : (part : ℕ → ℕ) (i k : ℕ) (b : Bool) → ((j : ℕ) → (j == k) ≡ true → (part j == i) ≡ b) → (xs : List ℕ)
     → has_key k (keys_in part i xs) ≡ (b && has_key k xs)
@@ -60,7 +60,7 @@ module _ (h : HistoryValue) (keys : List ℕ) (part : ℕ → ℕ) (i : ℕ) (to
   abbrev own : List CallRecord
   own = calls_in part i h.calls
 
-  -- ---- Proof that each part is a history
+  -- ---- Proof that a part of a history is a history
 
   pub part_told : IsHistory h.opening.threads own
   part_told = record {

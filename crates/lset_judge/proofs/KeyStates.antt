@@ -1,4 +1,4 @@
--- Proofs about the judge's stored states of all keys, after an event of one key.
+-- Proofs about the states of all keys that the judge stores, after an event of one key.
 use Rattle.std.proofs.Common.{◌≡◌, ℕ, ◌+◌, ◌<◌, List, [], ◌∷◌, true, false, inl, inr, refl, sym, ap, ◌∙◌, subst, length, get_or, take, Bool}
 use Rattle.std.specs.Prelude.{◌==◌, ◌||◌, Option, Some, None, is_some}
 use Rattle.std.specs.List.{list_any}
@@ -13,7 +13,7 @@ use Rattle.lset_words.proofs.Numbers.{same_number, equal_test}
 use Rattle.lset_judge.specs.declared.rule.KeyState.{KeyState}
 use Rattle.lset_judge.specs.Stream.{States}
 
--- ---- Lemmas about visiting keys one after another
+-- ---- Lemmas about a loop over the keys
 
 pub any_key : (k : ℕ) (xs : List ℕ) → has_key k xs ≡ list_any (λ x. x == k) xs
 any_key k [] = refl

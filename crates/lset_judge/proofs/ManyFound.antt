@@ -1,5 +1,5 @@
--- Proofs about finding a pending call by its thread or by the moment when it ends. The calls are in a hash table that
--- is indexed by these moments.
+-- Proofs about how a pending call is found by its thread, or by the moment when it ends. The calls are in a hash table
+-- whose keys are the moments when they end.
 use Rattle.std.proofs.Common.{◌≡◌, ◌≢◌, ℕ, ◌<◌, ◌≤◌, Bool, true, false, List, [], ◌∷◌, refl, sym, ap, ◌∙◌, arith, subst, inl, inr, length, get_or, map, cond}
 use Rattle.std.specs.Prelude.{◌==◌, nat_lt, if◌then◌else◌, All, Contains, Option, Some, None, IfSome, MatchOption, is_some, not}
 use Rattle.std.specs.Bool.{nat_eq}
@@ -32,7 +32,7 @@ first_of_all x xs = (0, omega arith, refl)
 map_back : {X Y : Type 0} (P : X → Type 0) (f : Y → X) (ys : List Y) → All P (map f ys) → All (λ y. P (f y)) ys
 map_back P f ys all i d low = subst P (get_or-map f ys i d (f d) low) (all i (f d) (let l = length-map ys f in omega (arith, l, low)))
 
--- ---- Lemmas about the test whether a call in the table ends at a moment
+-- ---- Lemmas about searching the table for a call that ends at a moment
 
 abbrev pub found : ℕ → Entries → Bool
 found b es = is_some (lookup (nat_eq b) es)

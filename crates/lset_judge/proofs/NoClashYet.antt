@@ -1,5 +1,5 @@
--- Proof: as long as the judge has found no key with calls that no order explains, no two calls that have ended
--- contradict each other.
+-- Proof: as long as the judge has found no key with calls that no order explains, no two completed calls contradict
+-- each other.
 use Rattle.std.proofs.Common.{◌≡◌, ℕ, ◌<◌, ◌≤◌, List, Bool, true, refl, ap, arith, subst, length, get_or, map}
 use Rattle.std.specs.Prelude.{Option, Some, None, IfSome, is_some, All, AllPairs, ◌≢◌, ◌==◌, ◌&&◌}
 use Rattle.std.proofs.lemmas.List.Sums.{count_by-le-length}

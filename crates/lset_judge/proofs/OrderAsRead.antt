@@ -1,5 +1,5 @@
--- Proof: an order that explains the calls also explains the calls as the judge reads them. The judge reads each
--- completed call as one that returns true or false.
+-- Proof: an order that explains the calls also explains the converted calls. The judge converts each completed call to
+-- one that returns true or false.
 use Rattle.std.proofs.Common.{◌≡◌, ◌≢◌, ℕ, ◌<◌, ◌≤◌, true, List, [], ◌∷◌, ◌++◌, refl, sym, arith, subst, length, get_or, ap, ◌∙◌, map, take, drop}
 use Rattle.std.proofs.Common.{◌+◌, inl, inr, ◌⊎◌, Bool, false}
 use Rattle.std.specs.Prelude.{Option, Some, None, IfSome, IsSomeAnd, ◌==◌, nat_lt, if◌then◌else◌, All, Contains as Has}
@@ -71,7 +71,7 @@ may_come threads opening calls s x is history begins before plain =
     let may = may_follow_at threads calls [] x history in
     comes calls s.moment s.pending x is.pending begins may.call.ends_later before plain (λ n low. may.follows n no_call low)
 
--- ---- After `read_as` has converted them, the judge can decide all calls of a history
+-- ---- Lemmas about calls that `read_as` has converted
 
 end_if : (P : ℕ → Type 0) (c : Call) (o : Option (ℕ × Reply)) → IfSome o (λ (e : ℕ × Reply). P e.0) → IfSome (end_as c o) (λ (e : ℕ × Reply). P e.0)
 end_if P c None h = tt
@@ -132,7 +132,7 @@ read_plain x = of x.call x.ended
     of c None = tt
     of c (Some e) = plain_as c e.1
 
--- ---- The judge accepts the calls of a history, as it reads them, in the order of their starts
+-- ---- The judge accepts the converted calls of a history in the order of their starts
 
 pub next_may : (threads : ℕ) (opening : List ℕ) (xs : List CallRecord) (i : ℕ) (d : CallRecord) (s : Stream) (x : CallRecord) → IsHistory threads xs
     → i < length xs → x ≡ read_as (get_or xs i d) → IsStreamOf threads opening (map read_as (take i xs)) s
@@ -160,8 +160,7 @@ pub next_thread : (threads i : ℕ) (d x : CallRecord) (xs : List CallRecord) �
 next_thread threads i d x xs history low so =
     let a = (history.each i d low).of_a_thread in let e = ap (λ (y : CallRecord). y.thread) so in omega (arith, a, e)
 
--- ---- If no order explains the calls as the judge reads them (with the replies true and false), no order explains the
--- calls themselves
+-- ---- If no order explains the converted calls, no order explains the calls
 
 ceiling_found : (k : ℕ) (x : Key) (keys : List ℕ) → ceiling_in k keys ≡ At x → has_key x.0 keys ≡ true
 ceiling_found k x [] e = absurd (let f : Nothing ≡ At x = e in cc)
@@ -359,7 +358,7 @@ read_explains o cs order keys e = record {
   increasing = e.increasing;
 }
 
--- ---- The judge reads a call unchanged if it can decide this call
+-- ---- The conversion does not change a call that the judge can decide
 
 plain_call : (c : Call) (r : Reply) → is_plain c r ≡ true → (call_as c r ≡ c) × (reply_as c r ≡ r)
 plain_call (Add k) True e = (refl, refl)

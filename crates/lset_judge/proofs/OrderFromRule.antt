@@ -1,5 +1,4 @@
--- Proof: if each key passes the judge's test, some order explains the calls. The proof builds such an order call by
--- call.
+-- Proof: if each key passes the judge's test, some order explains the calls. The proof builds the order call by call.
 use Rattle.std.proofs.Common.{◌≡◌, ◌≢◌, ℕ, zero, suc, ◌<◌, ◌≤◌, ◌⊎◌, List, [], ◌∷◌, ◌++◌, Bool, true, false, inl, inr, refl, sym, ap, ◌∙◌, arith}
 use Rattle.std.proofs.Common.{subst, length, get_or, map}
 use Rattle.std.specs.Prelude.{◌==◌, not, nat_lt, Option, Some, None, is_some, All, AllPairs, Contains, IfSome, IsSomeAnd}
@@ -86,7 +85,7 @@ module _ (threads : ℕ) (calls : List CallRecord) (history : IsHistory threads 
   set_put : (o : List Placed) (n : ℕ) (r : Reply) → set (o ++ put n r ∷ []) ≡ after_call (set o) (x_ n).thread (x_ n).call r
   set_put o n r = ap (set_left start) (map_push (answered calls) o (put n r)) ∙ left_push start (map (answered calls) o) (answered calls (put n r))
 
-  -- ---- The invariant: how a key's state by the judge's test relates to the order that the proof has built so far
+  -- ---- The invariant between a key's state and the order built so far
   pub record OpenList (w : Bool) (k m : ℕ) (xs : List ℕ) (o : List Placed) : Type 0 where
     pub open_call : (u : ℕ) → has_key u xs ≡ true → (n : ℕ) × (n < length calls) × (key n ≡ k) × (kind (x_ n) ≡ changes w)
         × (until last (x_ n) ≡ u) × ((x_ n).begun ≤ m) × (IsPlaced n o → ⊥)
@@ -135,7 +134,7 @@ module _ (threads : ℕ) (calls : List CallRecord) (history : IsHistory threads 
     now = l.now;
   }
 
-  -- ---- Lemmas about appending a read to the order that the proof builds
+  -- ---- Lemmas about appending a read to the order
   pub record Moved (k m : ℕ) (s : State) (o : List Placed) : Type 0 where
     pub order : List Placed
     pub built : Built m order
@@ -174,7 +173,7 @@ module _ (threads : ℕ) (calls : List CallRecord) (history : IsHistory threads 
         ))
   ]
 
-  -- ---- All reads of a key that saw its current state can be appended to the order that the proof builds
+  -- ---- Lemmas about appending all reads of a key's current state to the order
   sweepable : (k m n : ℕ) (s : State) (o : List Placed)
       → ((w : Bool) × (key n ≡ k) × (kind (x_ n) ≡ sees w) × ((x_ n).begun ≤ m) × (IsPlaced n o → ⊥) × (same w s.there ≡ true))
       ⊎ ((w : Bool) → key n ≡ k → kind (x_ n) ≡ sees w → (x_ n).begun ≤ m → (IsPlaced n o → ⊥) → same w s.there ≡ false)
@@ -228,7 +227,7 @@ module _ (threads : ℕ) (calls : List CallRecord) (history : IsHistory threads 
         )
       ]
 
-  -- ---- Lemmas about appending a change to the order that the proof builds, when the change takes effect
+  -- ---- Lemmas about appending a change to the order
   list_taken : (w : Bool) (k m u : ℕ) (xs : List ℕ) (o : List Placed) (n : ℕ) (r : Reply) → n < length calls → until last (x_ n) ≡ u
       → OpenList w k m xs o → OpenList w k m (take_out u xs) (o ++ put n r ∷ [])
   list_taken w k m u xs o n r low at_end l = record {
@@ -328,8 +327,8 @@ module _ (threads : ℕ) (calls : List CallRecord) (history : IsHistory threads 
   none_at_zero : (m : ℕ) (v : Event) (g : State) → fits (suc m) v g ≡ false → settled 0 m v (Some g) ≡ None
   none_at_zero m v g f = rw f refl
 
-  -- If the judge's test makes one change of key k take effect, the order can be extended: first by all reads that saw
-  -- the key's current state, then by the change.
+  -- Lemma: if one change of key k takes effect in the judge's test, the order can be extended, first by all reads that
+  -- saw the key's current state, then by the change.
   turn_now : (k m : ℕ) (g t : State) (o : List Placed) → turned_if m g (options g) ≡ Some t → Built m o → Link k m g o → Moved k m t o
   turn_now k m g t o is built l = by (options g) refl is
     where
@@ -357,7 +356,7 @@ module _ (threads : ℕ) (calls : List CallRecord) (history : IsHistory threads 
     ]
   ]
 
-  -- ---- All keys at moment m. Each key k is in the state `was k` now, and has the event `v k` at the next moment
+  -- ---- All keys at moment m: key k is in the state `was k`, and its event at moment m + 1 is `v k`
   module _ (m : ℕ) (v : ℕ → Event) (was : ℕ → State) (live : (k : ℕ) → is_some (stepped m (v k) (Some (was k))) ≡ true) where
     abbrev Lives : ℕ → State → Type 0
     Lives k s = found m (v k) s ≡ found m (v k) (was k)
@@ -649,7 +648,7 @@ module _ (threads : ℕ) (calls : List CallRecord) (history : IsHistory threads 
         let all = meet last (λ k. leaves (left k)) was live first.0 first.1 (λ k. (first.2 k).1) in
         (all.order, all.built, λ k. let a = all.each k in a.1.there ∙ same_is (left k) a.0.there a.2)
 
-  -- ---- If the order contains each completed call, it linearizes the history
+  -- ---- An order that contains each completed call linearizes the history
   contains_placed : (n : ℕ) (r : Reply) (ps : List Placed) → All (λ (p : Placed). p.call ≡ n → p.reply ≡ r) ps → IsPlaced n ps
       → Contains ps (put n r)
   contains_placed n r [] h i = absurd i

@@ -56,7 +56,7 @@ many_with_if few many now all p (Ok u) is more = λ apart. subst (λ (ps : List 
     (many_with few many now p (more (all_right (λ (q : Pending). q.end ≢ p.end) few many (subst (All (λ (q : Pending). q.end ≢ p.end)) (sym is) apart))))
 many_with_if few many now all p (Err e) is more = tt
 
--- ---- If all calls in the vector and all in the hash table have a property, all pending calls have it
+-- ---- Lemmas about a property of all pending calls
 
 pub told_of_few : {F : Type 0} (P Q : Pending → Type 0) (few others all : List Pending) (fault : Option F) → few ++ others ≡ all → is_some fault ≡ true
     → MatchOption fault (All P few × All Q few) (λ (f : F). All P few → All Q few → ⊥)

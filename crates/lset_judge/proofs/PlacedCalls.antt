@@ -1,4 +1,4 @@
--- Proofs about an order that is built call by call, and about the reply of the next call in this order.
+-- Proofs about an order that is built call by call, and about the reply of the next call in the order.
 use Rattle.std.proofs.Common.{◌≡◌, ℕ, zero, suc, ◌<◌, ◌⊎◌, List, [], ◌∷◌, ◌++◌, Bool, true, false, inl, inr, refl, sym, arith}
 use Rattle.std.proofs.Common.{subst, length, get_or}
 use Rattle.std.specs.Prelude.{◌==◌, ◌||◌, not, nat_lt, Option, Some, None, All, IfSome}
@@ -96,7 +96,7 @@ look_replies quota thread s (IsIn k) True true p d h = rw h refl
 look_replies quota thread s (IsIn k) False false p d h = rw h refl
 look_replies quota thread s c r w p d h = absurd (cc)
 
--- ---- Lemmas about the order that the proof has built so far
+-- ---- Lemmas about the order built so far
 
 pub open_sees_not : (c : Call) (w : Bool) → open_kind c ≡ sees w → ⊥
 open_sees_not (Add k) w e = cc

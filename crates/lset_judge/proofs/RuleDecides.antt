@@ -1,4 +1,4 @@
--- Proof: if the judge decides a history, some order explains the history if and only if each key passes the judge's
+-- Proof: if the judge can decide a history, some order explains the history if and only if each key passes the judge's
 -- test.
 use Rattle.std.proofs.Common.{◌≡◌, ◌≢◌, ℕ, ◌+◌, List, [], ◌∷◌, ◌++◌, true, inl, inr, refl, sym, ap, ◌∙◌, arith, subst, get_or, map, Bool}
 use Rattle.std.specs.Prelude.{◌==◌, ◌&&◌, if◌then◌else◌, Option, Some, None, All, AllPairs, IfSome, set, sum_by, cond, Contains, length, ◌<◌, ◌≤◌, false}
@@ -32,9 +32,9 @@ use Rattle.lset_judge.specs.Rule.{may_leave}
 use Rattle.lset_judge.proofs.TimelineFromOrder.{rule_refutes}
 use Rattle.lset_judge.proofs.OrderFromRule.{order_found, linearizes}
 
--- ---- If a thread's quota covers all its `add`s, no `add` of the thread finds the quota used up
+-- ---- Lemmas about a quota (number of successful `add`s) that covers all `add`s of a thread
 
--- Returns how many keys a call adds for a thread: 1 or 0. `own` is true if the thread makes this call.
+-- Returns how many keys a call adds for a thread: 1 or 0. `own` is true if the thread makes the call.
 
 abbrev adds : Bool → Call → Reply → ℕ
 adds own (Add j) True = if own then 1 else 0
@@ -73,7 +73,7 @@ added_push : (t : ℕ) (xs : List Answered) (a : Answered) → added t (xs ++ a 
 added_push t [] a = omega arith
 added_push t (x ∷ xs) a = let rest = added_push t xs a in omega (arith, rest)
 
--- ---- If each call has a weight, distinct calls together weigh at most as much as all calls
+-- ---- Lemmas about the total weight of the calls in an order
 
 abbrev tally : (CallRecord → ℕ) → List CallRecord → List Placed → ℕ
 tally f calls [] = 0

@@ -1,6 +1,6 @@
--- Proof: the judge's test does at least as well as any correct timeline of the key. (A timeline is a choice of when
--- each change takes effect.) The test has at least as many pending changes left as the timeline, and these changes end
--- at least as late.
+-- Proof: the judge's test does at least as well as any correct timeline of the key (a choice of when each change takes
+-- effect). In the judge's test, at least as many changes are still pending as in the timeline, and they end at least as
+-- late.
 use Rattle.std.proofs.Common.{◌≡◌, ℕ, suc, ◌+◌, ◌<◌, ◌≤◌, List, [], ◌∷◌, true, inl, inr, refl, arith, length, zero, sym, ap, ◌⊎◌, Bool, false, ◌∙◌, subst}
 use Rattle.std.specs.Prelude.{◌==◌, nat_lt, if◌then◌else◌, Option, Some, None, is_some, not}
 use Rattle.std.proofs.lemmas.Bool.{cases_Bool, true≢false, not-true, not-false, or_cases, or_parts}
@@ -10,7 +10,7 @@ use Rattle.lset_words.proofs.Numbers.{same_number, below_or_not, if_below, if_no
 use Rattle.lset_judge.specs.Rule.{not_before, put_in, take_out, nearest, Event, State, settled, begins, ends, looks, leaves, same, changes_to, options, fits}
 use Rattle.lset_judge.specs.Rule.{entering, enters, turned_by, turned_if, open_changes, opened}
 
--- ---- How many moments of a list are d or later, after a moment is inserted or removed
+-- ---- Lemmas about counting the moments of a list that are d or later
 
 abbrev pub counts : ℕ → ℕ → ℕ
 counts d x = if nat_lt x d then 0 else 1
@@ -80,7 +80,7 @@ still_no_fewer ss x xs less longer d =
           omega (arith, t, o, all, most, longer))
     ]
 
--- ---- A key that has failed the judge's test never passes it later
+-- ---- Lemmas about a key that has failed the judge's test
 
 pub settled_none : (n m : ℕ) (v : Event) → settled n m v None ≡ None
 settled_none zero m v = refl
@@ -99,17 +99,17 @@ once b = if b then 1 else 0
 abbrev pub at : Bool → ℕ → List ℕ → List ℕ → State
 at b t ps ks = record { there = b; turned = t; puts = ps; takes = ks }
 
--- Holds if the timeline (state s) has fewer pending changes left than the judge's test (state g). Only changes that
--- would change the key's state in g count.
+-- Holds if fewer changes are still pending in the timeline (state s) than in the judge's test (state g). Only changes
+-- that would change the key's state in g count.
 abbrev pub IsFurther : State → State → Type 0
 IsFurther g s = length (changes_to (not g.there) s) < length (options g)
 
 abbrev NoFewer : List ℕ → List ℕ → Type 0
 NoFewer ss gs = (d : ℕ) → not_before d ss ≤ not_before d gs
 
--- Compares two states of a key after the event at moment m: the state g that the judge's test computes, and the state
--- s of a correct timeline (a choice of when each change takes effect). Holds if g has at least as many pending changes
--- left as s, and these changes end at least as late.
+-- Holds if the state g has at least as many pending changes as the state s, and the changes in g end at least as late.
+-- After the event at moment m, g is the key's state in the judge's test, and s is its state in a correct timeline (a
+-- choice of when each change takes effect).
 pub record Leads (m : ℕ) (g s : State) : Type 0 where
   pub lists : (w : Bool) → NoFewer (changes_to w s) (changes_to w g)
   pub balance : length g.puts + once g.there + length s.takes ≡ length s.puts + once s.there + length g.takes
@@ -122,7 +122,7 @@ fewer ss gs h = let a = h 0 in let b = all_from_zero ss in let c = all_from_zero
 less_taken : (e : ℕ) (ss gs : List ℕ) → has_key e ss ≡ true → NoFewer ss gs → NoFewer (take_out e ss) gs
 less_taken e ss gs h f d = let t = taken d e ss h in let a = f d in omega (arith, t, a)
 
--- ---- Lemmas about a change that takes effect in a timeline (a choice of when each change takes effect)
+-- ---- Lemmas about a change that takes effect in a timeline
 pub timeline_turns : (b c : Bool) (m gt st e : ℕ) (gp gk sp sk : List ℕ) → Leads m (at b gt gp gk) (at c st sp sk)
     → has_key e (options (at c st sp sk)) ≡ true → Leads m (at b gt gp gk) (turned_by m e (at c st sp sk))
 timeline_turns b true m gt st e gp gk sp sk l h =

@@ -1,5 +1,5 @@
--- Proofs about the state of a key after each moment. Applying the judge's test of a key step by step has the same
--- result as applying it to all events at once.
+-- Proofs about the state of a key after each moment. The judge's test of a key has the same result whether its events
+-- are processed one by one or all at once.
 use Rattle.std.proofs.Common.{◌≡◌, ℕ, zero, suc, ◌+◌, ◌-◌, ◌<◌, ◌≤◌, Bool, List, true, false, refl, sym, ap, ◌∙◌, arith, inl, inr}
 use Rattle.std.specs.Prelude.{Option, Some, None, is_some}
 use Rattle.lset_words.specs.declared.history.CallRecord.{CallRecord}
@@ -48,7 +48,7 @@ pub left_alike : (ev other : ℕ → Event) (b left : Bool) (last : ℕ) → ((j
     → may_leave ev b left last ≡ may_leave other b left last
 left_alike ev other b left last same = ap (λ (o : Option State). is_some (stepped last (leaves left) o)) (same_after ev other b last same)
 
--- ---- Lemmas about the calls on a key. No call starts or ends after the moment T
+-- ---- Lemmas about the calls on key k, none of which starts or ends after moment T
 
 module _ (calls : List CallRecord) (T : ℕ) (behind : latest_moment calls ≤ T) (k : ℕ) (opens : Bool) where
   abbrev event : ℕ → Event

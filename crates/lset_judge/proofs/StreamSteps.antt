@@ -1,5 +1,5 @@
--- Proofs about the events of the recorded calls from the start of a call to the start of the next. They treat three
--- periods: the moments before the next pending call ends, the moment when it ends, and the next start.
+-- Proofs about the events from the start of a recorded call to the start of the next: the moments before the next
+-- pending call ends, the moment when the pending call ends, and the moment when the next call starts.
 use Rattle.std.proofs.Common.{◌≡◌, ◌≢◌, ℕ, suc, ◌+◌, ◌-◌, ◌<◌, ◌≤◌, List, [], ◌∷◌, ◌++◌, refl, sym, ap, ◌∙◌, arith, subst}
 use Rattle.std.proofs.Common.{◌⊎◌, Bool, zero, inl, inr, length, get_or}
 use Rattle.std.specs.Prelude.{◌==◌, if◌then◌else◌, Option, Some, None, IfSome, All, AllPairs, Contains}
@@ -57,7 +57,7 @@ event_begun last k [] x a = elim (cases_Bool ((key_of x.call).0 == k)) [
 event_begun last k (y ∷ ys) x a =
     passed_over last k x.begun y (ys ++ x ∷ []) (λ t. (unequal_test y.begun x.begun a.0.0, ends_not x.begun y.ended a.0.1)) ∙ event_begun last k ys x a.1
 
--- ---- Lemmas about applying the judge's test of a key to the event at a moment
+-- ---- Lemmas about the judge's test at a single event
 
 module _ (opening : List ℕ) (calls : List CallRecord) where
   abbrev event : ℕ → ℕ → Event
@@ -112,7 +112,7 @@ module _ (opening : List ℕ) (calls : List CallRecord) where
     goes_to j e before after was failed met so = subst (λ (i : ℕ). IsJudgedTo opening calls i after failed) (sym e)
         (goes before after was failed (subst (λ (i : ℕ). IsMetBy before key i v after was failed) e met) so)
 
--- ---- Lemmas about the moments when pending calls end, if the list of these calls is reordered or extended
+-- ---- Lemmas about reordering or extending the list of pending calls
 
 abbrev same : Pending → Pending → Bool
 same p q = p.end == q.end

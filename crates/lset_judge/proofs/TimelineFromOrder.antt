@@ -1,4 +1,4 @@
--- Proof: if an order explains a history, each key has a correct timeline (a choice of the moments when its changes take
+-- Proof: if an order explains a history, each key has a correct timeline (a choice of when each change of the key takes
 -- effect).
 use Rattle.std.proofs.Common.{◌≡◌, ◌≢◌, ℕ, zero, suc, ◌+◌, ◌<◌, ◌≤◌, List, [], ◌∷◌, Bool, true, false, inl, inr, refl, sym, ap, ◌∙◌, arith}
 use Rattle.std.proofs.Common.{subst, length, get_or, map}
@@ -28,7 +28,7 @@ use Rattle.lset_judge.proofs.EventLemmas.{kind, until, begun_below, end_below, B
 use Rattle.lset_history.proofs.Keys.{has_with, has_with_other, has_without, has_without_other}
 use Rattle.lset_judge.proofs.TimelineOfKey.{In, Act, act, suits, becomes, TakeTurns, Apart, IsAct, AreEvents, Lists, Ready, succeeds, one_of}
 
--- ---- The effect of a call with its reply on a key
+-- ---- The effect of a completed call on a key
 
 abbrev pub does : ℕ → Call → Reply → Kind
 does k c r = if (key_of c).0 == k then kind_of c r else nothing
@@ -162,7 +162,7 @@ module _ (threads : ℕ) (calls : List CallRecord) (history : IsHistory threads 
         ])
   ]
 
-  -- ---- Lemmas about a single key, and about an order that linearizes the history
+  -- ---- Lemmas about one key and an order that linearizes the history
   module _ (k : ℕ) where
     abbrev ev : ℕ → Event
     ev m = event_at last k calls m
@@ -224,7 +224,7 @@ module _ (threads : ℕ) (calls : List CallRecord) (history : IsHistory threads 
       not_left = λ i w e. never_left (ev i) i w e (told last k i calls);
     }
 
-    -- ---- The acts in an order of the calls. An act is the effect of a call on the key.
+    -- ---- Lemmas about the acts (effects of calls on the key) in an order of the calls
     all_map : (Q : Act → Type 0) (ps : List Placed) → All (λ p. Q (act_of p)) ps → AllByRecursion Q (map act_of ps)
     all_map Q ps h = recursion_from_All Q (map act_of ps) (All-map Q act_of ps h)
 
@@ -360,7 +360,7 @@ module _ (threads : ℕ) (calls : List CallRecord) (history : IsHistory threads 
             once = tt;
           })
 
--- If an order explains the history, each key passes the judge's test.
+-- Lemma: if an order explains the history, each key passes the judge's test.
 pub rule_refutes : (last : ℕ) (h : HistoryValue) (keys : List ℕ) (order : List Placed) → latest_moment h.calls ≤ last
     → IsHistory h.opening.threads h.calls → Explains h order keys → RulePasses last h keys
 rule_refutes last h keys order upto history e k =

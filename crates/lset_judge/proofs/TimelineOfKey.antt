@@ -1,5 +1,5 @@
--- Proof: an order of the acts of a key (the effects of its calls) determines a correct timeline of the key. A timeline
--- is a choice of the moments when the key's changes take effect.
+-- Proof: an order of the acts of a key (the effects of its calls) determines a correct timeline of the key (a choice of
+-- when each change takes effect).
 use Rattle.std.proofs.Common.{◌≡◌, ◌≢◌, ℕ, zero, suc, ◌<◌, ◌≤◌, ◌⊎◌, List, [], ◌∷◌, Bool, true, false, inl, inr, refl, sym, ap, ◌∙◌, arith}
 use Rattle.std.proofs.Common.{subst, length}
 use Rattle.std.specs.Prelude.{◌==◌, ◌||◌, not, nat_lt, Some, is_some}
@@ -38,7 +38,7 @@ has_tail u x xs h = elim (cases_Bool (x == u)) [ inl e ↦ rw e refl | inr e ↦
 pub has_split : (u x : ℕ) (xs : List ℕ) → has_key u (x ∷ xs) ≡ true → (x ≡ u) ⊎ (has_key u xs ≡ true)
 has_split u x xs h = elim (cases_Bool (x == u)) [ inl e ↦ inl (same_number x u e) | inr e ↦ inr (rw e at h) ]
 
--- ---- Lemmas about inserting a moment into a list, and about removing a moment from a list
+-- ---- Lemmas about inserting a moment into a list or removing it
 pub has_put : (u e : ℕ) (xs : List ℕ) → has_key u (put_in e xs) ≡ has_key u (e ∷ xs)
 has_put u e [] = refl
 has_put u e (x ∷ xs) = elim (cases_Bool (nat_lt e x)) [
@@ -111,7 +111,7 @@ all_late d (x ∷ xs) h =
     let rest = all_late d xs (λ u i. h u (has_tail u x xs i)) in
     omega (arith, o, rest)
 
--- ---- The acts on one key, in an order. An act is the effect of a call.
+-- ---- The acts (effects of calls) on one key, in an order
 
 pub record Act : Type 0 where
   pub begun : ℕ
@@ -132,8 +132,8 @@ abbrev pub TakeTurns : Bool → Bool → List Act → Type 0
 TakeTurns left b [] = b ≡ left
 TakeTurns left b (a ∷ ys) = suits b a.does × TakeTurns left (becomes b a.does) ys
 
--- Holds if act p (the effect of a call) can be before act r in an order: r ends after p starts. The two acts end at
--- different moments.
+-- Holds if the act p (the effect of a call) can precede the act r in an order: r ends after p starts, and p and r end
+-- at different moments.
 pub record Apart (p r : Act) : Type 0 where
   pub in_time : p.begun < r.until
   pub other : p.until ≢ r.until
@@ -145,7 +145,7 @@ pub record IsAct (ev : ℕ → Event) (last : ℕ) (a : Act) : Type 0 where
   pub told : (w : Bool) → a.does ≡ changes w → ev a.begun ≡ begins w a.until
 
 -- Holds if changes that start at different moments also end at different moments, and no event of the key is `leaves`,
--- which stands for the final state.
+-- the event for the final state.
 pub record AreEvents (ev : ℕ → Event) : Type 0 where
   pub once : (i j : ℕ) (v w : Bool) (u : ℕ) → ev i ≡ begins v u → ev j ≡ begins w u → i ≡ j
   pub not_left : (i : ℕ) (w : Bool) → ev i ≡ leaves w → ⊥
@@ -168,8 +168,8 @@ same_self true b e = e
 same_self false b e = rw e refl
 
 module _ (ev : ℕ → Event) (last : ℕ) (left : Bool) (are : AreEvents ev) where
-  -- Relates xs, the moments when the pending changes to the state w end, with the events up to moment m and with the
-  -- acts ys that have not taken effect yet. (An act is the effect of a call.)
+  -- Holds if xs and ys agree on the pending changes to the state w after moment m. xs contains the moments when these
+  -- changes end; ys contains the acts (effects of calls) that have not taken effect yet.
   pub record Lists (w : Bool) (m : ℕ) (xs : List ℕ) (ys : List Act) : Type 0 where
     pub from_event : (u : ℕ) → has_key u xs ≡ true → (i : ℕ) × (i ≤ m) × (ev i ≡ begins w u)
     pub needed : (u : ℕ) → has_key u xs ≡ true → u ≤ last → (i : ℕ) × In (act i u (changes w)) ys
@@ -185,7 +185,7 @@ module _ (ev : ℕ → Event) (last : ℕ) (left : Bool) (are : AreEvents ev) wh
     pub looks_to_come : (j : ℕ) (w : Bool) (i : ℕ) → ev j ≡ looks w i → m < j → j ≤ last
         → In (act i j (sees w)) ys ⊎ ((i ≤ m) × ((s.there ≡ w) ⊎ (i ≤ s.turned)))
 
-  -- ---- Lemmas about the moment when the next act of the order takes effect. (An act is the effect of a call.)
+  -- ---- Lemmas about the moment when the next act (effect of a call) takes effect
   not_first : (p a : Act) (ys : List Act) → In a (p ∷ ys) → (p ≡ a → ⊥) → In a ys
   not_first p a ys (inl e) n = absurd (n e)
   not_first p a ys (inr i) n = i
@@ -279,7 +279,7 @@ module _ (ev : ℕ → Event) (last : ℕ) (left : Bool) (are : AreEvents ev) wh
       lists false true to r = lists_taken true m ps p ys r.pairs.0 (r.lists true)
       lists false false to r = lists_kept false m ks p ys (λ e. true≢false (changes_apart true false (sym to ∙ e))) (r.lists false)
 
-  -- ---- Lemmas about an event that is before the start of the next act. An act is the effect of a call.
+  -- ---- Lemmas about an event before the start of the next act (effect of a call)
   abbrev Waits : ℕ → List Act → Type 0
   Waits m [] = Unit {0}
   Waits m (p ∷ ys) = m < p.begun
@@ -386,7 +386,7 @@ module _ (ev : ℕ → Event) (last : ℕ) (left : Bool) (are : AreEvents ev) wh
       is_not t i l = grind (arith, nat_tests)
   event_fits m v s ys e low waits r = refl
 
-  -- ---- Compares the judge's test of a key with the timeline (a choice of when each change takes effect)
+  -- ---- Comparison of the judge's test with a timeline
   place : (m : ℕ) (p : Act) (ys : List Act) (g s : State) → p.begun ≤ m → Leads m g s → Ready m s (p ∷ ys) → (k : Kind) → p.does ≡ k
       → (t : State) × Leads m g t × Ready m t ys
   place m p ys g s begun l r (changes w) d =
@@ -428,7 +428,8 @@ module _ (ev : ℕ → Event) (last : ℕ) (left : Bool) (are : AreEvents ev) wh
     none_left s [] r w = r.take_turns
     none_left s (p ∷ ys) r w = absurd (let low = r.acts.0.inside in omega (arith, low, w))
 
-    -- If a key has a correct timeline (a choice of when each change takes effect), the key passes the judge's test.
+    -- Lemma: if a key has a correct timeline (a choice of when each change takes effect), the key passes the judge's
+    -- test.
     pub succeeds : may_leave ev b left last ≡ true
     succeeds =
         let was = goes_on last (omega arith) in let now = place_now last was.0 was.2 was.1 was.4 was.5 in

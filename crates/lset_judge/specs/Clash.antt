@@ -1,5 +1,5 @@
--- A clash: two calls on a key that contradict each other. No order can contain both, whatever other calls there are.
--- The key's opening state can replace the first call, and its final state can replace the second.
+-- A clash: two calls on a key that contradict each other, so that no order can contain both. The key's opening state
+-- can replace the first call, and its final state can replace the second.
 use Rattle.std.specs.Prelude.{◌≡◌, ◌≢◌, ◌<◌, ℕ, ◌⊎◌, ◌||◌, not, nat_lt, Bool, true, List, Option, Some, None, map, All, IfSome, IsSomeAnd, Contains as Has}
 use Rattle.lset_words.specs.declared.Call.{Call}
 use Rattle.lset_words.specs.declared.Reply.{Reply}
@@ -23,8 +23,8 @@ abbrev pub other : Presence → Presence
 other Present = Absent
 other Absent = Present
 
--- `left_so` returns the key's state after a call with this effect. `needed_by` returns the state that the key must have
--- before a call with this effect.
+-- `left_so` returns the state in which a call with the given effect leaves its key. `needed_by` returns the state that
+-- the key must have before the call.
 abbrev pub left_so : Effect → Option Presence
 left_so (Changes p) = Some p
 left_so (Sees p) = Some p
@@ -35,8 +35,8 @@ needed_by (Changes p) = Some (other p)
 needed_by (Sees p) = Some p
 needed_by Other = None
 
--- `leaves_if` returns the key's state after a call. `needs_if` returns the state that the key must have before the
--- call. Both functions return None for a pending call.
+-- `leaves_if` returns the state in which a call leaves its key. `needs_if` returns the state that the key must have
+-- before the call. Both return None for a pending call.
 abbrev pub leaves_if : Call → Option (ℕ × Reply) → Option Presence
 leaves_if c None = None
 leaves_if c (Some e) = left_so (effect_of c e.1)
@@ -51,20 +51,20 @@ pub record IsOf (calls : List CallRecord) (key : ℕ) (x : CallRecord) : Type 0 
   pub own : (key_of x.call).0 ≡ key
 
 -- Holds if the key was in the state `was`: either the set opened with the key in this state (None), or the call x left
--- it in this state (Some x).
+-- the key in this state (Some x).
 abbrev pub WasSo : List CallRecord → ℕ → Presence → Presence → Option CallRecord → Type 0
 WasSo calls key there was None = there ≡ was
 WasSo calls key there was (Some x) = IsOf calls key x × (leaves_if x.call x.ended ≡ Some was)
 
--- Holds if the key must be in the state `need`: either this is the key's final state (None), or the call y needs this
--- state (Some y).
+-- Holds if the key must be in the state `need`: either `need` is the key's final state (None), or the call y needs the
+-- key in the state `need` (Some y).
 abbrev pub HasToBe : List CallRecord → ℕ → Option Presence → Presence → Option CallRecord → Type 0
 HasToBe calls key left need None = left ≡ Some need
 HasToBe calls key left need (Some y) = IsOf calls key y × (needs_if y.call y.ended ≡ Some need)
 
--- Returns the start of the first of two calls that contradict each other, or 0 if the key's opening state replaces this
--- call. Between this moment and the end of the second call, no call can change the key to the state that the second
--- call needs.
+-- `since_of` returns the start of the first call of a clash, or 0 if the key's opening state replaces this call. A
+-- clash is a pair of calls on a key that contradict each other. No call can change the key to the state that the second
+-- call needs between the start of the first call and the end of the second.
 abbrev pub since_of : Option CallRecord → ℕ
 since_of None = 0
 since_of (Some x) = x.begun
@@ -77,40 +77,42 @@ abbrev pub is_before : ℕ → Option CallRecord → Bool
 is_before begun None = true
 is_before begun (Some y) = is_before_end begun y.ended
 
--- Holds if no call on the key can change it to the state `there` between `since` and the end of the call `second`.
--- Each call that could do so has ended by `since`, or starts when `second` ends or later.
+-- Holds if no call on `key` can change the key to the state `there` between the moment `since` and the end of the call
+-- `second`: each call that makes this change has ended by `since`, or starts when `second` ends or later.
 abbrev pub NothingTurns : List CallRecord → ℕ → Presence → ℕ → Option CallRecord → Type 0
 NothingTurns calls key there since second = All (λ (x : CallRecord). (key_of x.call).0 ≡ key → turns_to there (kind_if x.call x.ended) ≡ true
     → is_before x.begun second ≡ true → has_ended since x.ended ≡ true) calls
 
--- Returns whether call x cannot change its key to the state `there` between `since` and the end of the call `second`.
+-- Returns whether the call x cannot change its key to the state `there` between the moment `since` and the end of the
+-- call `second`.
 abbrev pub is_apart : Presence → ℕ → Option CallRecord → CallRecord → Bool
 is_apart there since second x = not (turns_to there (kind_if x.call x.ended)) || (not (is_before x.begun second) || has_ended since x.ended)
 
 -- Holds if the call `second` cannot follow the call `first` in any order: `first` leaves the key in the state `was`,
--- `second` needs the other state, and no call between them can change the key to the other state.
+-- `second` needs the opposite state, and no call can change the key to the opposite state between them.
 pub record Clashes (calls : List CallRecord) (key : ℕ) (there : Presence) (left : Option Presence) (was : Presence) (first second : Option CallRecord) : Type 0 where
   pub was_so : WasSo calls key there was first
   pub needed : HasToBe calls key left (other was) second
   pub nothing : NothingTurns calls key (other was) (since_of first) second
 
--- Holds if the second call starts after the first has ended, or the two calls contradict each other in the opposite
--- order too. Always holds if the key's opening state replaces the first call, or its final state replaces the second.
+-- Holds if the second call starts after the first has ended, or if the two calls also contradict each other in the
+-- opposite order. Always holds if the key's opening state replaces the first call, or the key's final state replaces
+-- the second.
 abbrev pub InOrder : List CallRecord → ℕ → Presence → Option Presence → Option CallRecord → Option CallRecord → Type 0
 InOrder calls key there left (Some x) (Some y) =
     Precedes x y ⊎ ((x.begun ≢ y.begun) × ((v : Presence) × Clashes calls key there left v (Some y) (Some x)))
 InOrder calls key there left None second = Unit {0}
 InOrder calls key there left (Some x) None = Unit {0}
 
--- Holds if two calls on a key contradict each other: no order can contain both, whatever other calls there are. The
--- key's opening state can replace the first call, and its final state can replace the second.
+-- Holds if the calls `first` and `second` on a key contradict each other, so that no order can contain both. If `first`
+-- is None, the key's opening state replaces it. If `second` is None, the key's final state replaces it.
 abbrev pub IsClash : List CallRecord → ℕ → Presence → Option Presence → Presence → Option CallRecord → Option CallRecord → Type 0
 IsClash calls key there left was first second =
     Clashes calls key there left was first second × InOrder calls key there left first second
 
--- `EndsBefore`: a call ends before the moment. `ComesFirst`: the first call ends before the second call starts. Both
--- hold if the key's opening state replaces the first call. `ComesFirst` also holds if the final state replaces the
--- second.
+-- `EndsBefore`: the call ends before `moment`. `ComesFirst`: the first call ends before the second call starts. Both
+-- hold if the key's opening state replaces the first call. `ComesFirst` also holds if the key's final state replaces
+-- the second call.
 abbrev pub EndsBefore : Option CallRecord → ℕ → Type 0
 EndsBefore None moment = Unit {0}
 EndsBefore (Some x) moment = IsSomeAnd x.ended (λ (e : ℕ × Reply). e.0 < moment)
@@ -119,14 +121,13 @@ abbrev pub ComesFirst : Option CallRecord → Option CallRecord → Type 0
 ComesFirst first None = Unit {0}
 ComesFirst first (Some y) = EndsBefore first y.begun
 
--- Holds if no call on the key contradicts a later call (one that starts after the first has ended), the key's opening
--- state, or the key's final state.
+-- Holds if no two calls on the key contradict each other when the first ends before the second starts. The key's
+-- opening state can replace the first call, and the key's final state can replace the second.
 abbrev pub HasNoClash : List CallRecord → ℕ → Presence → Option Presence → Type 0
 HasNoClash calls key there left = (was : Presence) (first second : Option CallRecord) → ComesFirst first second
     → IsClash calls key there left was first second → ⊥
 
--- If two calls in a history contradict each other, no order explains the history and leaves `keys`, whatever other
--- calls there are.
+-- If two calls on a key contradict each other, no order explains the history h and leaves the final keys `keys`.
 abbrev pub ClashesExcludeOrders : Type 0
 ClashesExcludeOrders = (h : HistoryValue) (keys : List ℕ) (key : ℕ) (there : Presence) (left : Option Presence) (was : Presence)
     (first second : Option CallRecord) → IsHistory h.opening.threads h.calls → has_key key h.opening.keys ≡ is_there there
@@ -135,8 +136,8 @@ ClashesExcludeOrders = (h : HistoryValue) (keys : List ℕ) (key : ℕ) (there :
 abbrev pub records : List StreamCall → List CallRecord
 records calls = map record_of calls
 
--- Holds if no order explains these calls on a key and leaves the key in the state `left`. If `left` is None, no order
--- explains these calls, whatever final state it leaves. `there` is the key's opening state.
+-- Holds if no order explains `calls`, the calls on a key, and leaves the key in the state `left`. If `left` is None, no
+-- order explains `calls`, whatever the key's final state is. `there` is the key's opening state.
 abbrev pub HaveNone : ℕ → ℕ → Presence → Option Presence → List CallRecord → Type 0
 HaveNone threads key there left calls = (quota : ℕ) (keys : List ℕ) → IfSome left (λ (l : Presence). keys ≡ key_if (is_there l) key)
     → IsUnexplained (alone threads quota (is_there there) key calls) keys

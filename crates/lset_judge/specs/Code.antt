@@ -9,8 +9,8 @@ use Rattle.lset_judge.specs.declared.event.Event.{Event as MomentEvent}
 use Rattle.lset_judge.specs.declared.event.Event.TheVariants.{Begins, Ends, Looks, Idle}
 use Rattle.lset_judge.specs.Rule.{State, Event, begins, ends, looks, idle}
 
--- `puts_held` and `takes_held` return the moments when the pending `add`s and `remove`s that have not taken effect
--- end. Without heaps, there is at most one such change, and it ends at `until`.
+-- `puts_held` returns the moments when those pending `add`s end that have not taken effect yet. `takes_held` returns
+-- the moments for `remove`s. If no heap is used, at most one change is pending, and it ends at `until`.
 abbrev pub puts_held : ℕ → Held → List ℕ
 puts_held until Nothing = []
 puts_held until Put = until ∷ []
@@ -36,7 +36,8 @@ is_many Put = false
 is_many Take = false
 is_many (Many many) = true
 
--- Holds if `old` and `new` have the same pending changes, and the same last moments when an `add` and a `remove` end.
+-- Holds if `old` and `new` have the same pending changes, the same last moment when an `add` ends, and the same last
+-- moment when a `remove` ends.
 pub record AreSame (old new : KeyChanges) : Type 0 where
   pub puts : puts_in new ≡ puts_in old
   pub takes : takes_in new ≡ takes_in old

@@ -13,8 +13,8 @@ use Rattle.lset_words.specs.Words.{key_of}
 use Rattle.lset_history.specs.History.{HistoryValue}
 use Rattle.lset_judge.specs.Rule.{Event, begins, ends, looks, idle, may_leave}
 
--- The effect that a call can have on its key. The call makes the key present (`changes true`) or absent, or sees the
--- key present or absent, or does nothing that matters to the judge.
+-- The effect of a call on its key. `changes true` makes the key present, `changes false` makes it absent, `sees` finds
+-- the key present or absent, and `nothing` does not matter to the judge.
 pub data Kind : Type 0 where
   changes : Bool → Kind
   sees : Bool → Kind
@@ -29,7 +29,7 @@ abbrev pub kind_of : Call → Reply → Kind
 kind_of c r = kind_as (effect_of c r)
 
 -- Returns the effect that a pending call can have on its key. A pending `add` or `remove` can change the key. A pending
--- read has no effect that matters, since it has returned nothing.
+-- read has no effect, since it has not returned anything.
 abbrev pub open_kind : Call → Kind
 open_kind (Add k) = changes true
 open_kind (Remove k) = changes false
@@ -39,8 +39,8 @@ abbrev pub kind_if : Call → Option (ℕ × Reply) → Kind
 kind_if c None = open_kind c
 kind_if c (Some e) = kind_of c e.1
 
--- Returns the moment when a call ends. For a pending call, returns `last` plus the moment when the call starts.
--- Therefore pending calls end at different moments, after all others.
+-- Returns the moment when a call ends. For a pending call, returns the sum of `last` and the call's start, so that
+-- pending calls end at different moments and after all completed calls.
 abbrev pub until_if : ℕ → ℕ → Option (ℕ × Reply) → ℕ
 until_if last begun None = last + begun
 until_if last begun (Some e) = e.0
@@ -59,7 +59,7 @@ end_event (changes w) begun = ends w
 end_event (sees w) begun = looks w begun
 end_event nothing begun = idle
 
--- Returns the event of key k at moment m: the start or end of a call on this key. `last` is the last moment of the
+-- Returns the event of key k at moment m: the start or the end of a call on k. `last` is the last moment of the
 -- history, or a later moment.
 abbrev pub event_at : ℕ → ℕ → List CallRecord → ℕ → Event
 event_at last k [] m = idle
@@ -69,12 +69,12 @@ event_at last k (x ∷ xs) m =
     else (if ends_at m x.ended then end_event (kind_if x.call x.ended) x.begun else event_at last k xs m)
     ) else event_at last k xs m
 
--- Returns whether, by the judge's test, some order explains the calls on key k and leaves the key's final state.
--- `keys` are the final keys. `last` is the last moment of the history, or a later moment.
+-- Returns whether key k passes the judge's test: whether some order explains the calls on k and leaves k in its final
+-- state. `keys` are the final keys. `last` is the last moment of the history, or a later moment.
 abbrev pub rule_explains : ℕ → HistoryValue → List ℕ → ℕ → Bool
 rule_explains last h keys k = may_leave (event_at last k h.calls) (has_key k h.opening.keys) (has_key k keys) last
 
--- Holds if, by the judge's test, some order explains the calls on each key and leaves the key's final state. `keys`
--- are the final keys. `last` is the last moment of the history, or a later moment.
+-- Holds if every key passes the judge's test: some order explains the calls on the key and leaves the key in its final
+-- state. `keys` are the final keys. `last` is the last moment of the history, or a later moment.
 abbrev pub RulePasses : ℕ → HistoryValue → List ℕ → Type 0
 RulePasses last h keys = (k : ℕ) → rule_explains last h keys k ≡ true

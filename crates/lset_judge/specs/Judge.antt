@@ -1,4 +1,4 @@
--- The calls that a `Judge` has judged, and the meaning of its verdict.
+-- The calls that a `Judge` has judged, and the meaning of the judge's verdict.
 use Rattle.std.specs.Prelude.{◌≡◌, ℕ, List, Option, Some, None, IfSome}
 use Rattle.lset_words.specs.declared.effect.Presence.{Presence}
 use Rattle.lset_words.specs.Effects.{presence}
@@ -13,33 +13,33 @@ use Rattle.lset_judge.specs.declared.clash.Clash.{Clash}
 use Rattle.lset_judge.specs.Clash.{record_if, HasNoClash, IsClash}
 use Rattle.lset_judge.specs.Facts.{IsStreamKept}
 
--- Holds if the judge j has judged these calls, on a set opened with the keys `opening`.
+-- Holds if the judge j has judged `calls`, which were made on a set with the opening keys `opening`.
 abbrev pub IsJudgeOf : ℕ → List ℕ → List CallRecord → Judge → Type 0
 IsJudgeOf threads opening calls j = IsStreamKept threads opening calls j.stream
 
 -- ---- The meaning of a verdict
 
--- Returns the final state of a key if the reason of the verdict is about the final keys. Returns None if the reason has
--- a moment, since it is then not about the final keys.
+-- Returns the final state of a key if the reason of a verdict is about the final keys. Returns None if the reason has a
+-- moment: the reason is then about the calls up to this moment.
 abbrev pub left_by : List ℕ → ℕ → Option ℕ → Option Presence
 left_by keys key (Some moment) = None
 left_by keys key None = Some (presence (has_key key keys))
 
--- Holds if c is a clash: two calls on the key that contradict each other. The key's opening state can replace the first
--- call, and its final state `left` the second.
+-- Holds if c is a clash: two calls on the key `key` that contradict each other. The key's opening state can replace the
+-- first call, and its final state `left` can replace the second.
 abbrev pub ClashesIn : List ℕ → List CallRecord → ℕ → Option Presence → Clash → Type 0
 ClashesIn opening calls key left c =
     IsClash calls key (presence (has_key key opening)) left c.was (record_if c.first) (record_if c.second)
 
--- Holds if no call on the key contradicts a later call (one that starts after the first has ended), the key's opening
--- state, or the key's final state.
+-- Holds if no two calls on the key contradict each other when the first ends before the second starts. The key's
+-- opening state can replace the first call, and the key's final state can replace the second.
 abbrev pub HasNoClashIn : List ℕ → List CallRecord → ℕ → Option Presence → Type 0
 HasNoClashIn opening calls key left = HasNoClash calls key (presence (has_key key opening)) left
 
--- Holds if a verdict is correct. If it includes a pair of contradicting calls (a clash), both are on the key that the
--- reason (`refusal`) names. The key's final state can replace the second call only if the reason is about the final
--- keys. If the verdict includes no such pair, no call on this key contradicts a later call, the key's opening state, or
--- its final state.
+-- Holds if a verdict is correct. If the verdict includes a clash (two calls that contradict each other), both calls are
+-- on the key that the reason `refusal` names. The key's final state can replace the second call only if the reason is
+-- about the final keys. If the verdict includes no clash, no call on the key contradicts a later call, the key's
+-- opening state, or the key's final state.
 abbrev pub IsVerdict : ℕ → List ℕ → List CallRecord → List ℕ → Verdict → Type 0
 IsVerdict threads opening calls keys verdict.Linearizable = IsStreamVerdict (stream_history threads opening calls) keys Linearizable
 IsVerdict threads opening calls keys (verdict.NotLinearizable refusal clash) =

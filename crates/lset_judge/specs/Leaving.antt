@@ -6,7 +6,7 @@ abbrev pub has_any : List ℕ → Bool
 has_any [] = false
 has_any (x ∷ xs) = true
 
--- Returns whether `there` can be the key's final state, because the key is in this state now or a pending change can
--- lead to it.
+-- Returns whether `there` can be the key's final state: the key is in the state `there` now, or a pending change can
+-- change the key to the state `there`.
 abbrev pub may_be_left : Bool → State → Bool
 may_be_left there s = same there s.there || has_any (options s)

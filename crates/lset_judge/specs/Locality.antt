@@ -1,4 +1,4 @@
--- Splits a recording into parts. Each key belongs to one part. Each part consists of the calls on its keys.
+-- Splits a recording into parts. Each key belongs to one part. A part consists of the calls on its keys.
 use Rattle.std.specs.Prelude.{◌↔◌, ℕ, ◌<◌, ◌==◌, List, filter}
 use Rattle.std.specs.List.Sorted.{IsStrictlyIncreasing}
 use Rattle.lset_words.specs.declared.history.CallRecord.{CallRecord}
@@ -22,17 +22,17 @@ part_of part i h = record {
   calls = calls_in part i h.calls;
 }
 
--- Locality: calls on different keys do not influence each other's verdict. In a history that the judge decides, each
--- key belongs to one part. Some order explains the history if and only if, for each part, some order explains the part
--- and leaves the part's final keys.
+-- Locality: calls on different keys do not influence each other's verdict. If a history that the judge can decide is
+-- split by keys, some order explains the history if and only if, for each part, some order explains the part and leaves
+-- the part's final keys.
 abbrev pub KeysAreApart : Type 0
 KeysAreApart = (h : HistoryValue) (keys : List ℕ) (part : ℕ → ℕ) (parts : ℕ)
     → IsHistory h.opening.threads h.calls → IsStrictlyIncreasing h.opening.keys → IsStrictlyIncreasing keys → IsJudged h
     → ((key : ℕ) → part key < parts)
     → IsExplained h keys ↔ ((i : ℕ) → i < parts → IsExplained (part_of part i h) (keys_in part i keys))
 
--- The quota does not matter in a history that the judge decides: if some order explains the history with another
--- quota, some order explains it with its own quota.
+-- The quota (the number of successful `add`s that one thread can make) does not matter in a history that the judge can
+-- decide. If some order explains the history with another quota, some order explains it with the quota of the history.
 abbrev pub QuotasDoNotMatter : Type 0
 QuotasDoNotMatter = (h : HistoryValue) (keys : List ℕ) (quota : ℕ)
     → IsHistory h.opening.threads h.calls → IsStrictlyIncreasing h.opening.keys → IsStrictlyIncreasing keys → IsJudged h

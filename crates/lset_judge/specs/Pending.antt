@@ -1,4 +1,4 @@
--- The pending calls as the judge stores them: a few in a vector, the others in a hash table indexed by the moments
+-- The pending calls as the judge stores them: a few in a vector, the others in a hash table whose keys are the moments
 -- when the calls end.
 use Rattle.std.specs.Prelude.{◌≡◌, ℕ, ◌<◌, nat_lt, if◌then◌else◌, ◌≤◌, List, ◌∷◌, length, Option, Some, None, All, Contains, slice_index_or}
 use Rattle.std.specs.Bool.{nat_eq}
@@ -25,8 +25,8 @@ or_zero (Some n) = n
 abbrev pub last_end : Busy → ℕ → ℕ
 last_end b t = if nat_lt t 65536 then slice_index_or b.low.items t 0 else or_zero (get nat_eq b.high t)
 
--- Holds if two properties hold for each call in the hash table. The heap `ends` contains the moment when the call
--- ends, and `busy` stores this moment for the call's thread.
+-- Holds if, for each call in the hash table `calls`, the heap `ends` contains the moment when the call ends, and `busy`
+-- stores this moment for the call's thread.
 pub record AreHeld (calls : List (ℕ × StreamCall)) (ends : List ℕ) (busy : Busy) : Type 0 where
   pub known : All (λ (e : ℕ × StreamCall). last_end busy e.1.thread ≡ e.0) calls
   pub held : All (λ (e : ℕ × StreamCall). Contains ends e.0) calls
@@ -35,8 +35,8 @@ abbrev pub end_or : ℕ → Option (ℕ × Reply) → ℕ
 end_or moment None = moment
 end_or moment (Some e) = e.0
 
--- Holds if `next` is the call in `old` that ends first, `next` ends before `moment`, and `new` contains the other
--- calls.
+-- Holds if `next` is the call in `old` that ends first, `next` ends before `moment`, and `new` contains all calls in
+-- `old` except `next`.
 pub record IsNext (moment : ℕ) (old : List Pending) (next : Pending) (new : List Pending) : Type 0 where
   pub early : next.end < moment
   pub is : IsPermutation old (next ∷ new)

@@ -1,7 +1,8 @@
--- Converts each completed call to one that returns true or false, because the judge decides only such calls. A
--- `ceiling` that returned a key becomes a `contains` of this key with the reply true. A `ceiling` that found no key,
--- or an `add` that returned full, becomes a `contains` of its argument with the reply false. A pending call stays as
--- it is. If no order explains the converted calls, no order explains the calls themselves.
+-- Converts each completed call to a call that returns true or false, because the judge decides only such calls. A
+-- `ceiling` (the smallest key not less than the argument) that returned a key becomes a `contains` of the key with the
+-- reply true. A `ceiling` that found no key, or an `add` that returned full, becomes a `contains` of its argument with
+-- the reply false. A pending call is unchanged. If no order explains the converted calls, no order explains the
+-- recorded calls.
 use Rattle.std.specs.Prelude.{ℕ, List, map, Option, Some, None}
 use Rattle.lset_words.specs.declared.Call.{Call}
 use Rattle.lset_words.specs.declared.Call.TheVariants.{Add, Contains, Ceiling}
@@ -38,8 +39,8 @@ abbrev pub read_as : CallRecord → CallRecord
 read_as x = record { thread = x.thread; call = call_if x.call x.ended; begun = x.begun; ended = end_as x.call x.ended }
 
 -- Holds if a verdict on a history is correct. Linearizable: some order explains the history without a quota and leaves
--- the keys. NotLinearizable: no order does, with any quota, and the reason is correct for the calls as the judge reads
--- them (each with the reply true or false). Undecided: some order explains the calls as the judge reads them, but a
+-- the final keys `keys`. NotLinearizable: no order does, with any quota, and the reason is correct for the converted
+-- calls (each completed call returns true or false). Undecided: some order explains the converted calls, but a
 -- completed call is a `ceiling` or returned neither true nor false.
 abbrev pub IsJudged : HistoryValue → List ℕ → Judged → Type 0
 IsJudged h keys judged.Linearizable = IsExplained (without_quota h) keys

@@ -1,4 +1,4 @@
--- The calls on a single key: the calls that can change the key, and the history of the calls on this key alone.
+-- The calls on a single key: which calls can change the key, and the history that consists of the calls on the key.
 use Rattle.std.specs.Prelude.{ℕ, nat_le, if◌then◌else◌, Bool, false, List, [], ◌∷◌}
 use Rattle.std.specs.Prelude.{Option, Some, None}
 use Rattle.lset_words.specs.declared.Reply.{Reply}
@@ -23,7 +23,8 @@ has_ended moment (Some e) = nat_le e.0 moment
 abbrev pub key_if : Bool → ℕ → List ℕ
 key_if there key = if there then key ∷ [] else []
 
--- Returns the history with only these calls, which are on one key. The set opens with the key if `there` is true.
+-- Returns the history that consists of `calls`, which are calls on `key`. The set opens with the key if `there` is
+-- true.
 abbrev pub alone : ℕ → ℕ → Bool → ℕ → List CallRecord → HistoryValue
 alone threads quota there key calls = record {
   opening = record { threads = threads; quota = quota; keys = key_if there key };

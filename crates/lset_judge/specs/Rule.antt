@@ -1,12 +1,12 @@
--- The judge's test of the calls on one key. The test processes the starts and ends of the calls in order, and makes
--- pending changes take effect when an event needs them.
+-- The judge's test of the calls on one key. The test processes the starts and ends of the calls in order, and lets a
+-- pending change take effect when an event requires it.
 use Rattle.std.specs.Prelude.{ℕ, zero, suc, ◌+◌, ◌==◌, ◌||◌, min, nat_lt, Bool, true, false, not, if◌then◌else◌, List, [], ◌∷◌}
 use Rattle.std.specs.Prelude.{length, Option, Some, None, is_some}
 
--- An event of a key at a moment; `true` means present. `begins`: a change to this state starts; the second field is its
--- end (after all moments if it stays pending). `ends`: a change to this state ends. `looks`: a read that saw this state
--- ends; the second field is when it started. `leaves`: this is the key's final state. `idle`: nothing happens to the
--- key.
+-- An event of a key. The argument of type `Bool` is true for the state present. `begins`: a change to the state starts;
+-- the second argument is the moment when the change ends (after all moments if the change stays pending). `ends`: a
+-- change to the state ends. `looks`: a read that saw the state ends; the second argument is the moment when the read
+-- started. `leaves`: the state is the key's final state. `idle`: nothing happens to the key.
 pub data Event : Type 0 where
   begins : Bool → ℕ → Event
   ends : Bool → Event
@@ -14,8 +14,9 @@ pub data Event : Type 0 where
   leaves : Bool → Event
   idle : Event
 
--- The state of a key as the judge tracks it. `there`: whether the key is present. `turned`: the moment of its last
--- change. `puts` and `takes`: the moments when the pending `add`s and `remove`s that have not taken effect end.
+-- The state of a key in the judge's test. `there`: whether the key is present. `turned`: the moment of the key's last
+-- change. `puts`: the moments when those pending `add`s end that have not taken effect. `takes`: these moments for the
+-- `remove`s.
 pub record State : Type 0 where
   pub there : Bool
   pub turned : ℕ
@@ -33,19 +34,20 @@ same false b = not b
 abbrev pub changes_to : Bool → State → List ℕ
 changes_to w s = if w then s.puts else s.takes
 
--- Returns the moments when those pending changes end that would change the key now: the `remove`s if the key is
--- present, else the `add`s.
+-- Returns the moments when those pending calls end that would change the key's current state: the `remove`s if the key
+-- is present, the `add`s if it is absent.
 abbrev pub options : State → List ℕ
 options s = changes_to (not s.there) s
 
--- Returns how many moments in a list are d or later.
+-- Returns how many moments in the list are equal to d or later than d.
 abbrev pub not_before : ℕ → List ℕ → ℕ
 not_before d [] = 0
 not_before d (x ∷ xs) = (if nat_lt x d then 0 else 1) + not_before d xs
 
 -- Returns whether the event at moment m is possible for a key in state s. The end of a change is possible if each
--- change to the same state that ends by now has taken effect. The end of a read is possible if the key is in the state
--- that the read saw, or has changed since the read started. The final state is possible if it is the key's state now.
+-- change to the same state that ends by moment m has taken effect. The end of a read is possible if the key is in the
+-- state that the read saw, or has changed since the read started. The final state is possible if the key is in this
+-- state.
 abbrev pub fits : ℕ → Event → State → Bool
 fits m (begins w end) s = true
 fits m (ends w) s = not_before (suc m) (changes_to w s) == length (changes_to w s)
@@ -58,8 +60,8 @@ abbrev pub put_in : ℕ → List ℕ → List ℕ
 put_in e [] = e ∷ []
 put_in e (x ∷ xs) = if nat_lt e x then e ∷ x ∷ xs else x ∷ put_in e xs
 
--- Returns the moments when the pending changes to the state w end, after an event. The argument xs contains these
--- moments before the event.
+-- Returns the moments when the pending changes to the state w end, after an event. The argument xs contains the moments
+-- when they end, before the event.
 abbrev pub entering : Bool → Event → List ℕ → List ℕ
 entering w (begins v end) xs = if same w v then put_in end xs else xs
 entering w (ends v) xs = xs
@@ -74,7 +76,7 @@ abbrev pub take_out : ℕ → List ℕ → List ℕ
 take_out e [] = []
 take_out e (x ∷ xs) = if x == e then xs else x ∷ take_out e xs
 
--- Returns the state of a key just after moment m, if the pending change that ends at `e` takes effect at this moment.
+-- Returns the state of a key just after moment m, if the pending change that ends at `e` takes effect at moment m.
 abbrev pub turned_by : ℕ → ℕ → State → State
 turned_by m e s = record {
   there = not s.there;
@@ -83,9 +85,9 @@ turned_by m e s = record {
   takes = if s.there then take_out e s.takes else s.takes;
 }
 
--- `nearest` returns the earliest of the moments. `turned_if` returns the key's state after the pending change that
--- ends first has taken effect. It returns None if no change is pending. In the judge's test, a change takes effect
--- only when an event needs it.
+-- `nearest` returns the earliest moment in a list. `turned_if` returns the key's state after the pending change that
+-- ends first has taken effect, or None if no change is pending. In the judge's test, a change takes effect only when an
+-- event requires it.
 abbrev pub nearest : ℕ → List ℕ → ℕ
 nearest x [] = x
 nearest x (y ∷ ys) = min x (nearest y ys)
@@ -94,8 +96,8 @@ abbrev pub turned_if : ℕ → State → List ℕ → Option State
 turned_if m s [] = None
 turned_if m s (x ∷ xs) = Some (turned_by m (nearest x xs) s)
 
--- Makes up to n pending changes of a key take effect, one after another, until the event v is possible in the key's
--- state. Returns this state. Returns None if v is possible in none of the states.
+-- Lets up to n pending changes of a key take effect, one after another, until the event v is possible in the key's
+-- state. Returns the state in which v is possible, or None if there is no such state.
 abbrev pub settled : ℕ → ℕ → Event → Option State → Option State
 settled n m v None = None
 settled zero m v (Some s) = if fits (suc m) v s then Some s else None
@@ -111,14 +113,14 @@ abbrev pub entered : Event → Option State → Option State
 entered v None = None
 entered v (Some t) = Some (enters v t)
 
--- Returns the state of a key after the event v, which happens at moment m + 1. Returns None if v is impossible. No
--- order then explains the calls on the key.
+-- Returns the state of a key after the event v at moment m + 1, or None if v is impossible. If v is impossible, no
+-- order explains the calls on the key.
 abbrev pub stepped : ℕ → Event → Option State → Option State
 stepped m v None = None
 stepped m v (Some s) = entered v (found m v s)
 
--- Returns the state of a key after a moment. Returns None if an event up to this moment was impossible: no order then
--- explains the calls on the key.
+-- Returns the state of a key after a moment, or None if an event up to the moment was impossible. If an event is
+-- impossible, no order explains the calls on the key.
 abbrev pub state_after : (ℕ → Event) → Bool → ℕ → Option State
 state_after ev opening zero = Some (opened opening)
 state_after ev opening (suc m) = stepped m (ev (suc m)) (state_after ev opening m)

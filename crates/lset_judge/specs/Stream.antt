@@ -1,5 +1,5 @@
--- A stream judges the calls of a recording one after another. This file defines the state of a stream and the meaning
--- of its verdict.
+-- A stream judges the calls of a recording one after another. The file defines the state of a stream and the meaning of
+-- a stream's verdict.
 use Rattle.std.specs.Prelude.{◌≡◌, ◌≢◌, ℕ, ◌<◌, ◌≤◌, ◌^◌, ◌⊎◌, true, false, List, length, Option, Some, None, All}
 use Rattle.std.specs.Prelude.{AllPairs, Contains, IfSome, ◌-◌}
 use Rattle.std.specs.List.Sorted.{IsStrictlyIncreasing}
@@ -33,22 +33,22 @@ record_of x = record { thread = x.thread; call = x.call; begun = x.begun; ended 
 abbrev pub call_of : CallRecord → StreamCall
 call_of x = record { thread = x.thread; call = x.call; begun = x.begun; ended = x.ended }
 
--- Returns the history of recorded calls on a set without a quota. (The quota is the number of calls, so it is never
--- used up.)
+-- Returns the history of the recorded calls on a set whose quota (the number of successful `add`s that one thread can
+-- make) is the number of calls, and therefore is never used up.
 abbrev pub stream_history : ℕ → List ℕ → List CallRecord → HistoryValue
 stream_history threads opening calls = record {
   opening = record { threads = threads; quota = length calls; keys = opening };
   calls = calls;
 }
 
--- ---- The state of a stream
+-- ---- State of a stream
 
 -- The smallest number that is greater than every moment.
 abbrev pub behind_all : ℕ
 behind_all = 2 ^ 63
 
--- The stored states of the keys, indexed by key. A key without calls has a stored state only if the set opened with the
--- key.
+-- The stored states of the keys, indexed by key. The state of a key without calls is stored only if the set opened with
+-- the key.
 abbrev pub States : Type 0
 States = HashMap ℕ KeyState (BuildHasherDefault FoldHasher)
 
@@ -60,8 +60,8 @@ state_or (Some s) = state_of s
 abbrev pub state_for : States → ℕ → State
 state_for states k = state_or (get nat_eq states k)
 
--- Converts a call to a pending call. The field `end` is the moment when the call ends (after all moments if it never
--- ends).
+-- Converts a call to a pending call. The field `end` is the moment when the call ends, or a moment after all others if
+-- the call never ends.
 abbrev pub pending_of : CallRecord → Pending
 pending_of x = record {
   end = until_if behind_all x.begun x.ended;
@@ -83,17 +83,16 @@ IsOver moment x = (end : ℕ × Reply) × (x.ended ≡ Some end) × (end.0 ≤ m
 abbrev pub IsBefore : CallRecord → Type 0
 IsBefore x = (x.begun < behind_all) × IfSome x.ended (λ (end : ℕ × Reply). end.0 < behind_all)
 
--- Holds if `pending` lists the calls that have not ended by the moment `moment`. No two of them end at the same
--- moment.
+-- Holds if `pending` lists the calls that have not ended by `moment`, and no two of them end at the same moment.
 pub record ArePending (calls : List CallRecord) (moment : ℕ) (pending : List Pending) : Type 0 where
   pub known : All (λ (p : Pending). (n : ℕ) × (n < length calls) × (p ≡ pending_of (call_numbered calls n))) pending
   pub kept : (n : ℕ) → n < length calls → IsOver moment (call_numbered calls n) ⊎ Contains pending (pending_of (call_numbered calls n))
   pub apart : AllPairs (λ (p q : Pending). p.end ≢ q.end) pending
   pub later : All (λ (p : Pending). moment < p.end) pending
 
--- Holds if the stored states of the keys are correct after a moment: they are the states that the judge's test
--- computes. `Some f` means that no order explains the calls on the key `f.key`. The test has found this by the moment
--- `f.moment`, and has found no such key earlier.
+-- Holds if the stored states of the keys after a moment are the states that the judge's test computes. `Some f` means
+-- that no order explains the calls on the key `f.key`, that the test showed this at the moment `f.moment`, and that it
+-- showed this for no key earlier.
 abbrev pub IsJudgedTo : List ℕ → List CallRecord → ℕ → States → Option Failed → Type 0
 IsJudgedTo opening calls moment states None =
     (k : ℕ) → state_after (event_at behind_all k calls) (has_key k opening) moment ≡ Some (state_for states k)
@@ -101,8 +100,8 @@ IsJudgedTo opening calls moment states (Some f) = (f.moment ≤ moment)
     × (state_after (event_at behind_all f.key.0 calls) (has_key f.key.0 opening) f.moment ≡ None)
     × ((k m : ℕ) → state_after (event_at behind_all k calls) (has_key k opening) m ≡ None → f.moment ≤ m)
 
--- Holds if the stream s (a judge of calls in sequence) has judged these calls, on a set opened with the keys `opening`.
--- No call starts after the stream's current moment.
+-- Holds if the stream s (a judge of calls in sequence) has judged `calls`, which were made on a set with the opening
+-- keys `opening`. No call starts after the stream's current moment.
 pub record IsStreamOf (threads : ℕ) (opening : List ℕ) (calls : List CallRecord) (s : Stream) : Type 0 where
   pub opens : IsStrictlyIncreasing opening
   pub history : IsHistory threads calls
@@ -113,51 +112,51 @@ pub record IsStreamOf (threads : ℕ) (opening : List ℕ) (calls : List CallRec
   pub pending : ArePending calls s.moment s.pending
   pub judged : IsJudgedTo opening calls s.moment s.states s.failed
 
--- Returns the current moment of a stream, which judges calls one after another. `pending_in` returns its pending
--- calls.
+-- `moment_of` returns the current moment of a stream (a judge of calls in sequence). `pending_in` returns the stream's
+-- pending calls.
 abbrev pub moment_of : Stream → ℕ
 moment_of s = s.moment
 
 abbrev pub pending_in : Stream → List Pending
 pending_in s = s.pending
 
--- The conditions for a call x to be the next call of a stream, which judges calls one after another.
+-- Holds if the call x can be the next call of a stream (a judge of calls in sequence) with the pending calls `pending`.
 
 pub record MayCome (pending : List Pending) (moment : ℕ) (x : CallRecord) : Type 0 where
   pub begins : moment < x.begun
   pub ends : IfSome x.ended (λ (end : ℕ × Reply). x.begun < end.0)
   pub before : IsBefore x
   pub plain : IfSome x.ended (λ (end : ℕ × Reply). is_plain x.call end.1 ≡ true)
-  -- No pending call ends at the moment when this call starts or ends.
+  -- No pending call ends at the moment when the call x starts or ends.
   pub apart : All (λ (p : Pending). (p.end ≢ x.begun) × IfSome x.ended (λ (end : ℕ × Reply). p.end ≢ end.0)) pending
-  -- When this call starts, no other call of its thread is pending.
+  -- When the call x starts, no other call of its thread is pending.
   pub free : All (λ (p : Pending). p.call.thread ≡ x.thread → p.end ≤ x.begun) pending
 
 -- ---- The meaning of a verdict
 
--- Holds if, by this moment, the judge's test shows that no order explains the calls on key k.
+-- Holds if, by the moment `moment`, the judge's test shows that no order explains the calls on key k.
 abbrev pub HasFailed : HistoryValue → ℕ → ℕ → Type 0
 HasFailed h k moment = state_after (event_at behind_all k h.calls) (has_key k h.opening.keys) moment ≡ None
 
--- Holds if `key` is the first key with calls that no order explains, and the judge's test shows this at `moment`.
--- Without a moment, holds if the test shows this for no key. (Then only the final state of `key` is wrong: see
--- `IsRefusedBy`.)
+-- Holds if `key` is the first key for which the judge's test shows that no order explains the key's calls, and the test
+-- shows this at `moment`. If `moment` is None, holds if the test shows this for no key. (Then only the final state of
+-- `key` is wrong: see `IsRefusedBy`.)
 abbrev pub FailsFirst : HistoryValue → ℕ → Option ℕ → Type 0
 FailsFirst h key None = (k m : ℕ) → HasFailed h k m → ⊥
 FailsFirst h key (Some moment) = HasFailed h key moment × ((k m : ℕ) → HasFailed h k m → moment ≤ m)
 
--- Holds if a verdict is correct. Linearizable: some order explains the calls and leaves the keys. NotLinearizable: no
--- order does, with any quota. The calls on the key that the reason (`refusal`) names suffice to show this
--- (`IsRefusedBy`). If the reason has a moment, the judge's test shows this at this moment, and for no key earlier.
--- Otherwise the test shows this for no key, and only the key's final state is wrong.
+-- Holds if a verdict is correct. Linearizable: some order explains the calls and leaves the final keys.
+-- NotLinearizable: no order does, with any quota, and the calls on the key that `refusal` (the reason) names suffice to
+-- show this (`IsRefusedBy`). If the reason has a moment, the judge's test fails for this key at this moment, and for no
+-- key earlier. Otherwise the test fails for no key, and only the key's final state is wrong.
 abbrev pub IsStreamVerdict : HistoryValue → List ℕ → StreamVerdict → Type 0
 IsStreamVerdict h keys Linearizable = IsExplained h keys
 IsStreamVerdict h keys (NotLinearizable refusal) =
     ((quota : ℕ) → IsUnexplained (with_quota quota h) keys) × IsRefusedBy h keys refusal.key.0 refusal.moment
     × FailsFirst h refusal.key.0 refusal.moment
 
--- Holds if the verdict on a cut-off recording is correct: Linearizable is correct for some final keys, NotLinearizable
--- for all.
+-- Holds if the verdict on a cut-off recording (one that does not contain the final keys) is correct: Linearizable is
+-- correct for some final keys, or NotLinearizable is correct for all final keys.
 abbrev pub IsStreamVerdictCutOff : HistoryValue → StreamVerdict → Type 0
 IsStreamVerdictCutOff h Linearizable = (keys : List ℕ) × IsStreamVerdict h keys Linearizable
 IsStreamVerdictCutOff h (NotLinearizable refusal) = (keys : List ℕ) → IsStreamVerdict h keys (NotLinearizable refusal)
@@ -167,9 +166,9 @@ IsStreamVerdictCutOff h (NotLinearizable refusal) = (keys : List ℕ) → IsStre
 abbrev pub no_pending : Pending
 no_pending = record { end = 0; call = call_of no_call }
 
--- Holds in two cases: an event of a key at a moment changes the stored states of the keys correctly, or the event shows
--- that no order explains the calls on the key, and this failure is recorded. After a failure, nothing is required of
--- the stored states.
+-- Holds if an event of a key at a moment changes the stored states of the keys correctly, or if the event shows that no
+-- order explains the calls on the key, and the stream records this failure. After a failure, the condition does not
+-- apply to the stored states.
 abbrev pub IsMetBy : States → ℕ → ℕ → Event → States → Option Failed → Option Failed → Type 0
 IsMetBy before key moment event after (Some f) failed = failed ≡ Some f
 IsMetBy before key moment event after None None =
@@ -190,9 +189,9 @@ abbrev pub verdict_of_key : Option ℕ → StreamVerdict
 verdict_of_key None = Linearizable
 verdict_of_key (Some k) = NotLinearizable (record { key = record { 0 = k }; moment = None })
 
--- Holds if the verdict agrees with the judge's test. If the test shows that no order explains the calls on some key
--- (Some f), the verdict reports this key and the moment of the test. Otherwise a verdict NotLinearizable has a reason
--- without a moment.
+-- Holds if the verdict agrees with the judge's test. If the test shows that no order explains the calls on a key (Some
+-- f), the verdict names the key and the moment of the test. Otherwise, the reason of a verdict NotLinearizable has no
+-- moment.
 abbrev pub IsToldBy : Option Failed → StreamVerdict → Type 0
 IsToldBy None Linearizable = Unit {0}
 IsToldBy None (NotLinearizable refusal) = refusal.moment ≡ None

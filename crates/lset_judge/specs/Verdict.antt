@@ -24,13 +24,13 @@ is_truth True = true
 is_truth False = true
 is_truth r = false
 
--- Returns whether the judge can decide a completed call with this reply: the call is not a `ceiling`, and its reply is
--- true or false.
+-- Returns whether the judge can decide a completed call with its reply: the call is not a `ceiling` (the smallest key
+-- not less than the argument), and the reply is true or false.
 abbrev pub is_plain : Call → Reply → Bool
 is_plain (Ceiling k) r = false
 is_plain c r = is_truth r
 
--- Returns whether a call of this kind is an `add` that returned true or is pending.
+-- Returns whether a call of the given kind is an `add` that either returned true or is still pending.
 abbrev pub puts_in : Kind → Bool
 puts_in (changes w) = w
 puts_in (sees w) = false
@@ -39,16 +39,18 @@ puts_in nothing = false
 abbrev pub may_add : Call → Option (ℕ × Reply) → Bool
 may_add c ended = puts_in (kind_if c ended)
 
--- Returns how many `add`s of the thread returned true or are pending.
+-- Returns how many `add`s of the thread either returned true or are still pending.
 abbrev pub adds_of : ℕ → List CallRecord → ℕ
 adds_of thread calls = count_by (λ (x : CallRecord). may_add x.call x.ended && x.thread == thread) calls
 
--- Holds if each completed call returned true or false and is no `ceiling`.
+-- Holds if no completed call is a `ceiling` (the smallest key not less than the argument), and each completed call
+-- returned true or false.
 abbrev pub IsPlain : List CallRecord → Type 0
 IsPlain calls = All (λ (x : CallRecord). IfSome x.ended (λ (e : ℕ × Reply). is_plain x.call e.1 ≡ true)) calls
 
--- Holds if the judge decides the history h. No completed call is a `ceiling`, and each returned true or false. The
--- quota covers all `add`s of each thread that returned true or are pending.
+-- Holds if the judge decides the history h: no completed call is a `ceiling` (the smallest key not less than the
+-- argument), each completed call returned true or false, and the quota (the number of successful `add`s that one thread
+-- can make) covers all `add`s of each thread that returned true or are pending.
 pub record IsJudged (h : HistoryValue) : Type 0 where
   pub plain : IsPlain h.calls
   pub room : (thread : ℕ) → adds_of thread h.calls ≤ h.opening.quota
@@ -59,13 +61,14 @@ with_quota quota h = record {
   calls = h.calls;
 }
 
--- ---- The meaning of a refusal: the reason why no order explains the calls
+-- ---- Meaning of a refusal (the reason why no order explains the calls)
 
--- Returns the calls on the key that start by the moment, with their ends and replies.
+-- Returns the calls on the key that start at `moment` or earlier, with their ends and replies.
 abbrev pub calls_by : ℕ → ℕ → List CallRecord → List CallRecord
 calls_by key moment calls = filter (λ (x : CallRecord). (key_of x.call).0 == key && nat_le x.begun moment) calls
 
--- Returns the history of the calls on the key that start by the moment. The set opens with or without the key, as in h.
+-- Returns the history of the calls on the key that start at `moment` or earlier. The set opens with the key if the set
+-- of the history h does.
 abbrev pub of_key : ℕ → ℕ → HistoryValue → HistoryValue
 of_key key moment h = record {
   opening = record {
@@ -76,14 +79,15 @@ of_key key moment h = record {
   calls = calls_by key moment h.calls;
 }
 
--- Holds if the reason of a verdict (why no order explains the calls) is correct, with any quota. If there is a moment,
--- no order explains the calls on the key that start by this moment, whatever keys the order leaves. Otherwise, no
--- order explains all calls on the key and leaves the key's final state.
+-- Holds if the reason of a verdict is correct: the reason why no order explains the calls, with any quota. If the
+-- reason has a moment, no order explains the calls on the key that start at this moment or earlier, whatever the final
+-- keys are. Otherwise, no order explains all calls on the key and leaves the key in its final state.
 abbrev pub IsRefusedBy : HistoryValue → List ℕ → ℕ → Option ℕ → Type 0
 IsRefusedBy h keys key (Some moment) = (quota : ℕ) (left : List ℕ) → IsUnexplained (of_key key moment (with_quota quota h)) left
 IsRefusedBy h keys key None = (quota : ℕ) (left : List ℕ) → has_key key left ≡ has_key key keys
     → IsUnexplained (of_key key (latest_moment h.calls) (with_quota quota h)) left
 
--- Returns the history with the number of calls as its quota. Such a quota is never used up.
+-- Returns the history h with the number of its calls as the quota (the number of successful `add`s that one thread can
+-- make). The quota is therefore never used up.
 abbrev pub without_quota : HistoryValue → HistoryValue
 without_quota h = with_quota (length h.calls) h

@@ -1,4 +1,4 @@
-//! For each thread, the moment when its last call ends.
+//! The moment when each thread's last call ends.
 
 ghost use Rattle.std.specs.Prelude.{◌≡◌, ◌==◌, ◌≤◌, ◌<◌, ◌^◌, ℕ, length, slice_index_or, OnOk, OnErr, if◌then◌else◌};
 ghost use Rattle.lset_judge.specs.Pending.{last_end};
@@ -6,15 +6,16 @@ ghost use Rattle.lset_judge.specs.Pending.{last_end};
 use std::alloc::{AllocError, Global};
 use std::collections::HashMap;
 
-/// Threads with a smaller number than `LOW` have an item in a vector, all others an entry in a hash table.
+/// Threads with numbers below `LOW` are stored in a vector, all other threads in a hash table.
 const LOW: u32 = 65_536;
 
-/// For each thread that has made a call, the moment when its last call ends.
+/// The moment when each thread's last call ends.
 #[derive(Drop)]
 pub(crate) struct Busy {
-    /// For each thread below `LOW`, the moment when its last call ends, or 0 if the thread has made no call.
+    /// The moment when the last call of each thread below `LOW` ends. 0 for a thread that has made no call.
     pub(crate) low: Vec<u64>,
-    /// For each thread with number `LOW` or higher that has made a call, the moment when its last call ends.
+    /// The moment when the last call of each thread with number `LOW` or higher ends. A thread that has made no call
+    /// has no entry.
     pub(crate) high: HashMap<u32, u64>,
 }
 
@@ -29,7 +30,7 @@ fn lengthen(ends: &mut Vec<u64>, len: usize) -> Result<(), AllocError>
     Ok(())
 }
 
-/// Stores `end` at index `place` of the vector. Lengthens the vector if necessary.
+/// Stores `end` at index `place` of the vector. Appends zeros first if the vector is too short.
 fn store(ends: &mut Vec<u64>, place: usize, end: u64) -> Result<(), AllocError>
     requires { place < 2 ^ 32 }
     ensures stored { OnOk result ((i : ℕ) → slice_index_or ends.new.items i 0 ≡ (if place == i then end else slice_index_or ends.old.items i 0)) }

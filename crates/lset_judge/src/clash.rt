@@ -1,5 +1,4 @@
-//! Finds clashes. A clash is a pair of calls on a key that contradict each other: no order can contain both, whatever
-//! other calls there are.
+//! Finds clashes. A clash is a pair of calls on a key that contradict each other, so that no order can contain both.
 
 ghost use Rattle.std.specs.Prelude.{◌≡◌, ℕ, All, Contains, IfSome, IsTrue, true};
 ghost use Rattle.lset_words.specs.History.{IsHistory};
@@ -11,24 +10,24 @@ ghost use Rattle.lset_judge.specs.Rest.{has_ended, turns_to};
 use crate::stream::StreamCall;
 use lset_words::{Effect, Key, Presence};
 
-/// Two calls on a key that contradict each other: no order can contain both, whatever other calls there are. The first
-/// call leaves the key in one state, and the second needs the other state. Between the start of the first call and the
-/// end of the second, no call can change the key to that other state. The second call starts after the first has ended,
-/// or the two calls contradict each other in the opposite order too.
+/// Two calls on a key that contradict each other, so that no order can contain both. The first call leaves the key in
+/// one state, and the second call needs the key in the opposite state. Between the start of the first call and the end
+/// of the second, no call can change the key to the opposite state. The second call starts after the first has ended,
+/// or the two calls also contradict each other in the opposite order.
 #[derive(Clone, Copy, Debug, PartialEq, Eq)]
 pub struct Clash {
     /// The key's state (present or absent) after the first call.
     pub was: Presence,
-    /// The first of the two calls. `None` if the set opened with the key in the state `was`: the opening state then
-    /// takes the place of this call.
+    /// The first of the two calls. `None` if the set opened with the key in the state `was`: the opening state replaces
+    /// the first call.
     pub first: Option<StreamCall>,
-    /// The second of the two calls. `None` if the key's final state is not `was`: the final state then takes the place
-    /// of this call.
+    /// The second of the two calls. `None` if the key's final state is not `was`: the final state replaces the second
+    /// call.
     pub second: Option<StreamCall>,
 }
 
-/// The arguments of a search for two calls that contradict each other: the key, whether the set opened with the key
-/// (`there`), and the key's final state (`left`), if known.
+/// The arguments of a search for two calls that contradict each other. `there` is the key's opening state; `left` is
+/// the key's final state, if known.
 #[derive(Clone, Copy)]
 struct Asked {
     key: Key,
@@ -36,7 +35,7 @@ struct Asked {
     left: Option<Presence>,
 }
 
-/// Lemma: if two calls in a history contradict each other, no order explains the history and its final keys.
+/// Lemma: if two calls in a history contradict each other, no order explains the history and leaves the final keys.
 pub fn clashes_exclude_orders()
     ensures { ClashesExcludeOrders }
 {}
@@ -75,7 +74,7 @@ pub(crate) fn needs(call: StreamCall) -> Option<Presence>
     }
 }
 
-/// Returns whether the call changed its key to the state `there`, or is pending and can still do so.
+/// Returns whether `call` changed its key to the state `there`, or is pending and can still do so.
 pub(crate) fn turns_to(call: StreamCall, there: Presence) -> bool
     ensures { result ≡ turns_to there (kind_if call.call call.ended) }
 {
@@ -221,7 +220,7 @@ fn is_clash(calls: &[StreamCall], asked: Asked, clash: Clash) -> bool
     clashes(calls, asked, clash) && in_order(calls, asked, clash)
 }
 
-/// Returns the last call in `calls` that had ended by `moment` and left the key in the state `was`.
+/// Returns the last call in `calls` that had ended by `moment` and left its key in the state `was`.
 fn last_before(calls: &[StreamCall], was: Presence, moment: u64) -> Option<StreamCall> {
     let mut last = None;
     for call in calls {
@@ -232,8 +231,8 @@ fn last_before(calls: &[StreamCall], was: Presence, moment: u64) -> Option<Strea
     last
 }
 
-/// Searches for an earlier call that contradicts `second`: no order can contain both. The result has no `first` if the
-/// key's opening state already rules out `second`.
+/// Searches for an earlier call that contradicts `second`, so that no order can contain both. The result has no `first`
+/// if the key's opening state already contradicts `second`.
 fn clash_with(calls: &[StreamCall], asked: Asked, second: StreamCall) -> Option<Clash>
     ensures { IfSome result (λ c. IsClash (records calls.now) asked.key.0 asked.there asked.left c.was (record_if c.first) (record_if c.second)) }
 {
@@ -260,8 +259,8 @@ fn clash_with(calls: &[StreamCall], asked: Asked, second: StreamCall) -> Option<
     None
 }
 
-/// Searches `calls` for two calls that contradict each other. If there are several such pairs, returns the pair with
-/// the latest second call.
+/// Returns two calls in `calls` that contradict each other. If there are several such pairs, returns the pair with the
+/// latest second call.
 fn last_clash(calls: &[StreamCall], asked: Asked) -> Option<Clash>
     ensures { IfSome result (λ c. IsClash (records calls.now) asked.key.0 asked.there asked.left c.was (record_if c.first) (record_if c.second)) }
 {
@@ -282,8 +281,8 @@ fn last_clash(calls: &[StreamCall], asked: Asked) -> Option<Clash>
     None
 }
 
-/// Searches for two calls on `key` that contradict each other. `there` is the key's state when the set opened; `left`
-/// is its final state, if known. If a clash is returned, no order explains these calls, whatever other calls there are.
+/// Searches `calls`, all calls on `key`, for two calls that contradict each other. `there` is the key's opening state;
+/// `left` is the key's final state, if known. If the function returns a clash, no order explains `calls`.
 pub fn find_clash(
     calls: &[StreamCall],
     key: Key,

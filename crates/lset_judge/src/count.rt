@@ -1,5 +1,5 @@
-//! Searches for counts. A count is a set of calls on a key that no order explains: the key would have to change back
-//! between these calls more often than it can.
+//! Finds counts. A count is a set of so many calls on a key that no order can contain all of them. The key would have
+//! to change back between the calls more often than other calls can change it.
 
 ghost use Rattle.std.specs.Prelude.{◌≡◌, ℕ, ◌<◌, All, AllPairs, IfOk, IfSome, IsTrue, length, filter, true};
 ghost use Rattle.lset_words.specs.History.{IsHistory, Precedes};
@@ -13,31 +13,32 @@ use crate::stretch::{Stretch, smallest_stretch};
 use lset_words::{Key, Presence};
 use std::alloc::{AllocError, Global};
 
-/// A count: calls on a key that are too many for any order. Of any two of these calls, the one that takes effect first
-/// leaves the key in the state `was`, and the other one needs the opposite state. Between them, another call must
-/// therefore change the key back. But too few calls can do that.
+/// So many calls on a key that no order can contain all of them. Of any two calls in `calls`, the one that takes effect
+/// first leaves the key in the state `was`, and the other needs the opposite state. Between any two calls in `calls`,
+/// another call must therefore change the key back. But `backs`, the calls that can do so, are too few.
 #[derive(Debug, Drop)]
 pub struct Count {
     /// The key of all calls in the count.
     pub key: Key,
-    /// The key's state (present or absent) after each call except the last. Each call except the first needs the other
-    /// state.
+    /// The key's state (present or absent) after each call except the last. Each call except the first needs the
+    /// opposite state.
     pub was: Presence,
-    /// The calls, ordered by start.
+    /// The calls of the count, ordered by start.
     pub calls: Vec<StreamCall>,
-    /// All calls that can change the key back between the calls in `calls`. They returned true or are pending, and they
-    /// overlap the time from `since` to `until`.
+    /// All calls that can change the key back between the calls in `calls`. Each call in `backs` returned true or is
+    /// pending, and overlaps the time from `since` to `until`.
     pub backs: Vec<StreamCall>,
     /// No call in `calls` starts before this moment. `None` if the set opened with the key in the state `was`: the
-    /// opening state then counts as a first call.
+    /// opening state then counts as the first call.
     pub since: Option<u64>,
     /// All calls in `calls` have ended by this moment. `None` if the key's final state is not `was`: the final state
-    /// then counts as a last call.
+    /// then counts as the last call.
     pub until: Option<u64>,
 }
 
 impl Count {
-    /// Returns how often the key must change back between the calls. The number is greater than `backs.len()`.
+    /// Returns how often the key must change back between the calls in `calls`. The result is greater than
+    /// `backs.len()`.
     pub fn turns(&self) -> usize
         ensures { result ≡ turns_of (length self.now.calls.items) self.now.since self.now.until }
     {
@@ -45,14 +46,13 @@ impl Count {
     }
 }
 
-/// Lemma: if a history contains a count (calls on a key that are too many for any order), no order explains the history
-/// and its final keys.
+/// Lemma: if a history contains a count (so many calls on a key that no order can contain all of them), no order
+/// explains the history and leaves the final keys.
 pub fn counts_exclude_orders()
     ensures { CountsExcludeOrders }
 {}
 
-/// Returns 1 if `bound` is `None`, and 0 otherwise. `None` means that the key's opening or final state counts as a
-/// call.
+/// Returns 1 if `bound` is `None`, else 0. `None` means that the key's opening or final state counts as a call.
 fn also(bound: Option<u64>) -> usize
     ensures { result ≡ also bound }
 {
@@ -62,7 +62,7 @@ fn also(bound: Option<u64>) -> usize
     }
 }
 
-// ---- Tests whether calls are a count: calls on a key that are too many for any order
+// ---- Tests for a count (so many calls on a key that no order can contain all of them)
 
 fn begins_in(call: StreamCall, was: Presence, since: Option<u64>) -> bool
     ensures { IsTrue result → BeginsIn was since (record_of call) }
@@ -109,8 +109,8 @@ fn has_ended_before(first: StreamCall, second: StreamCall) -> bool
     }
 }
 
-/// Returns whether the key must change back between the two calls: whichever of them comes first leaves the key in the
-/// state `was`, and the other one needs the opposite state.
+/// Returns whether the key must change back between `first` and `second`: whichever call takes effect first leaves the
+/// key in the state `was`, and the other needs the opposite state.
 fn need_turn(first: StreamCall, second: StreamCall, was: Presence) -> bool
     ensures { IsTrue result → NeedTurn was (record_of first) (record_of second) }
 {
@@ -215,8 +215,9 @@ fn turning_in(
         .collect(alloc)
 }
 
-/// Returns whether the calls in `count` are among `calls` and are too many for any order. `count.backs` must contain
-/// all calls that can change the key back. `there` is the key's opening state; `left` is its final state, if known.
+/// Returns whether `count` is a count: its calls are among `calls`, and no order can contain all of them. `count.backs`
+/// must contain all calls that can change the key back. `there` is the key's opening state; `left` is the key's final
+/// state, if known.
 fn is_count(calls: &[StreamCall], there: Presence, left: Option<Presence>, count: &Count) -> bool
     requires { count.now.backs.items ≡ filter (λ x. turns_in count.now.key.0 (other count.now.was) count.now.since count.now.until (record_of x)) calls.now }
     ensures { IsTrue result → IsCount (records calls.now) there left count.now }
@@ -241,7 +242,8 @@ fn is_count(calls: &[StreamCall], there: Presence, left: Option<Presence>, count
     need_turns(counted, was) && count.backs.len() < count.turns()
 }
 
-/// Returns the calls of `stretch` (a period of time with too many calls for any order), ordered by start.
+/// Returns the calls in `stretch`, ordered by start. A stretch is a period with so many calls that no order can contain
+/// all of them.
 fn counted_in(
     alloc: Global,
     calls: &[StreamCall],
@@ -262,8 +264,8 @@ fn counted_in(
     Ok(counted)
 }
 
-/// Returns the start of the first call in `counted`. Returns `None` if `since` is `None`: the key's opening state then
-/// counts as the first call.
+/// Returns the start of the first call in `counted`. Returns `None` if `since` is `None`, because the key's opening
+/// state then counts as the first call.
 fn since_first(counted: &[StreamCall], since: Option<u64>) -> Option<u64> {
     match (since, counted.first()) {
         (Some(_), Some(first)) => Some(first.begun),
@@ -271,11 +273,12 @@ fn since_first(counted: &[StreamCall], since: Option<u64>) -> Option<u64> {
     }
 }
 
-/// Searches for a count: calls on `key` that are too many for any order. Returns the smallest count found. `calls` must
-/// be ordered by start. `there` is the key's opening state; `left` is its final state, if known.
+/// Searches for a count: so many calls on `key` that no order can contain all of them. Returns the smallest count
+/// found. `calls` must be ordered by start. `there` is the key's opening state; `left` is the key's final state, if
+/// known.
 ///
-/// If a count is returned, no order explains the calls. The search needs quadratic time in the number of calls. It
-/// fails only if an allocation fails.
+/// If the function returns a count, no order explains `calls`. The search takes time quadratic in the number of calls.
+/// It fails only if an allocation fails.
 pub fn find_count(
     alloc: Global,
     calls: &[StreamCall],

@@ -1,5 +1,5 @@
-//! A heap of the moments when calls end. Reading the earliest moment needs constant time. Inserting or removing a
-//! moment needs logarithmic time.
+//! A heap of the moments when calls end. Reading the earliest moment takes constant time. Inserting or removing a
+//! moment takes logarithmic time.
 
 ghost use Rattle.std.specs.Prelude.{◌≡◌, ◌==◌, ◌<◌, ◌≤◌, ◌∷◌, [], suc, length, slice_get, All, IsTrue, MatchOption, Some, OnOk, OnErr};
 ghost use Rattle.lset_judge.specs.Rule.{nearest, not_before, put_in};
@@ -9,7 +9,7 @@ use std::cmp::Reverse;
 use std::collections::BinaryHeap;
 use std::marker::Model;
 
-/// The moments when some calls end. Contracts describe them as a list in increasing order.
+/// The moments when calls end. In contracts, the value is the list of these moments in increasing order.
 #[derive(Drop)]
 pub(crate) struct Ends {
     heap: BinaryHeap<Reverse<u64>>,
@@ -73,7 +73,7 @@ impl Ends {
         }
     }
 
-    /// Adds the moment when a call ends. If an allocation fails, nothing changes.
+    /// Inserts `end`, the moment when a call ends. If an allocation fails, the heap is unchanged.
     pub(crate) fn push(&mut self, end: u64) -> Result<(), AllocError>
         ensures more { OnOk result (self.new ≡ put_in end self.old) }
         ensures same { OnErr result (self.new ≡ self.old) }

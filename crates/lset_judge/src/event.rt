@@ -1,4 +1,4 @@
-//! Events of a key: the starts and ends of the calls on this key, as the judge sees them.
+//! Events of a key. An event is the start or the end of a call on the key.
 
 ghost use Rattle.std.specs.Prelude.{◌≡◌};
 ghost use Rattle.lset_judge.specs.Code.{event_as};
@@ -6,14 +6,14 @@ ghost use Rattle.lset_judge.specs.Events.{kind_as, open_kind, begin_event, end_e
 
 use lset_words::{Call, Effect, Presence};
 
-/// What the start or the end of a call means for the call's key. A change is an `add` or `remove` that returned true or
-/// is pending.
+/// The effect of the start or the end of a call on the call's key. A change is an `add` or `remove` that returned true
+/// or is pending.
 #[derive(Clone, Copy, Debug, PartialEq, Eq)]
 pub(crate) enum Event {
-    /// A change starts. The fields are the new state of the key, and the moment when the change ends (a moment after
-    /// all others if the change never ends).
+    /// A change starts. The fields are the state to which the change takes the key, and the moment when the change ends
+    /// (after all other moments if the change never ends).
     Begins(Presence, u64),
-    /// A change ends. The field is the new state of the key.
+    /// A change ends. The field is the state to which the change took the key.
     Ends(Presence),
     /// A read ends. The fields are the state that the read saw, and the moment when the read started.
     Looks(Presence, u64),
@@ -32,8 +32,8 @@ pub(crate) fn open_effect(call: Call) -> Effect
     }
 }
 
-/// Returns the event for the start of a call with this effect. `until` is the moment when the call ends, or a moment
-/// after all others if the call never ends.
+/// Returns the event for the start of a call with the effect `effect`. `until` is the moment when the call ends, or a
+/// moment after all others if the call never ends.
 pub(crate) fn begin_event(effect: Effect, until: u64) -> Event
     ensures { event_as result ≡ begin_event (kind_as effect) until }
 {
@@ -43,7 +43,7 @@ pub(crate) fn begin_event(effect: Effect, until: u64) -> Event
     }
 }
 
-/// Returns the event for the end of a call with this effect. The call started at the moment `begun`.
+/// Returns the event for the end of a call with the effect `effect`. The call started at the moment `begun`.
 pub(crate) fn end_event(effect: Effect, begun: u64) -> Event
     ensures { event_as result ≡ end_event (kind_as effect) begun }
 {

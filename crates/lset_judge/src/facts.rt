@@ -1,5 +1,5 @@
-//! The facts that the judge stores about the calls on each key. With these facts, the judge finds two calls on the key
-//! that contradict each other (a clash).
+//! The facts that the judge stores about the calls on each key. From these facts, the judge finds a clash: two calls on
+//! the key that contradict each other.
 
 ghost use Rattle.std.specs.Prelude.{◌≡◌, ◌↔◌, ◌≤◌, false, IsTrue, MatchOption, Some};
 ghost use Rattle.lset_words.specs.Effects.{effect_of};
@@ -25,8 +25,8 @@ fn ends_by(first: StreamCall, second: StreamCall) -> bool
     }
 }
 
-/// Returns the key's state after a completed call, and the kind of the call. Returns `None` for a `ceiling`, and for a
-/// reply that is neither true nor false.
+/// Returns the state in which a completed call left its key, and the kind of the call. Returns `None` for a `ceiling`
+/// (the smallest key not less than the argument), and for a reply that is neither true nor false.
 fn kept_as(call: Call, reply: Reply) -> Option<(Presence, Kept)>
     ensures { MatchOption result (is_plain call reply ≡ false) (λ p. (left_so (effect_of call reply) ≡ Some p.0) × (word_kept p.1 p.0 (key_of call) ≡ call)
         × (reply_kept p.1 p.0 ≡ reply) × IsTrue (is_call p.1)) }
@@ -75,8 +75,8 @@ impl KeyState {
         }
     }
 
-    /// Returns the stored call on `key`, a completed call that left the key in the state `was`. Returns `None` if no
-    /// call is stored. In this case, the set opened with the key in the state `was`.
+    /// Returns the stored call on `key`: a completed call that left the key in the state `was`. Returns `None` if no
+    /// call is stored, because the set opened with the key in the state `was`.
     fn first(&self, key: Key) -> Option<StreamCall>
         ensures { result ≡ first_of key.0 (facts_of self.now) }
     {
@@ -91,8 +91,8 @@ impl KeyState {
         })
     }
 
-    /// Records the start of a call after the judge has found that no order exists. Only raises `puts_until` and
-    /// `takes_until`, the last moments when an `add` and a `remove` of the key end.
+    /// Records the start of a call after the judge has found that no order explains the calls. Updates only
+    /// `puts_until` and `takes_until`, the last moments when an `add` and a `remove` of the key end.
     pub(crate) fn note_begin(&mut self, event: Event)
         ensures { facts_of self.new ≡ begun_by (event_as event) (facts_of self.old) }
     {
@@ -104,7 +104,7 @@ impl KeyState {
     }
 
     /// Returns whether all changes of the key away from the state `was` had ended when the stored call `first` started.
-    /// If no call is stored (`None`), returns whether no change of this kind has started.
+    /// If `first` is `None`, returns whether no such change has started.
     fn is_standing(&self, first: Option<StreamCall>, key: Key) -> bool
         requires { first ≡ first_of key.0 (facts_of self.now) }
         ensures { IsTrue result ↔ IsStanding key.0 (facts_of self.now) }
@@ -117,7 +117,7 @@ impl KeyState {
     }
 
     /// Returns whether `second` starts after `first` has ended. Also returns true if the stored facts about the key
-    /// show that the two calls contradict each other in the opposite order too, or if `first` is `None`.
+    /// show that the two calls contradict each other in the opposite order, or if `first` is `None`.
     fn comes_after(&self, first: Option<StreamCall>, second: StreamCall) -> bool
         ensures { IsTrue result ↔ ComesAfter (facts_of self.now) first second }
     {
@@ -138,9 +138,9 @@ impl KeyState {
             && ends_by(first, second)
     }
 
-    /// Returns the contradiction between the stored call on the key and the call `second`, which ends now: no order
-    /// can contain both. If no call is stored, the key's opening state takes its place. Returns `None` if and only if
-    /// the stored facts show no contradiction.
+    /// Returns the clash between the stored call on the key and `second`, which ends now: no order can contain both
+    /// calls. If no call is stored, the key's opening state replaces it. Returns `None` if and only if the stored facts
+    /// show no clash.
     pub(crate) fn clash_of(&self, second: StreamCall) -> Option<Clash>
         ensures { MatchOption result (IsClashing (facts_of self.now) second → ⊥) (IsFound (facts_of self.now) second) }
     {
@@ -159,17 +159,17 @@ impl KeyState {
         })
     }
 
-    /// Stores the result of `clash_of` in `clash`. This is a separate function so that its caller needs no stack space
-    /// for another `Clash`.
+    /// Stores the result of `clash_of` in `clash`. A separate function, so that the caller needs no stack space for
+    /// another `Clash`.
     pub(crate) fn store_clash(&self, second: StreamCall, clash: &mut Option<Clash>)
         ensures { MatchOption clash.new (IsClashing (facts_of self.now) second → ⊥) (IsFound (facts_of self.now) second) }
     {
         *clash = self.clash_of(second);
     }
 
-    /// Returns the contradiction between the stored call on the key and the key's final state `left`: no order
-    /// contains the call and leaves this state. If no call is stored, the key's opening state takes its place. Returns
-    /// `None` if and only if the stored facts show no contradiction.
+    /// Returns the clash between the stored call on the key and the key's final state `left`: no order can contain the
+    /// call and leave the key in the state `left`. If no call is stored, the key's opening state replaces it. Returns
+    /// `None` if and only if the stored facts show no clash.
     pub(crate) fn clash_left(&self, key: Key, left: Presence) -> Option<Clash>
         ensures { MatchOption result (left ≡ other self.now.was → IsStanding key.0 (facts_of self.now) → ⊥) (IsFoundLeft key.0 (facts_of self.now) left) }
     {
@@ -185,8 +185,8 @@ impl KeyState {
     }
 
     /// Returns whether a completed call that started at `begun` and left the key in the state `was` replaces the stored
-    /// call. The new call replaces the stored one if all changes to the other state had ended by `begun`. But the
-    /// stored call stays if it left the same state, and all these changes had ended when it started.
+    /// call: all changes to the opposite state must have ended by `begun`. The stored call is kept if it left the key
+    /// in the state `was` too, and all changes to the opposite state had ended when it started.
     fn is_to_be_kept(&self, begun: u64, was: Presence) -> bool
         ensures kept { IsTrue result → (until_of (other was) (facts_of self.now) ≤ begun)
             × (self.now.was ≡ was → until_of (other was) (facts_of self.now) ≤ self.now.begun → ⊥) }
@@ -197,7 +197,7 @@ impl KeyState {
         until <= begun && !(self.was == was && until <= self.begun)
     }
 
-    /// Records the end of a call. Either this call replaces the stored call on the key, or nothing changes.
+    /// Records the end of `call`. Either `call` replaces the stored call on the key, or the facts are unchanged.
     pub(crate) fn keep(&mut self, call: StreamCall)
         ensures state { state_of self.new ≡ state_of self.old }
         ensures ended { IsEnded call (facts_of self.old) (facts_of self.new) }

@@ -1,5 +1,4 @@
-//! The histories that the judge decides exactly. For these histories, the judge finds out whether some order explains
-//! the calls.
+//! The histories for which the judge decides exactly whether some order explains the calls.
 
 ghost use Rattle.std.specs.Prelude.{◌≡◌, ◌≤◌, ℕ, IsTrue, ◌↔◌, All, IfSome, true};
 ghost use Rattle.lset_judge.specs.Verdict.{is_plain, may_add, adds_of, IsPlain, IsJudged};
@@ -42,7 +41,7 @@ fn all_plain(calls: &[CallRecord]) -> bool
     calls.iter().all(|call_record| ends_plain(call_record))
 }
 
-/// Returns how many `add`s of the thread returned true or are pending.
+/// Returns how many `add`s of the thread either returned true or are still pending.
 fn adds_of(calls: &[CallRecord], thread: u32) -> usize
     ensures { result ≡ adds_of thread calls.now }
 {
@@ -52,7 +51,8 @@ fn adds_of(calls: &[CallRecord], thread: u32) -> usize
         .count()
 }
 
-/// Returns whether every thread's quota covers all its `add`s that returned true or are pending.
+/// Returns whether the quota (the number of successful `add`s that one thread can make) covers all `add`s of each
+/// thread that returned true or are pending.
 fn has_room(history: &History) -> bool
     ensures { IsTrue result ↔ ((thread : ℕ) → adds_of thread history.now.calls ≤ history.now.opening.quota) }
 {
@@ -69,17 +69,19 @@ fn has_room(history: &History) -> bool
 /// Returns whether each completed call of the history is an `add`, a `remove` or a `contains` that returned true or
 /// false. Does not allocate.
 ///
-/// The judge decides such a history if every thread's quota covers all its `add`s that returned true or are pending.
+/// The judge decides such a history if the quota (the number of successful `add`s that one thread can make) covers all
+/// `add`s of each thread that returned true or are pending.
 pub fn is_plain(history: &History) -> bool
     ensures { IsTrue result ↔ IsPlain history.now.calls }
 {
     all_plain(history.calls())
 }
 
-/// Returns whether `judge` decides the history, that is, returns a verdict other than `Undecided`. Does not allocate.
+/// Returns whether `judge` returns a verdict other than `Undecided` for the history. Does not allocate.
 ///
-/// There are two conditions. Each completed call is an `add`, a `remove` or a `contains` that returned true or false.
-/// Every thread's quota covers all its `add`s that returned true or are pending.
+/// Each completed call must be an `add`, a `remove` or a `contains` that returned true or false. The quota (the number
+/// of successful `add`s that one thread can make) must cover all `add`s of each thread that returned true or are
+/// pending.
 pub fn is_judged(history: &History) -> bool
     ensures { IsTrue result ↔ IsJudged history.now }
 {

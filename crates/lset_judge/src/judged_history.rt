@@ -15,17 +15,18 @@ use lset_history::History;
 use lset_words::{Call, CallRecord, Reply};
 use std::alloc::{AllocError, Global};
 
-/// The verdict of `judge` on a history.
+/// The result of `judge`: the verdict on a history.
 #[derive(Debug, Drop)]
 pub enum Judged {
-    /// Some order explains the calls: starting from the opening keys, it has the same replies and leaves the final
-    /// keys.
+    /// Some order explains the calls: made in this order on a set with the opening keys, the calls return the recorded
+    /// replies and leave the final keys.
     Linearizable,
     /// No order explains the calls and leaves the final keys. Contains the reason and, if the judge found them, two
     /// calls that contradict each other.
     NotLinearizable(Refusal, Option<Clash>),
-    /// Not decided: a completed call is a `ceiling`, or returned neither true nor false. The judge replaced these calls
-    /// by calls that it can decide, and some order explains the resulting history.
+    /// Not decided: a completed call is a `ceiling` (the smallest key not less than the argument), or returned neither
+    /// true nor false. The judge replaced every such call by a call that it can decide, and some order explains the
+    /// resulting history.
     Undecided,
 }
 
@@ -49,7 +50,7 @@ fn reply_as(call: Call, reply: Reply) -> Reply
     }
 }
 
-/// Returns the call that the judge reads instead of `call`. A `ceiling`, or an `add` that returned `Full`, becomes a
+/// Returns the call that the judge uses in place of `call`. A `ceiling`, or an `add` that returned `Full`, becomes a
 /// `contains`. Any other call is unchanged.
 fn read_as(call: &CallRecord) -> StreamCall
     ensures is { record_of result ≡ read_as call.now }
@@ -71,7 +72,7 @@ fn read_as(call: &CallRecord) -> StreamCall
     }
 }
 
-/// Adds the next call of the history to the judge. The judge must be able to accept this call as the next one. Fails
+/// Adds `call`, the next call of the history, to the judge. The judge must be able to accept it as the next call. Fails
 /// only if an allocation fails.
 fn add_next(judge: &mut Judge, call: StreamCall) -> Result<(), AllocError>
     requires { MayCome (pending_in judge.old.stream) (moment_of judge.old.stream) (record_of call) }
@@ -95,12 +96,12 @@ fn add_next(judge: &mut Judge, call: StreamCall) -> Result<(), AllocError>
     }
 }
 
-/// Decides whether some order linearizes the calls of a history and leaves the final keys `keys`. The set starts with
+/// Decides whether some order linearizes the calls of a history and leaves the final keys `keys`. The set opens with
 /// the history's opening keys and has no quota. `keys` must be in increasing order.
 ///
-/// The verdict is exact if each completed call returned true or false and is no `ceiling`. For any other history, the
-/// verdict is `NotLinearizable` only if no order exists, and `Undecided` otherwise. The function fails only if an
-/// allocation fails.
+/// The verdict is exact if no completed call is a `ceiling` (the smallest key not less than the argument), and each
+/// completed call returned true or false. For any other history, the verdict is `NotLinearizable` only if no order
+/// explains the calls, and `Undecided` otherwise. The function fails only if an allocation fails.
 pub fn judge(alloc: Global, history: &History, keys: &[u32]) -> Result<Judged, AllocError>
     requires { IsStrictlyIncreasing keys.now }
     ensures { IfOk result (IsJudged history.now keys.now) }

@@ -1,4 +1,5 @@
-//! The changes of a key that have started. A change is an `add` or `remove` that returned true or is pending.
+//! The changes of a key that have started. A change is an `add` or `remove` that either returned true or is still
+//! pending.
 
 ghost use Rattle.std.specs.Prelude.{◌≡◌, ◌==◌, ◌≤◌, ◌∷◌, [], suc, length, max, true, false, IsTrue, MatchOption, OnOk};
 ghost use Rattle.lset_judge.specs.Code.{puts_in, takes_in, is_many, AreSame};
@@ -10,8 +11,8 @@ use crate::stream::BEHIND_ALL;
 use lset_words::Presence;
 use std::alloc::{AllocError, Global};
 
-/// The pending changes of a key that have not taken effect. One heap has the moments when the `add`s end, the other
-/// heap the moments when the `remove`s end. Also stores how many changes are pending.
+/// The pending changes of a key that have not taken effect: a heap of the moments when the `add`s end, a heap of the
+/// moments when the `remove`s end, and the number of pending changes.
 #[derive(Drop)]
 pub(crate) struct ManyChanges {
     puts: Ends,
@@ -21,8 +22,8 @@ pub(crate) struct ManyChanges {
 
 /// The pending changes of a key that have not taken effect.
 ///
-/// A key needs a heap, and an allocation, only if its changes overlap, if its `add`s and `remove`s do not alternate,
-/// or if a change never ends.
+/// Heaps, and an allocation for them, are necessary only if the key's changes overlap, if its `add`s and `remove`s do
+/// not alternate, or if a change never ends.
 #[derive(Drop)]
 pub(crate) enum Held {
     /// Every pending change has taken effect.
@@ -31,25 +32,25 @@ pub(crate) enum Held {
     Put,
     /// Only one pending change has not taken effect: a `remove` that ends at `takes_until`.
     Take,
-    /// Any number of pending changes. Their ends are in heaps.
+    /// Any number of pending changes have not taken effect. The moments when they end are in heaps.
     Many(Box<ManyChanges>),
 }
 
-/// The changes of a key that have started: when the last of them ends, and when each change that has not taken effect
-/// ends. A change that never ends counts as ending after all moments.
+/// The changes of a key that have started: the last moments when an `add` and a `remove` end, and the moment when each
+/// change ends that has not taken effect. A change that never ends counts as ending after all moments.
 #[derive(Drop)]
 pub(crate) struct KeyChanges {
-    /// The last moment when a started `add` of the key ends, among those that returned true or are pending. 0 if the
+    /// The last moment when an `add` of the key ends that has started, and that returned true or is pending. 0 if the
     /// key has no such `add`.
     pub(crate) puts_until: u64,
-    /// The last moment when a started `remove` of the key ends, among those that returned true or are pending. 0 if
-    /// the key has no such `remove`.
+    /// The last moment when a `remove` of the key ends that has started, and that returned true or is pending. 0 if the
+    /// key has no such `remove`.
     pub(crate) takes_until: u64,
     held: Held,
 }
 
 impl KeyChanges {
-    /// Returns a `KeyChanges` for a key without changes. Does not allocate.
+    /// Returns the changes of a key that has no changes. Does not allocate.
     pub(crate) fn none() -> KeyChanges
         ensures puts { puts_in result ≡ [] }
         ensures takes { takes_in result ≡ [] }
@@ -85,7 +86,7 @@ impl KeyChanges {
         }
     }
 
-    /// Returns whether all pending `add`s of the key that have not taken effect end later than moment `before` + 1.
+    /// Returns whether all pending `add`s of the key that have not taken effect end after the moment `before` + 1.
     pub(crate) fn no_put_is_due(&self, before: u64) -> bool
         ensures { result ≡ (not_before (suc (suc before)) (puts_in self.now) == length (puts_in self.now)) }
     {
@@ -96,7 +97,7 @@ impl KeyChanges {
         }
     }
 
-    /// Returns whether all pending `remove`s of the key that have not taken effect end later than moment `before` + 1.
+    /// Returns whether all pending `remove`s of the key that have not taken effect end after the moment `before` + 1.
     pub(crate) fn no_take_is_due(&self, before: u64) -> bool
         ensures { result ≡ (not_before (suc (suc before)) (takes_in self.now) == length (takes_in self.now)) }
     {
@@ -107,8 +108,8 @@ impl KeyChanges {
         }
     }
 
-    /// Removes the `add` that ends first from the pending `add`s that have not taken effect, and returns the moment
-    /// when it ends. Returns `None` if there is no such `add`.
+    /// Removes the earliest end of a pending `add` that has not taken effect, and returns this moment. Returns `None`
+    /// if there is no such `add`.
     pub(crate) fn pop_put(&mut self) -> Option<u64>
         ensures popped { MatchOption result (puts_in self.old ≡ [])
             (λ end. (puts_in self.old ≡ end ∷ puts_in self.new) × (nearest end (puts_in self.new) ≡ end)) }
@@ -126,8 +127,8 @@ impl KeyChanges {
         }
     }
 
-    /// Removes the `remove` that ends first from the pending `remove`s that have not taken effect, and returns the
-    /// moment when it ends. Returns `None` if there is no such `remove`.
+    /// Removes the earliest end of a pending `remove` that has not taken effect, and returns this moment. Returns
+    /// `None` if there is no such `remove`.
     pub(crate) fn pop_take(&mut self) -> Option<u64>
         ensures popped { MatchOption result (takes_in self.old ≡ [])
             (λ end. (takes_in self.old ≡ end ∷ takes_in self.new) × (nearest end (takes_in self.new) ≡ end)) }
@@ -145,8 +146,8 @@ impl KeyChanges {
         }
     }
 
-    /// Returns how many changes are pending after the moment `before` (without those that never end), and when the
-    /// last completed change ended.
+    /// Returns how many changes are pending after the moment `before` (changes that never end are not counted), and the
+    /// moment when the last completed change ended.
     pub(crate) fn counts(&self, before: u64) -> Changes {
         if let Held::Many(many) = &self.held {
             return many.counts;
@@ -160,7 +161,7 @@ impl KeyChanges {
         }
     }
 
-    /// Records that one of the key's changes ends at `moment`.
+    /// Records that a change of the key ends at `moment`.
     pub(crate) fn end(&mut self, moment: u64)
         ensures { AreSame self.old self.new }
     {
@@ -169,9 +170,9 @@ impl KeyChanges {
         }
     }
 
-    /// Returns whether a change of the key to the state `to` can be stored without a heap. The change starts at moment
-    /// `before` + 1 and ends at `end`. It needs no heap if it ends at all, each earlier change has ended by `before`,
-    /// and the last earlier change, if any, was to the other state.
+    /// Returns whether a change of the key to the state `to` can be stored without a heap. The change starts at the
+    /// moment `before` + 1 and ends at `end`. It needs no heap if it ends at all, each earlier change has ended by
+    /// `before`, and the last earlier change, if any, was to the opposite state.
     fn is_alone(&self, to: Presence, before: u64, end: u64) -> bool
         ensures alone { IsTrue result → is_many self.now.held ≡ false }
         ensures puts { IsTrue result → (puts_in self.now ≡ []) × (takes_in self.now ≡ []) }
@@ -188,7 +189,7 @@ impl KeyChanges {
             && end < BEHIND_ALL
     }
 
-    /// Moves the moments when the pending changes end into heaps.
+    /// Moves the moments when the pending changes end from fields into heaps.
     fn spread(&mut self, alloc: Global, before: u64) -> Result<(), AllocError>
         requires { is_many self.old.held ≡ false }
         ensures same { OnOk result (AreSame self.old self.new) }
@@ -247,9 +248,9 @@ impl KeyChanges {
         }
     }
 
-    /// Raises `puts_until` to `end` if `puts_until` is smaller. Without heaps, this also changes when a pending `add`
-    /// ends, since `puts_until` stores this moment. Therefore call this function only if the changes are in heaps, or
-    /// after the judge has found that no order exists.
+    /// Raises `puts_until` to `end` if `puts_until` is smaller. If the changes are not in heaps, `puts_until` is also
+    /// the moment when a pending `add` ends, and this moment changes too. Call this function only if the changes are in
+    /// heaps, or after the judge has found that no order explains the calls.
     pub(crate) fn raise_puts(&mut self, end: u64)
         ensures puts { is_many self.old.held ≡ true → puts_in self.new ≡ puts_in self.old }
         ensures takes { takes_in self.new ≡ takes_in self.old }
@@ -259,9 +260,9 @@ impl KeyChanges {
         self.puts_until = self.puts_until.max(end);
     }
 
-    /// Raises `takes_until` to `end` if `takes_until` is smaller. Without heaps, this also changes when a pending
-    /// `remove` ends, since `takes_until` stores this moment. Therefore call this function only if the changes are in
-    /// heaps, or after the judge has found that no order exists.
+    /// Raises `takes_until` to `end` if `takes_until` is smaller. If the changes are not in heaps, `takes_until` is
+    /// also the moment when a pending `remove` ends, and this moment changes too. Call this function only if the
+    /// changes are in heaps, or after the judge has found that no order explains the calls.
     pub(crate) fn raise_takes(&mut self, end: u64)
         ensures puts { puts_in self.new ≡ puts_in self.old }
         ensures takes { is_many self.old.held ≡ true → takes_in self.new ≡ takes_in self.old }
@@ -271,8 +272,8 @@ impl KeyChanges {
         self.takes_until = self.takes_until.max(end);
     }
 
-    /// Records an `add` that starts at moment `before` + 1 and ends at `end`. If the `add` never ends, `end` is after
-    /// all moments.
+    /// Records an `add` that starts at the moment `before` + 1 and ends at `end`. If the `add` never ends, `end` is
+    /// after all moments.
     pub(crate) fn begin_put(
         &mut self,
         alloc: Global,
@@ -297,8 +298,8 @@ impl KeyChanges {
         Ok(())
     }
 
-    /// Records a `remove` that starts at moment `before` + 1 and ends at `end`. If the `remove` never ends, `end` is
-    /// after all moments.
+    /// Records a `remove` that starts at the moment `before` + 1 and ends at `end`. If the `remove` never ends, `end`
+    /// is after all moments.
     pub(crate) fn begin_take(
         &mut self,
         alloc: Global,

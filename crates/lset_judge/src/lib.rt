@@ -1,11 +1,12 @@
-//! The judge: decides from the starts and ends of recorded calls whether some order explains them.
+//! The judge: decides from the starts and ends of recorded calls whether some order explains the calls.
 //!
-//! A key has only two states, present and absent. The judge therefore examines the calls on each key separately, in
-//! one pass over their moments (the numbers of the starts and ends). It applies one test: a change (an `add` or
-//! `remove` that returned true or is pending) takes effect only when a call that ends needs it. The pending change
-//! that ends first then takes effect. If a key fails the test, no order explains the calls. If every key passes, some
-//! order explains them, in every history without `ceiling` and `full`. The judge does not search, and does not need to
-//! know when calls take effect. (Linearizability is by Herlihy and Wing; the test is this project's own.)
+//! A key has only two states, present and absent. The judge therefore examines the calls on each key separately, in one
+//! pass over their moments (the numbers of the starts and ends). A change (an `add` or `remove` that returned true or
+//! is pending) takes effect only when the end of a call requires it; of several pending changes, the one that ends
+//! first takes effect. If the end of a call or the key's final state is impossible even then, no order explains the
+//! calls. If this happens for no key, some order explains the calls, in every history without `ceiling` (the smallest
+//! key not less than the argument) and without the reply `full`. The judge does not search, and does not need to know
+//! when calls take effect. (Linearizability is due to Herlihy and Wing; the judge's test is this project's own.)
 #![tactic(auto)]
 
 ghost use Rattle.lset_judge.specs.Locality.{KeysAreApart, QuotasDoNotMatter};
@@ -35,21 +36,23 @@ pub use judged_history::{Judged, judge};
 pub use set_judge::{Judge, Verdict};
 pub use stream::{LAST_MOMENT, Refusal, StreamCall, StreamFault};
 
-/// Lemma (locality): the keys of a recording can be judged in parts. Put each key into one of several parts. Each part
-/// consists of the calls on its keys, its opening keys and its final keys. Some order explains the recording if and
-/// only if some order explains each part. If `judge` finds each part linearizable, the recording is linearizable. If it
-/// finds one part not linearizable, the recording is not linearizable.
+/// Lemma (locality): the keys of a recording can be judged in parts. A part consists of some keys, the calls on these
+/// keys, the opening keys among them and the final keys among them. If each key belongs to one part, some order
+/// explains the recording if and only if some order explains each part. Therefore, if `judge` finds every part
+/// linearizable, the recording is linearizable. If `judge` finds one part not linearizable, the recording is not
+/// linearizable.
 ///
-/// The lemma is about the histories that the judge decides (see `is_judged`). It fails for a `ceiling`, which reads
-/// many keys. It also fails for a quota that is too small for all `add`s, since a thread's quota counts its `add`s of
-/// all keys. (Locality is by Herlihy and Wing: here each key is an object.)
+/// The lemma holds for the histories that the judge decides (see `is_judged`). It does not hold with a `ceiling` (the
+/// smallest key not less than the argument), which reads many keys. It does not hold either with a quota that is too
+/// small for all `add`s, since a thread's quota counts the thread's `add`s of all keys. (Locality is due to Herlihy and
+/// Wing: each key is an object in their sense.)
 pub fn keys_are_apart()
     ensures { KeysAreApart }
 {}
 
-/// Lemma: the quota does not matter in a history that the judge decides. If some order explains the history with
-/// another quota, some order also explains it with its own quota. The verdict on such a history is correct for the set
-/// without a quota.
+/// Lemma: the quota (the number of successful `add`s that one thread can make) does not matter in a history that the
+/// judge decides. If some order explains the history with another quota, some order explains it with the quota of the
+/// history. The judge's verdict is therefore correct for the set without a quota.
 pub fn quotas_do_not_matter()
     ensures { QuotasDoNotMatter }
 {}

@@ -1,5 +1,5 @@
-//! Many pending calls, in a hash table indexed by the moments when the calls end. Adding or removing a call takes a
-//! few look-ups, and logarithmic time in the number of calls.
+//! Many pending calls, in a hash table whose keys are the moments when the calls end. Inserting or removing a call
+//! takes a few look-ups, and time logarithmic in the number of calls.
 
 ghost use Rattle.std.specs.Prelude.{◌≡◌, ◌≢◌, ◌↔◌, ◌<◌, ◌≤◌, ◌∷◌, [], IsTrue, All, Contains, IfSome, MatchOption, OnOk, length};
 ghost use Rattle.std.specs.List.Sorted.{IsPermutation};
@@ -17,9 +17,9 @@ use std::marker::Model;
 pub(crate) struct ManyCalls {
     /// Maps the moment when a call ends to the call.
     calls: HashMap<u64, StreamCall>,
-    /// The ends of the calls.
+    /// The moments when the calls in `calls` end.
     ends: Ends,
-    /// For each thread, the moment when its last call ends.
+    /// The moment when each thread's last call ends.
     busy: Busy,
 }
 
@@ -35,7 +35,7 @@ impl Model for ManyCalls {
     ghost invariant = { λ c. AreHeld c.calls.entries c.ends c.busy };
 }
 
-/// Returns the moment when a call ends, or the moment when it starts if it never ends.
+/// Returns the moment when a call ends. If the call never ends, returns the moment when it starts.
 pub(crate) fn end_or_begin(call: StreamCall) -> u64
     ensures { result ≡ end_or call.begun call.ended }
 {
@@ -45,7 +45,7 @@ pub(crate) fn end_or_begin(call: StreamCall) -> u64
     }
 }
 
-/// Removes and returns the call that ends first, if it ends before `moment`. Otherwise returns `None`.
+/// Removes and returns the call that ends first, if this call ends before `moment`. Otherwise returns `None`.
 fn pop_before(calls: &mut HashMap<u64, StreamCall>, ends: &mut Ends, moment: u64) -> Option<Pending>
     requires { All (λ e. Contains ends.old e.0) calls.old.entries }
     ensures held { All (λ e. Contains ends.new e.0) calls.new.entries }
@@ -74,14 +74,14 @@ impl ManyCalls {
         }
     }
 
-    /// Returns the number of calls.
+    /// Returns the number of calls in the table.
     pub(crate) fn len(&self) -> usize
         ensures { result ≡ length self.now }
     {
         self.calls.len()
     }
 
-    /// Returns the calls, indexed by the moments when they end.
+    /// Returns the hash table, which maps the moment when a call ends to the call.
     pub(crate) fn calls(&self) -> &HashMap<u64, StreamCall> {
         &self.calls
     }
@@ -121,7 +121,7 @@ impl ManyCalls {
         }
     }
 
-    /// Removes and returns the call that ends first, if it ends before `moment`. Otherwise returns `None`.
+    /// Removes and returns the call that ends first, if this call ends before `moment`. Otherwise returns `None`.
     pub(crate) fn next_before(&mut self, moment: u64) -> Option<Pending>
         ensures { MatchOption result ((self.new ≡ self.old) × All (λ p. moment ≤ p.end) self.old)
             (λ next. IsNext moment self.old next self.new) }
@@ -129,7 +129,7 @@ impl ManyCalls {
         pop_before(&mut self.calls, &mut self.ends, moment)
     }
 
-    /// Inserts a call. The table must not contain another call of its thread, or a call that ends at the same moment.
+    /// Inserts a call. The table must not contain a call by the same thread, or a call that ends at the same moment.
     pub(crate) fn insert(&mut self, pending: Pending) -> Result<(), AllocError>
         requires { All (λ p. p.call.thread ≢ pending.call.thread) self.old }
         ensures { OnOk result (All (λ p. p.end ≢ pending.end) self.old → IsPermutation (pending ∷ self.old) self.new) }

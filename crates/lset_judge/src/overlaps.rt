@@ -3,8 +3,8 @@
 
 use crate::stream::BEHIND_ALL;
 
-/// The changes of a key, without those that never end: how many of them are pending now, and when the last completed
-/// one ended.
+/// Counts for the changes of a key, except the changes that never end: how many are pending now, and when the last
+/// completed change ended.
 #[derive(Clone, Copy)]
 pub(crate) struct Changes {
     pending: u64,
@@ -12,8 +12,8 @@ pub(crate) struct Changes {
 }
 
 impl Changes {
-    /// Returns a `Changes` for one pending change. The last completed change ended at `last_end`, which is 0 if no
-    /// change has ended.
+    /// Returns the counts for one pending change. The last completed change ended at `last_end`. 0 means that no change
+    /// has ended.
     pub(crate) fn one(last_end: u64) -> Changes {
         Changes {
             pending: 1,
@@ -21,8 +21,8 @@ impl Changes {
         }
     }
 
-    /// Returns a `Changes` for a key without pending changes. The last change ended at `last_end`, which is 0 if no
-    /// change has ended.
+    /// Returns the counts for a key without pending changes. The last completed change ended at `last_end`. 0 means
+    /// that no change has ended.
     pub(crate) fn ended(last_end: u64) -> Changes {
         Changes {
             pending: 0,
@@ -30,7 +30,7 @@ impl Changes {
         }
     }
 
-    /// Counts the start of a change that ends at `until`. If `until` is at least `BEHIND_ALL`, the change never ends
+    /// Counts a change that starts now and ends at `until`. A change with `until` of at least `BEHIND_ALL` never ends,
     /// and is not counted.
     pub(crate) fn begin(&mut self, until: u64) {
         if until < BEHIND_ALL {
@@ -38,14 +38,14 @@ impl Changes {
         }
     }
 
-    /// Records that a change ends at `moment`.
+    /// Records that a change of the key ends at `moment`.
     pub(crate) fn end(&mut self, moment: u64) {
         self.pending = self.pending.saturating_sub(1);
         self.last_end = moment;
     }
 
     /// Returns whether a pending call overlaps a change of its key by another call. `is_change` must be true if the
-    /// pending call itself is a change that ends at some moment. `begun` is when the pending call started.
+    /// pending call itself is a change that ends at some moment. `begun` is the moment when the pending call started.
     pub(crate) fn overlap(self, is_change: bool, begun: u64) -> bool {
         self.pending > u64::from(is_change) || begun < self.last_end
     }

@@ -1,4 +1,4 @@
-//! The pending calls in a recording that is judged call by call.
+//! The pending calls of a recording that is judged call by call.
 
 ghost use Rattle.std.specs.Prelude.{◌≡◌, ◌≢◌, ◌<◌, ◌≤◌, ◌∷◌, ◌++◌, [], ◌^◌, ◌-◌, All, IfSome, MatchOption, OnOk, length, slice_index_or};
 ghost use Rattle.std.specs.List.Sorted.{IsPermutation};
@@ -12,12 +12,12 @@ use std::alloc::{AllocError, Global};
 use std::collections::HashMap;
 use std::marker::Model;
 
-/// The maximum number of pending calls in the vector `few`. The vector is searched call by call.
+/// The maximum number of pending calls in the vector `few`, which is searched item by item.
 const FEW: usize = 32;
 
-/// The pending calls in a recording. Up to `FEW` of them are in a vector, which is searched call by call (the fastest
-/// way for few calls). The others are in a hash table. Inserting a call into this table, or removing a call from it,
-/// needs logarithmic time.
+/// The pending calls of a recording. Up to `FEW` calls are in a vector, which is searched item by item (the fastest way
+/// for a small number of calls). All other calls are in a hash table, in which inserting or removing a call takes
+/// logarithmic time.
 #[derive(Drop)]
 pub(crate) struct PendingCalls {
     few: Vec<Pending>,
@@ -39,9 +39,9 @@ impl Model for PendingCalls {
     ghost invariant = { λ c. IsFirst c.next c.few.items };
 }
 
-/// Returns the reason why `call` cannot start while the calls `few` are pending, or `None` if it can. There are two
-/// possible reasons: one of these calls ends when `call` starts or ends, or the thread of `call` already has a pending
-/// call.
+/// Returns the reason why `call` cannot start while the calls in `few` are pending, or `None` if it can. There are two
+/// possible reasons: a call in `few` ends when `call` starts or ends, or the thread of `call` already has a pending
+/// call in `few`.
 fn clash(few: &[Pending], call: StreamCall) -> Option<StreamFault>
     ensures { MatchOption result
         (All (λ p. (p.end ≢ call.begun) × IfSome call.ended (λ end. p.end ≢ end.0)) few.now
@@ -66,7 +66,7 @@ fn clash(few: &[Pending], call: StreamCall) -> Option<StreamFault>
     }
 }
 
-/// Returns the index of the call that ends first, or 0 if there are no calls.
+/// Returns the index of the call in `few` that ends first, or 0 if `few` is empty.
 fn nearest_place(few: &[Pending]) -> usize
     ensures { IsFirst result few.now }
 {
@@ -84,7 +84,7 @@ fn nearest_place(few: &[Pending]) -> usize
     place
 }
 
-/// Returns the index of the call that ends first, after `pending` is appended to `few`.
+/// Returns the index of the call that ends first, once `pending` has been appended to `few`.
 fn next_with(few: &[Pending], next: usize, pending: Pending) -> usize
     requires { IsFirst next few.now }
     ensures { IsFirst result (few.now ++ pending ∷ []) }
@@ -96,7 +96,7 @@ fn next_with(few: &[Pending], next: usize, pending: Pending) -> usize
     }
 }
 
-/// Returns the first moment when a call in `few` ends, or `u64::MAX` if `few` is empty.
+/// Returns the earliest moment when a call in `few` ends, or `u64::MAX` if `few` is empty.
 fn end_of_few(few: &[Pending], next: usize) -> u64
     requires { IsFirst next few.now }
     ensures smallest { All (λ p. result ≤ p.end) few.now }
@@ -121,7 +121,7 @@ fn overlaps(states: &HashMap<u32, KeyState>, moment: u64, call: StreamCall) -> b
 }
 
 impl PendingCalls {
-    /// Returns a collection without calls. Does not allocate.
+    /// Returns an empty collection of calls. Does not allocate.
     pub(crate) fn new(alloc: Global) -> PendingCalls
         ensures { result ≡ [] }
     {
@@ -132,9 +132,9 @@ impl PendingCalls {
         }
     }
 
-    /// Returns the reason why `call` cannot start while the calls in this collection are pending, or `None` if it can.
-    /// There are two possible reasons: one of these calls ends when `call` starts or ends, or the thread of `call`
-    /// already has a pending call.
+    /// Returns the reason why `call` cannot start while the calls in `self` are pending, or `None` if it can. There are
+    /// two possible reasons: a call in `self` ends when `call` starts or ends, or the thread of `call` already has a
+    /// pending call in `self`.
     pub(crate) fn clash(&self, call: StreamCall) -> Option<StreamFault>
         ensures { MatchOption result
             (All (λ p. (p.end ≢ call.begun) × IfSome call.ended (λ end. p.end ≢ end.0)) self.now
@@ -157,7 +157,7 @@ impl PendingCalls {
         }
     }
 
-    /// Removes and returns the call that ends first, if it ends before `moment`. Otherwise returns `None`.
+    /// Removes and returns the call that ends first, if this call ends before `moment`. Otherwise returns `None`.
     pub(crate) fn next_before(&mut self, moment: u64) -> Option<Pending>
         ensures { MatchOption result ((self.new ≡ self.old) × All (λ p. moment ≤ p.end) self.old)
             (λ next. IsNext moment self.old next self.new) }
@@ -174,7 +174,7 @@ impl PendingCalls {
         None
     }
 
-    /// Inserts a call. The collection must not contain another call of its thread, or a call that ends at the same
+    /// Inserts a call. The collection must not contain a call by the same thread, or a call that ends at the same
     /// moment.
     pub(crate) fn insert(&mut self, pending: Pending) -> Result<(), AllocError>
         requires { All (λ p. p.call.thread ≢ pending.call.thread) self.old }

@@ -17,7 +17,7 @@ use crate::stream::StreamCall;
 use lset_words::Presence;
 use std::alloc::{AllocError, Global};
 
-/// The kind of the completed call that the judge stores for a key. This call left the key in the state `was`.
+/// The kind of the completed call that the judge stores for a key. The stored call left the key in the state `was`.
 #[derive(Clone, Copy)]
 pub(crate) enum Kept {
     /// No call is stored: the key was in the state `was` when the set opened.
@@ -31,19 +31,20 @@ pub(crate) enum Kept {
 }
 
 /// The state of a key: whether it is present and since when, its changes, and one completed call on the key. The judge
-/// compares later calls with this stored call to find two calls that contradict each other. The struct has 64 bytes.
+/// compares later calls with the stored call to find two calls that contradict each other. The struct has a size of 64
+/// bytes.
 #[derive(Drop)]
 pub(crate) struct KeyState {
     pub(crate) changes: KeyChanges,
     turned: u64,
-    /// When the stored completed call started.
+    /// The moment when the stored completed call started.
     pub(crate) begun: u64,
-    /// When the stored completed call ended.
+    /// The moment when the stored completed call ended.
     pub(crate) ended: u64,
     /// The thread of the stored completed call.
     pub(crate) thread: u32,
     pub(crate) kept: Kept,
-    /// The key's state after the stored completed call. If no call is stored, the key's opening state.
+    /// The state in which the stored completed call left the key. If no call is stored, the key's opening state.
     pub(crate) was: Presence,
     there: Presence,
 }
@@ -66,8 +67,8 @@ impl KeyState {
         }
     }
 
-    /// Returns whether `there` can be the key's final state: the key is in this state now, or a pending change can lead
-    /// to it.
+    /// Returns whether `there` can be the key's final state: the key is in the state `there` now, or a pending change
+    /// can change the key to the state `there`.
     pub(crate) fn may_be_left(&self, there: Presence) -> bool
         ensures { result ≡ may_be_left (is_there there) (state_of self.now) }
     {
@@ -129,8 +130,8 @@ impl KeyState {
         }
     }
 
-    /// Makes pending changes take effect just after the moment `before`, one by one, until the key's state allows
-    /// `event`, which happens at the next moment. Returns `false` if the key has reached no state that allows `event`.
+    /// Lets pending changes take effect just after the moment `before`, one by one, until the key's state allows
+    /// `event`, which happens at moment `before` + 1. Returns `false` if no state that the key reaches allows `event`.
     pub(crate) fn settle(&mut self, before: u64, event: Event) -> bool
         ensures found { found before (event_as event) (state_of self.old) ≡ (if result then Some (state_of self.new) else None) }
         ensures facts { facts_of self.new ≡ facts_of self.old }
@@ -143,7 +144,7 @@ impl KeyState {
         true
     }
 
-    /// Processes `event` of the key, which happens at moment `before` + 1. Returns `false` if this event shows that no
+    /// Processes `event` of the key, which happens at moment `before` + 1. Returns `false` if `event` shows that no
     /// order explains the calls on the key.
     pub(crate) fn meet(
         &mut self,
@@ -166,8 +167,8 @@ impl KeyState {
         Ok(true)
     }
 
-    /// Processes the end of a call on the key, at moment `before` + 1. Returns `false` if this event shows that no
-    /// order explains the calls on the key. In this case, searches for a call that contradicts this one.
+    /// Processes the end of `call` on the key, at moment `before` + 1. Returns `false` if the end of `call` shows that
+    /// no order explains the calls on the key. In this case, also searches for an earlier call that contradicts `call`.
     pub(crate) fn meet_end(
         &mut self,
         alloc: Global,

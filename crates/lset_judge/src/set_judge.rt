@@ -1,4 +1,5 @@
-//! The judge of a recording that is read call by call. If no order explains the calls, the judge returns the reason.
+//! The judge of a recording whose calls are added one by one. If no order explains the calls, the judge returns the
+//! reason.
 
 ghost use Rattle.std.specs.Prelude.{◌≡◌, ◌<◌, ◌++◌, ◌∷◌, ◌≢◌, [], ℕ, IfErr, IfOk, IfSome, IsSome, List, None, OnOk};
 ghost use Rattle.std.specs.List.Sorted.{IsStrictlyIncreasing};
@@ -17,28 +18,28 @@ use std::alloc::{AllocError, Global};
 /// The verdict of a `Judge`.
 #[derive(Debug, Drop)]
 pub enum Verdict {
-    /// Some order explains the calls: starting from the opening keys, it has the same replies and leaves the final
-    /// keys.
+    /// Some order explains the calls: made in this order on a set with the opening keys, the calls return the recorded
+    /// replies and leave the final keys.
     Linearizable,
-    /// No order explains the calls and leaves the final keys. Contains the reason, and two calls on the key that the
-    /// reason names. These calls contradict each other: no order can contain both. The pair is `None` only if no call
-    /// on this key contradicts a call that starts after it has ended.
+    /// No order explains the calls and leaves the final keys. Contains the reason, and two calls that contradict each
+    /// other on the key that the reason names. The pair is `None` only if no call on this key contradicts a call that
+    /// starts after it has ended.
     NotLinearizable(Refusal, Option<Clash>),
 }
 
-/// A judge for the calls on a set. Add the calls in the order of their starts. `close` and `close_cut_off` return
+/// A judge of the calls on a set. Add the calls in the order of their starts. `close` and `close_cut_off` return
 /// whether some order explains all calls.
 ///
-/// A judge stores the pending calls, the moment when each thread's last call ends, and for each key its state and at
-/// most one completed call. Its memory grows with the numbers of keys, threads and pending calls, but not with the
-/// number of calls.
+/// A judge stores the pending calls, the moment when each thread's last call ends, the state of each key, and at most
+/// one completed call per key. The memory use grows with the number of keys, threads and pending calls, but not with
+/// the number of calls.
 #[derive(Drop)]
 pub struct Judge {
     stream: Stream,
 }
 
-/// Returns the final state of the key that `refusal` (the reason of the verdict) names. Returns `None` if the reason is
-/// not about the final keys.
+/// Returns the final state of the key that `refusal` (the reason of the verdict) names, or `None` if the reason is not
+/// about the final keys.
 fn left_as(keys: &[u32], refusal: Refusal) -> Option<Presence>
     requires { IsStrictlyIncreasing keys.now }
     ensures { result ≡ left_by keys.now refusal.key.0 refusal.moment }
@@ -49,9 +50,8 @@ fn left_as(keys: &[u32], refusal: Refusal) -> Option<Presence>
     }
 }
 
-/// Returns two calls on the key that `refusal` (the reason of the verdict) names. These calls contradict each other: no
-/// order can contain both. Returns `None` only if no call on this key contradicts a call that starts after it has
-/// ended.
+/// Returns two calls that contradict each other on the key that `refusal` (the reason of the verdict) names. Returns
+/// `None` only if no call on this key contradicts a call that starts after it has ended.
 fn clash_for(stream: &Stream, refusal: Refusal, left: Option<Presence>) -> Option<Clash>
     requires told { IsToldBy stream.now.failed (NotLinearizable refusal) }
     requires left { IsSome left → refusal.moment ≡ None }
@@ -65,8 +65,8 @@ fn clash_for(stream: &Stream, refusal: Refusal, left: Option<Presence>) -> Optio
 }
 
 impl Judge {
-    /// Returns a judge without calls, for a set that opens with the keys `opening`. The keys must be in increasing
-    /// order.
+    /// Returns a judge that has no calls yet, for a set with the opening keys `opening`. `opening` must be in
+    /// increasing order.
     pub fn new(alloc: Global, opening: &[u32]) -> Result<Judge, AllocError>
         requires { IsStrictlyIncreasing opening.now }
         ensures opened { IfOk result (λ j. (threads : ℕ) → IsJudgeOf threads opening.now [] j) }
@@ -76,14 +76,14 @@ impl Judge {
         Ok(Judge { stream })
     }
 
-    /// Adds a call. It must start after all calls that were added before.
+    /// Adds `call`, which must start after all calls that were added before.
     ///
-    /// An error other than `Memory` is the reason why this call cannot be next; the judge is then unchanged. After
-    /// `Memory`, the judge can no longer be used.
+    /// An error other than `Memory` is the reason why `call` cannot be the next call, and leaves the judge unchanged.
+    /// After the error `Memory`, the judge can no longer be used.
     pub fn add(&mut self, call: StreamCall) -> Result<(), StreamFault>
         ensures added { OnOk result ((threads : ℕ) (opening : List ℕ) (calls : List RecordedCall) → call.thread < threads
             → IsJudgeOf threads opening calls self.old → IsJudgeOf threads opening (calls ++ record_of call ∷ []) self.new) }
-        // The judge has advanced to the moment when the call starts.
+        // The judge has advanced to the moment when `call` starts.
         ensures moment { OnOk result (moment_of self.new.stream ≡ call.begun) }
         ensures refused { IfErr result (λ fault. fault ≢ StreamFault.Memory
             → (MayCome (pending_in self.old.stream) (moment_of self.old.stream) (record_of call) → ⊥) × (self.new ≡ self.old)) }
@@ -97,9 +97,8 @@ impl Judge {
         self.stream.overlapped()
     }
 
-    /// Decides whether some order linearizes all calls and leaves the final keys `keys`. The set starts with the
-    /// opening keys and has no quota. `keys` must be in increasing order. The function fails only if an allocation
-    /// fails.
+    /// Decides whether some order linearizes all calls and leaves the final keys `keys`. The set opens with the opening
+    /// keys and has no quota. `keys` must be in increasing order. The function fails only if an allocation fails.
     pub fn close(self, keys: &[u32]) -> Result<Verdict, AllocError>
         requires { IsStrictlyIncreasing keys.now }
         ensures { IfOk result (λ verdict. (threads : ℕ) (opening : List ℕ) (calls : List RecordedCall) → IsJudgeOf threads opening calls self
@@ -117,8 +116,8 @@ impl Judge {
         }
     }
 
-    /// Decides whether some order linearizes all calls, whatever final keys it leaves. Use this function for a
-    /// recording that was cut off, since its final keys are unknown. The function fails only if an allocation fails.
+    /// Decides whether some order linearizes all calls, whatever the final keys are. Use this function for a recording
+    /// that was cut off and therefore does not contain the final keys. The function fails only if an allocation fails.
     pub fn close_cut_off(self) -> Result<Verdict, AllocError>
         ensures { IfOk result (λ verdict. (threads : ℕ) (opening : List ℕ) (calls : List RecordedCall) → IsJudgeOf threads opening calls self
             → IsVerdictCutOff threads opening calls verdict) }

@@ -1,4 +1,5 @@
-//! Judges the calls of a recording one after another, as a stream. Stores the state of each key and the pending calls.
+//! Judges the calls of a recording one after another, as a stream. The stream stores the state of each key, and the
+//! pending calls.
 
 ghost use Rattle.std.specs.Prelude.{◌≡◌, ◌≢◌, ◌↔◌, ◌<◌, ◌≤◌, ◌+◌, ◌++◌, ◌∷◌, [], ℕ, IsTrue, All, List, length, false, true, None, Some, IfOk, OnOk, IfErr, IfSome, MatchOption, if◌then◌else◌, ◌⊎◌};
 ghost use Rattle.std.specs.Prelude.{Contains, IsSome, slice_index_or, ◌==◌, ◌&&◌};
@@ -30,9 +31,9 @@ use std::alloc::{AllocError, Global};
 use std::collections::HashMap;
 use thiserror::Error;
 
-/// A call of a recording. `thread` is any number. `begun` is the moment when the call starts, from 1 to `LAST_MOMENT`.
-/// `ended` contains the call's reply and the moment when the call ends, which is later and at most `LAST_MOMENT`. A
-/// call without an end is pending when the recording ends.
+/// A call of a recording. `thread` can be any number. `begun` is the moment when the call starts, from 1 to
+/// `LAST_MOMENT`. `ended` contains the moment when the call ends, which is after `begun` and at most `LAST_MOMENT`, and
+/// the call's reply. If `ended` is `None`, the call is still pending when the recording ends.
 #[derive(Clone, Copy, Debug, PartialEq, Eq)]
 pub struct StreamCall {
     pub thread: u32,
@@ -41,29 +42,31 @@ pub struct StreamCall {
     pub ended: Option<(u64, Reply)>,
 }
 
-/// The last moment that a recording can have, 2^63 - 1.
+/// The last possible moment of a recording, 2^63 - 1.
 pub const LAST_MOMENT: u64 = (1 << 63) - 1;
 
 /// The smallest number that is greater than every moment.
 pub(crate) const BEHIND_ALL: u64 = 1 << 63;
 
-/// The reason why a call cannot be the next one. If several reasons apply, the reason that is listed first is returned.
+/// The reason why a call cannot be the next call of a recording. If several reasons apply, the first in the order of
+/// the variants is returned.
 #[derive(Clone, Copy, Debug, PartialEq, Eq, Error)]
 pub enum StreamFault {
-    /// The call starts at moment 0, or does not start after all earlier calls of the recording, or one of its moments
-    /// is above `LAST_MOMENT`.
+    /// The call starts at moment 0, does not start after all earlier calls of the recording, or starts or ends after
+    /// `LAST_MOMENT`.
     #[error("the call begins at moment 0 or no later than an earlier call, or a moment is too large")]
     Early,
     /// The call ends no later than it starts.
     #[error("the call does not end after its begin")]
     Ends,
-    /// The call is a completed `ceiling`, or its reply is neither true nor false.
+    /// The call is a completed `ceiling` (the smallest key not less than the argument), or its reply is neither true
+    /// nor false.
     #[error("the call is a completed ceiling, or its reply is neither true nor false")]
     NotPlain,
-    /// An earlier call ends exactly when this call starts or ends.
+    /// An earlier call ends at the same moment at which the call starts or ends.
     #[error("an earlier call ends at one of this call's moments")]
     Taken,
-    /// The thread already has a pending call when this call starts.
+    /// The thread of the call already has a pending call when the call starts.
     #[error("its thread already has a pending call")]
     Busy,
     /// An allocation failed.
@@ -82,26 +85,26 @@ impl From<AllocError> for StreamFault {
 /// The verdict on the calls of a recording.
 #[derive(Clone, Copy, Debug, PartialEq, Eq)]
 pub(crate) enum StreamVerdict {
-    /// Some order explains the calls: starting from the opening keys, it has the same replies and leaves the final
-    /// keys.
+    /// Some order explains the calls: made in this order on a set with the opening keys, the calls return the recorded
+    /// replies and leave the final keys.
     Linearizable,
     /// No order explains the calls and leaves the final keys.
     NotLinearizable(Refusal),
 }
 
-/// The reason why no order explains the calls and leaves the final keys: a key and a moment. The calls on this key
-/// alone show that there is no order.
+/// The reason why no order explains the calls and leaves the final keys: a key whose calls alone rule out every order,
+/// and the moment at which the judge found this.
 #[derive(Clone, Copy, Debug, PartialEq, Eq)]
 pub struct Refusal {
-    /// The key. No order explains its calls and leaves its final state.
+    /// The key. No order explains the calls on the key and leaves the key in its final state.
     pub key: Key,
-    /// A moment: no order explains the calls on `key` that start by then, with all their replies, whatever keys the
-    /// order leaves. It is the first moment when the judge finds this for any key. `None` if the judge finds this for
-    /// no key, but no order explains all calls on `key` and leaves the key's final state.
+    /// No order explains the calls on `key` that start at this moment or earlier, with all their replies, whatever the
+    /// final keys are. The moment is the first at which the judge's test fails for any key. `None` if the test fails
+    /// for no key, but no order explains all calls on `key` and leaves the key in its final state.
     pub moment: Option<u64>,
 }
 
-/// The first key with calls that no order explains, and the moment when the judge found this.
+/// The first key for which the judge found that no order explains the key's calls, and the moment of this event.
 #[derive(Clone, Copy)]
 pub(crate) struct Failed {
     pub(crate) key: Key,
@@ -187,7 +190,7 @@ impl Pending {
         self.call.call.key().0
     }
 
-    /// Returns the event for the end of this pending call.
+    /// Returns the event for the end of the pending call.
     pub(crate) fn event(self) -> Event
         ensures { event_as result ≡ event_of self }
     {
@@ -195,9 +198,9 @@ impl Pending {
     }
 }
 
-/// Processes `event` of a key at moment `before` + 1. The key must have no stored state yet. Returns `false` if this
-/// event shows that no order explains the calls on the key. This is a separate function so that other events need no
-/// stack space for a new state.
+/// Processes `event` of a key at moment `before` + 1. The key must have no stored state yet. Returns `false` if `event`
+/// shows that no order explains the calls on the key. A separate function, so that other events need no stack space for
+/// a new state.
 fn meet_new_key(
     states: &mut HashMap<u32, KeyState>,
     alloc: Global,
@@ -218,8 +221,8 @@ fn meet_new_key(
     Ok(goes_on)
 }
 
-/// Processes `event` of a key at moment `before` + 1. Returns `false` if this event shows that no order explains the
-/// calls on the key.
+/// Processes `event` of a key at moment `before` + 1. Returns `false` if `event` shows that no order explains the calls
+/// on the key.
 fn meet_key(
     states: &mut HashMap<u32, KeyState>,
     alloc: Global,
@@ -241,7 +244,7 @@ fn meet_key(
     Ok(goes_on)
 }
 
-/// Records the start of a call on a key, after the judge has found that no order explains the calls on this key.
+/// Records the start of a call on a key, after the judge has found that no order explains the calls on the key.
 fn note_begin(
     states: &mut HashMap<u32, KeyState>,
     alloc: Global,
@@ -260,8 +263,8 @@ fn note_begin(
     Ok(())
 }
 
-/// Records the end of a call on a key, after the judge has found that no order explains the calls on this key. Returns
-/// a contradiction between this call and an earlier one, if the stored facts show one.
+/// Records the end of `call` on a key, after the judge has found that no order explains the calls on the key. Returns a
+/// clash (two calls that contradict each other) of `call` and an earlier call, if the stored facts show one.
 fn note_end(
     states: &mut HashMap<u32, KeyState>,
     alloc: Global,
@@ -286,14 +289,14 @@ fn note_end(
 /// The result of processing the end of a call.
 #[derive(Clone, Copy)]
 struct EndMet {
-    /// `false` if this end shows that no order explains the calls on the key.
+    /// `false` if the end of the call shows that no order explains the calls on the key.
     goes_on: bool,
     /// Whether the call overlaps another call that changes the same key.
     overlaps: bool,
 }
 
-/// Processes the end of a call at moment `before` + 1. The call's key must have no stored state yet. If this end shows
-/// that no order explains the calls on the key, searches for a call that contradicts this one.
+/// Processes the end of `call` at moment `before` + 1. The key of `call` must have no stored state yet. If the end of
+/// `call` shows that no order explains the calls on the key, searches for an earlier call that contradicts `call`.
 fn meet_new_key_end(
     states: &mut HashMap<u32, KeyState>,
     alloc: Global,
@@ -323,8 +326,8 @@ fn meet_new_key_end(
     })
 }
 
-/// Processes the end of a call at moment `before` + 1. If this end shows that no order explains the calls on the key,
-/// searches for a call that contradicts this one.
+/// Processes the end of `call` at moment `before` + 1. If the end of `call` shows that no order explains the calls on
+/// the key, searches for an earlier call that contradicts `call`.
 fn meet_key_end(
     states: &mut HashMap<u32, KeyState>,
     alloc: Global,
@@ -354,7 +357,7 @@ fn meet_key_end(
     Ok(met)
 }
 
-/// Returns the initial state of each key in `opening`, for a set that opens with these keys.
+/// Returns the state of each key in `opening` in a set that opens with the keys `opening`.
 fn opening_states(alloc: Global, opening: &[u32]) -> Result<HashMap<u32, KeyState>, AllocError>
     ensures states { IfOk result (λ states. (k : ℕ) → state_for states k ≡ opened (has_key k opening.now)) }
     ensures facts { IfOk result (λ states. (k : ℕ) → facts_for states k ≡ facts_opened (presence (has_key k opening.now))) }
@@ -387,8 +390,8 @@ fn smallest(key: u32, other: Option<u32>) -> u32
     }
 }
 
-/// Returns the verdict on a recording. `key` is a key with a final state that no order explains: the verdict is then
-/// `NotLinearizable`. If `key` is `None`, there is no such key, and the verdict is `Linearizable`.
+/// Returns the verdict `NotLinearizable` for `key`, a key with a final state that no order explains. If `key` is
+/// `None`, there is no such key, and the verdict is `Linearizable`.
 fn verdict_of_key(key: Option<u32>) -> StreamVerdict
     ensures { result ≡ verdict_of_key key }
 {
@@ -402,11 +405,11 @@ fn verdict_of_key(key: Option<u32>) -> StreamVerdict
 }
 
 /// A stream judges the calls of a recording one after another, ordered by start. It stores the state of each key, the
-/// pending calls, and the moment when each thread's last call ends. Its memory grows with the numbers of keys, threads
-/// and pending calls, but not with the number of calls.
+/// pending calls, and the moment when each thread's last call ends. The memory use grows with the number of keys,
+/// threads and pending calls, but not with the number of calls.
 ///
-/// `verdict` and `verdict_cut_off` return whether some order explains all calls. The judge reads the moments of each
-/// key once and in order, so it stores no past moments.
+/// `verdict` and `verdict_cut_off` return whether some order explains all calls. The judge processes the moments once
+/// and in order, so it stores no past moments.
 #[derive(Drop)]
 pub(crate) struct Stream {
     alloc: Global,
@@ -414,7 +417,7 @@ pub(crate) struct Stream {
     pending: PendingCalls,
     moment: u64,
     failed: Option<Failed>,
-    /// Two calls that contradict each other, if the judge found them. They are on the key in `failed`.
+    /// Two calls on the key in `failed` that contradict each other, if the judge found such calls.
     clash: Option<Clash>,
     /// The number of completed calls that overlap another call that changes the same key.
     overlapped: u64,
@@ -455,7 +458,7 @@ impl Stream {
         }
     }
 
-    /// Processes `event` of a key at `moment`. Afterwards, `moment` is the current moment of the judge.
+    /// Processes `event` of `key` at `moment`, which then is the current moment of the stream.
     fn meet(&mut self, key: u32, moment: u64, event: Event) -> Result<(), AllocError>
         ensures met { OnOk result (IsMet self.old key moment (event_as event) self.new) }
         ensures known { OnOk result (BeginIsKnown self.old.states key (event_as event) self.new.states self.old.failed self.old.clash) }
@@ -488,15 +491,16 @@ impl Stream {
         Ok(())
     }
 
-    /// Forgets the two calls that contradict each other. This is a separate function so that processing the ends of
-    /// calls needs no stack space for a `Clash`.
+    /// Sets `clash` to `None`. A separate function, so that processing the end of a call needs no stack space for a
+    /// `Clash`.
     fn forget_clash(&mut self)
         ensures { self.new ≡ record self.old { clash = None } }
     {
         self.clash = None;
     }
 
-    /// Processes the end of a pending call. The judge must not have found any key with calls that no order explains.
+    /// Processes the end of the pending call `next`, while the judge has found no key with calls that no order
+    /// explains.
     fn meet_end_going(&mut self, next: Pending) -> Result<(), AllocError>
         requires { self.old.failed ≡ None }
         ensures pending { OnOk result (self.new.pending ≡ self.old.pending) }
@@ -526,7 +530,7 @@ impl Stream {
         Ok(())
     }
 
-    /// Processes the end of a pending call, after the judge has found a key with calls that no order explains.
+    /// Processes the end of the pending call `next`, after the judge has found a key with calls that no order explains.
     fn end_after_failure(&mut self, next: Pending, failed: Failed) -> Result<(), AllocError>
         requires { self.old.failed ≡ Some failed }
         ensures met { OnOk result (IsMet self.old (key_in next) next.end (event_of next) self.new) }
@@ -540,12 +544,13 @@ impl Stream {
         Ok(())
     }
 
-    /// Processes the end of a pending call. Afterwards, the moment of this end is the current moment of the judge.
+    /// Processes the end of the pending call `next`. The moment when `next` ends is then the current moment of the
+    /// stream.
     fn end(&mut self, next: Pending) -> Result<(), AllocError>
         ensures met { OnOk result (IsMet self.old (key_in next) next.end (event_of next) self.new) }
         ensures known { OnOk result (EndIsKnown self.old.states next.call self.new.states self.old.failed self.old.clash self.new.clash) }
-        // Suppose that no order explains the calls on this key, and that no contradiction between two of them has been
-        // found. Then the stored facts show no contradiction between this call and an earlier one.
+        // If no order explains the calls on the key of `next`, and the judge has found no clash (two calls that
+        // contradict each other), the stored facts show no clash of `next` and an earlier call.
         ensures missed { OnOk result (IfSome self.new.failed (λ f. f.key.0 ≡ key_in next → self.new.clash ≡ None
             → IsClashing (facts_for self.old.states (key_in next)) next.call → ⊥)) }
     {
@@ -558,7 +563,7 @@ impl Stream {
         Ok(())
     }
 
-    /// Processes the ends of all calls that end before `moment`, in the order of these ends.
+    /// Processes the ends of all pending calls that end before `moment`, in increasing order.
     fn meet_before(&mut self, moment: u64) -> Result<(), AllocError>
         requires { moment ≤ behind_all }
         ensures kept { OnOk result ((threads : ℕ) (opening : List ℕ) (calls : List RecordedCall) → IsStreamKept threads opening calls self.old
@@ -573,7 +578,7 @@ impl Stream {
         Ok(())
     }
 
-    /// Processes the start of a call. All ends before this start must have been processed.
+    /// Processes the start of `call`. All ends of calls before the start of `call` must have been processed.
     fn begin(&mut self, call: StreamCall) -> Result<(), AllocError>
         requires may { MayCome self.old.pending self.old.moment (record_of call) }
         requires met { All (λ p. call.begun ≤ p.end) self.old.pending }
@@ -602,14 +607,14 @@ impl Stream {
         Ok(())
     }
 
-    /// Adds a call. It must start after all calls that were added before.
+    /// Adds `call`, which must start after all calls that were added before.
     ///
-    /// An error other than `Memory` is the reason why this call cannot be next; the stream (the judge's state) is then
-    /// unchanged. After `Memory`, the stream can no longer be used.
+    /// An error other than `Memory` is the reason why `call` cannot be the next call, and leaves the stream (the
+    /// judge's state) unchanged. After the error `Memory`, the stream can no longer be used.
     pub fn add(&mut self, call: StreamCall) -> Result<(), StreamFault>
         ensures added { OnOk result ((threads : ℕ) (opening : List ℕ) (calls : List RecordedCall) → call.thread < threads
             → IsStreamKept threads opening calls self.old → IsStreamKept threads opening (calls ++ record_of call ∷ []) self.new) }
-        // The moment when the call starts is now the current moment of the judge.
+        // The moment when `call` starts is now the current moment of the stream.
         ensures moment { OnOk result (moment_of self.new ≡ call.begun) }
         ensures refused { IfErr result (λ fault. fault ≢ StreamFault.Memory
             → (MayCome (pending_in self.old) (moment_of self.old) (record_of call) → ⊥) × (self.new ≡ self.old)) }
@@ -621,8 +626,8 @@ impl Stream {
         Ok(())
     }
 
-    /// Returns the smallest key that has a stored state and cannot have its final state. Returns `None` if there is no
-    /// such key. `keys` are the final keys.
+    /// Returns the smallest key that has a stored state but cannot be in its final state, or `None` if there is no such
+    /// key. `keys` are the final keys.
     fn wrongly_left(&self, keys: &[u32]) -> Option<u32>
         requires { IsStrictlyIncreasing keys.now }
         ensures { MatchOption result
@@ -638,7 +643,7 @@ impl Stream {
         wrong
     }
 
-    /// Returns a final key that has no stored state, or `None` if every final key has one.
+    /// Returns a key in `keys` (the final keys) that has no stored state, or `None` if every final key has one.
     fn unknown_left(&self, keys: &[u32]) -> Option<u32>
         ensures { MatchOption result
             ((k : ℕ) → has_key k keys.now ≡ true → get nat_eq self.now.states k ≢ None)
@@ -663,14 +668,14 @@ impl Stream {
         }
     }
 
-    /// Returns how many calls overlap another call on the same key that is a completed change. The number can be wrong
-    /// if no order explains the calls.
+    /// Returns how many calls overlap another call that changed the same key (an `add` or a `remove` that returned
+    /// true). The number can be wrong if no order explains the calls.
     pub(crate) fn overlapped(&self) -> u64 {
         self.overlapped
             .saturating_add(self.pending.overlapping(&self.states, self.moment))
     }
 
-    /// Processes the ends of all calls that are still to end. Calls that never end stay pending.
+    /// Processes the ends of all pending calls that end. Calls that never end remain pending.
     pub(crate) fn come_to_end(&mut self) -> Result<(), AllocError>
         ensures kept { OnOk result ((threads : ℕ) (opening : List ℕ) (calls : List RecordedCall) → IsStreamKept threads opening calls self.old
             → IsStreamKept threads opening calls self.new) }
@@ -679,8 +684,8 @@ impl Stream {
         self.meet_before(BEHIND_ALL)
     }
 
-    /// Decides whether some order linearizes all calls and leaves the final keys `keys`. The set starts with the
-    /// opening keys and has no quota. The ends of all calls must have been processed.
+    /// Decides whether some order linearizes all calls and leaves the final keys `keys`. The set opens with the opening
+    /// keys and has no quota. The ends of all calls must have been processed.
     pub(crate) fn verdict(&self, keys: &[u32]) -> StreamVerdict
         requires increase { IsStrictlyIncreasing keys.now }
         requires met { All (λ p. behind_all ≤ p.end) (pending_in self.now) }
@@ -694,8 +699,8 @@ impl Stream {
         }
     }
 
-    /// Decides whether some order linearizes all calls, whatever final keys it leaves. This function is for a recording
-    /// that was cut off, since its final keys are unknown. The ends of all calls must have been processed.
+    /// Decides whether some order linearizes all calls, whatever the final keys are. The function is for a recording
+    /// that was cut off and therefore does not contain the final keys. The ends of all calls must have been processed.
     pub(crate) fn verdict_cut_off(&self) -> StreamVerdict
         requires { All (λ p. behind_all ≤ p.end) (pending_in self.now) }
         ensures said { (threads : ℕ) (opening : List ℕ) (calls : List RecordedCall) → IsStreamOf threads opening calls self.now
@@ -708,8 +713,8 @@ impl Stream {
         }
     }
 
-    /// Returns two calls that contradict each other, if the judge found them. Both are on the first key with calls
-    /// that no order explains.
+    /// Returns two calls that contradict each other, if the judge found such calls. Both calls are on the first key
+    /// with calls that no order explains.
     pub(crate) fn clash_met(&self) -> Option<Clash>
         ensures { result ≡ clash_met self.now.failed self.now.clash }
     {
@@ -719,9 +724,9 @@ impl Stream {
         }
     }
 
-    /// Returns a contradiction between a call on `key` and the key's final state `left`: no order contains the call and
-    /// leaves this state. Returns `None` if the stored facts show no such contradiction, or if the judge has already
-    /// found a key with calls that no order explains.
+    /// Returns the clash between a call on `key` and the key's final state `left`: no order can contain the call and
+    /// leave the key in the state `left`. Returns `None` if the stored facts show no such clash, or if the judge has
+    /// already found a key with calls that no order explains.
     pub(crate) fn clash_left(&self, key: u32, left: Presence) -> Option<Clash>
         ensures found { IfSome result (λ c. (self.now.failed ≡ None) × IsFoundLeft key (facts_for self.now.states key) left c) }
         ensures missed { result ≡ None → self.now.failed ≡ None → left ≡ other (facts_for self.now.states key).was

@@ -1,52 +1,52 @@
-//! Searches for a stretch: a period of time with too many calls on a key for any order. The key would have to change
-//! back between these calls more often than it can. If a stretch is found, its calls are checked afterwards. No
-//! contract mentions stretches.
+//! Searches for a stretch: a period of time with so many calls on a key that no order can contain all of them. The key
+//! would have to change back between the calls more often than other calls can change it. The calls of a stretch are
+//! checked in another file after the search, so no contract mentions stretches.
 
 use crate::clash::{has_ended, other};
 use crate::stream::StreamCall;
 use lset_words::{Effect, Presence};
 use std::alloc::{AllocError, Global};
 
-/// A stretch: a period of time that contains too many calls on a key for any order.
+/// A stretch: a period of time with so many calls on a key that no order can contain all of them.
 #[derive(Clone, Copy)]
 pub(crate) struct Stretch {
-    /// The key's state (present or absent) after each change in this stretch of time.
+    /// The key's state (present or absent) after each change in the stretch.
     pub(crate) was: Presence,
-    /// Only changes that start at this moment or later are in the stretch of time.
+    /// Changes that start before this moment are not in the stretch.
     from: u64,
-    /// Only changes that have ended by this moment are in the stretch of time.
+    /// Changes that end after this moment are not in the stretch.
     upto: u64,
-    /// A call that saw the key in the state `was`. It counts as an additional call before the changes.
+    /// A call that saw the key in the state `was`. It counts as an additional call before the changes of the stretch.
     pub(crate) first: Option<StreamCall>,
-    /// A call that saw the key in the state other than `was`. It counts as an additional call after the changes.
+    /// A call that saw the key in the state opposite to `was`. It counts as an additional call after the changes of the
+    /// stretch.
     pub(crate) last: Option<StreamCall>,
-    /// The start of this stretch of time. `None` if the set opened with the key in the state `was`: the opening state
-    /// then counts as a call.
-    pub(crate) since: Option<u64>,
-    /// The end of this stretch of time. `None` if the key's final state is not `was`. In this case, the final state
+    /// The start of the stretch. `None` if the set opened with the key in the state `was`: the opening state then
     /// counts as a call.
+    pub(crate) since: Option<u64>,
+    /// The end of the stretch. `None` if the key's final state is not `was`: the final state then counts as a call.
     pub(crate) until: Option<u64>,
 }
 
-/// The smallest stretch of time found so far, if any. `size` is the number of its calls plus the number of calls that
-/// can change the key back.
+/// The smallest stretch found so far, if any. A stretch is a period with so many calls that no order can contain all of
+/// them. `size` is the number of these calls plus the number of calls that can change the key back.
 #[derive(Clone, Copy)]
 struct Best {
     found: Option<Stretch>,
     size: usize,
 }
 
-/// The start or the end of a call, as used in the search for stretches of time. `was` is the key's state after each
-/// change in the stretch.
+/// The start or the end of a call, as used in the search for stretches. A stretch is a period with so many calls on a
+/// key that no order can contain all of them. `was` is the key's state after each change in the stretch.
 #[derive(Clone, Copy)]
 enum Step {
-    /// A call that can change the key back starts. The field is the moment when this call ends.
+    /// The start of a call that can change the key back. The field is the moment when the call ends.
     Back(u64),
-    /// A change to the state `was` ends. The field is the moment when the change started.
+    /// The end of a change to the state `was`. The field is the moment when the change started.
     Change(u64),
-    /// A call that saw the key in the state other than `was` starts. The field is the call's index in `looks`.
+    /// The start of a call that saw the key in the state opposite to `was`. The field is the call's index in `looks`.
     Begins(usize),
-    /// A call that saw the key in the state other than `was` ends. The field is the call's index in `looks`.
+    /// The end of a call that saw the key in the state opposite to `was`. The field is the call's index in `looks`.
     Ends(usize),
 }
 
@@ -56,16 +56,16 @@ struct Timed {
     step: Step,
 }
 
-/// A call that saw the key in the state other than `was` (the state after each change in the stretch of time).
-/// `changes` is the number of changes to `was` that had ended when this call started.
+/// A call that saw the key in the state opposite to `was`, the state after each change of a stretch. `changes` is the
+/// number of changes to `was` that had ended when the call started.
 #[derive(Clone, Copy)]
 struct Look {
     call: StreamCall,
     changes: usize,
 }
 
-/// The starts and ends of the calls on one key, ordered by moment, and the calls that saw the key in the state other
-/// than `was`.
+/// The starts and ends of the calls on one key, ordered by moment, and the calls that saw the key in the state opposite
+/// to `was`.
 #[derive(Drop)]
 struct Steps {
     steps: Vec<Timed>,
@@ -73,7 +73,7 @@ struct Steps {
 }
 
 impl Stretch {
-    /// Returns the stretch of time that starts at `from`, the start of its first change.
+    /// Returns the stretch that starts at `from`, when its first change starts.
     fn from_change(was: Presence, from: u64) -> Stretch {
         Stretch {
             was,
@@ -86,7 +86,7 @@ impl Stretch {
         }
     }
 
-    /// Returns whether `call` is one of the changes in this stretch of time.
+    /// Returns whether `call` is a change in the stretch.
     pub(crate) fn has(&self, call: StreamCall) -> bool {
         is_change_to(call, self.was) && self.from <= call.begun && has_ended(call, self.upto)
     }
@@ -98,8 +98,8 @@ impl Stretch {
         }
     }
 
-    /// Returns the number of calls in the stretch of time if it contains `changes` changes. `first` and `last` count as
-    /// calls. The key's opening state and final state also count if `since` or `until` is `None`.
+    /// Returns the number of calls in a stretch with `changes` changes. `first` and `last` count as calls. If `since`
+    /// or `until` is `None`, the key's opening or final state counts as a call.
     fn places(&self, changes: usize) -> usize {
         let before = self.first.is_some() || self.since.is_none();
         let after = self.last.is_some() || self.until.is_none();
@@ -130,9 +130,9 @@ fn last_look(calls: &[StreamCall], was: Presence, moment: u64) -> Option<StreamC
 }
 
 impl Best {
-    /// Returns `stretch` if it contains too many calls for any order and is smaller than the best stretch so far.
-    /// Otherwise returns the best stretch so far. There are too many calls if the key must change back more than
-    /// `backs` times.
+    /// Returns `stretch` if it has more calls than any order can contain and is smaller than the best stretch so far.
+    /// Otherwise returns the best stretch so far. No order can contain the calls if the key must change back between
+    /// them more than `backs` times.
     fn or(self, stretch: Stretch, changes: usize, backs: usize) -> Best {
         let places = stretch.places(changes);
         let size = places.saturating_add(backs);
@@ -148,8 +148,8 @@ impl Best {
 }
 
 impl Steps {
-    /// Returns the starts and ends in `calls` that matter for stretches (periods with too many calls). `was` is the
-    /// key's state after each change in a stretch.
+    /// Returns the starts and ends in `calls` that matter for stretches (periods with so many calls that no order can
+    /// contain all of them). `was` is the key's state after each change in a stretch.
     fn of(alloc: Global, calls: &[StreamCall], was: Presence) -> Result<Steps, AllocError> {
         let mut all = Steps {
             steps: Vec::new(alloc),
@@ -193,8 +193,8 @@ impl Steps {
         Ok(())
     }
 
-    /// Returns the smallest stretch of time that starts like `start` and contains too many calls for any order. Returns
-    /// `best` if none is smaller than `best`.
+    /// Returns the smallest stretch with the same start as `start`, or `best` if none is smaller. A stretch is a period
+    /// with so many calls that no order can contain all of them.
     fn pass(&mut self, start: Stretch, left: Option<Presence>, best: Best) -> Best {
         let mut pass = Pass {
             start,
@@ -214,8 +214,8 @@ impl Steps {
     }
 }
 
-/// The state of one pass over the starts and ends of calls: how many changes have ended, and how many calls that can
-/// change the key back have started. A pass searches all stretches of time with the same start as `start`.
+/// The state of a pass over the starts and ends of calls: how many changes have ended, and how many calls have started
+/// that can change the key back. A pass examines all stretches with the same start as `start`.
 #[derive(Clone, Copy)]
 struct Pass {
     start: Stretch,
@@ -262,8 +262,8 @@ impl Pass {
     }
 }
 
-/// Returns the smallest stretch of time with changes to the state `was` and too many calls for any order. Returns
-/// `best` if none is smaller than `best`.
+/// Returns the smallest stretch whose changes are to the state `was`, or `best` if none is smaller. A stretch is a
+/// period with so many calls that no order can contain all of them.
 fn smaller_stretch(
     alloc: Global,
     calls: &[StreamCall],
@@ -291,8 +291,8 @@ fn smaller_stretch(
     Ok(best)
 }
 
-/// Returns the smallest stretch of time found that contains too many calls for any order: the key would have to change
-/// back more often than it can. Returns `None` if no such stretch is found.
+/// Returns the smallest stretch found, or `None` if no stretch is found. A stretch is a period with so many calls on a
+/// key that no order can contain all of them: the key would have to change back more often than it can.
 pub(crate) fn smallest_stretch(
     alloc: Global,
     calls: &[StreamCall],
