@@ -1,4 +1,4 @@
--- How a history grows: lemmas about a history without calls, a prefix of a history, and a history after a call begins
+-- Lemmas about how a history grows: a history without calls, a prefix of a history, and a history after a call begins
 -- or ends.
 use Rattle.std.proofs.Common.{◌≡◌, ℕ, ◌<◌, ◌≢◌, List, [], ◌∷◌, ◌++◌, length, get_or, Option, Some, None, subst, arith}
 use Rattle.std.proofs.Common.{length-append}
@@ -46,7 +46,7 @@ history_begun threads calls x h may = record {
   pairs = all_pairs_push Follows calls x h.pairs may.follows;
 }
 
--- ---- Lemmas about ending a pending call after all earlier starts and ends
+-- ---- Lemmas about the end of a pending call
 later_than : (o : Option (ℕ × Reply)) (at : ℕ) → IfSome o (λ (e : ℕ × Reply). e.0 < at) → IfSome o (λ (e : ℕ × Reply). at ≢ e.0)
 later_than None at h = tt
 later_than (Some e) at h = λ same. omega arith

@@ -1,5 +1,5 @@
--- Properties of the calls of a run after each event, if each event is a valid start of a call or a valid step. Moment
--- k is the state after the first k events.
+-- Properties of the calls of a run after each event, if each event is a valid start of a call or a valid step. Moment k
+-- is the moment after the first k events.
 use Rattle.std.proofs.Common.{rules, ◌≡◌, ◌≢◌, ℕ, zero, suc, ◌<◌, ◌≤◌, ◌⊎◌, Bool, true, false, ◌||◌, ◌&&◌, inl, inr, List, [], ◌∷◌, ◌++◌, map, length}
 use Rattle.std.proofs.Common.{sym, refl, ap, subst, ◌∙◌, arith}
 use Rattle.std.specs.Prelude.{slice_index_or, Option, Some, None, is_some, is_none, IfSome, IsSomeAnd, All, AllPairs, if◌then◌else◌}
@@ -19,8 +19,8 @@ use Rattle.lset_words.specs.Words.{Opening}
 use Rattle.lset_words.proofs.Numbers.{equal_test, same_or_not}
 use Rattle.lset_words.proofs.LastCalls.{last_own, last_other}
 
--- A run: its log of events and, at each moment (after each number of events), the keys of the set and each thread's
--- number of successful adds.
+-- A run: its log of events and, at each moment (number of events so far), the keys of the set and each thread's number
+-- of successful adds.
 pub record Run : Type 1 where
   pub threads : ℕ
   pub quota : ℕ
@@ -32,14 +32,14 @@ abbrev pub run_of : ℕ → ℕ → Log → Contents → Counts → Run
 run_of threads quota log contents counts =
     record { threads = threads; quota = quota; log = log; contents = contents; counts = counts }
 
--- Holds if event number `begun` of the run, counted from 1, is the start of this call.
+-- Holds if event number `begun` of the run, counted from 1, is the start of the call `call`.
 pub record Beginning (r : Run) (thread : ℕ) (call : Call) (begun : ℕ) : Type 0 where
   pub before : ℕ
   pub is : begun ≡ suc before
   pub entry : r.log before ≡ began thread call
 
--- Holds if event number `changed` of the run, counted from 1, is a step of this call that changes the set. The call
--- must be allowed to make this change.
+-- Holds if event number `changed` of the run, counted from 1, is a step of the call `call` that changes the set as the
+-- call is allowed to.
 pub record ChangeAt (r : Run) (thread : ℕ) (call : Call) (begun changed : ℕ) : Type 0 where
   pub before : ℕ
   pub is : changed ≡ suc before
@@ -49,8 +49,8 @@ pub record ChangeAt (r : Run) (thread : ℕ) (call : Call) (begun changed : ℕ)
   pub entry : r.log before ≡ stepped thread (Some change) reply
   pub may : MayChange r.quota (r.counts before thread) call false (Some change)
 
--- Holds if event number `end` of the run, counted from 1, ends this call with a correct reply. If the call changes the
--- set, it does so in this event or earlier.
+-- Holds if event number `end` of the run, counted from 1, ends the call `call` with a correct reply. If the call
+-- changes the set, it does so in event number `end` or earlier.
 pub record EndAt (r : Run) (thread : ℕ) (call : Call) (begun : ℕ) (changed : Option ℕ) (end : ℕ) (reply : Reply) : Type 0 where
   pub before : ℕ
   pub is : end ≡ suc before
@@ -60,16 +60,16 @@ pub record EndAt (r : Run) (thread : ℕ) (call : Call) (begun : ℕ) (changed :
   pub after_change : (m : ℕ) → changed ≡ Some m → m ≤ end
   pub right : RightReply (is_some changed) r.quota r.contents r.counts begun end thread call (Some reply)
 
--- Holds if `last` is this call, which began with event number `begun` and is still pending. The call has changed the
--- set if and only if `changed` is not `None`.
+-- Holds if `last` is the call `call`, which began with event number `begun` and is still pending. The call has changed
+-- the set if and only if `changed` is not `None`.
 pub record OpenAt (last : LastCall) (call : Call) (begun : ℕ) (changed : Option ℕ) : Type 0 where
   pub is : last.pending ≡ true
   pub call_is : last.call ≡ call
   pub begun_is : last.begun ≡ begun
   pub changed_is : last.changed ≡ is_some changed
 
--- Holds if the call `x`, in its state after `k` events, agrees with the log: its start and, if any, its change and its
--- end are entries of the log.
+-- Holds if the call `x`, in its state after `k` events, agrees with the log: the start of `x` and, if any, the change
+-- and the end of `x` are entries of the log.
 pub record Traced (r : Run) (k : ℕ) (x : TracedCall) : Type 0 where
   pub of_a_thread : x.thread < r.threads
   pub begins : Beginning r x.thread x.call x.begun
@@ -79,7 +79,7 @@ pub record Traced (r : Run) (k : ℕ) (x : TracedCall) : Type 0 where
   pub ends : (m : ℕ) (reply : Reply) → x.ended ≡ Some (m, reply)
       → (m ≤ k) × EndAt r x.thread x.call x.begun x.changed m reply
 
--- Holds if call `x` begins before call `y` and, if both are calls of one thread, also ends before `y` begins.
+-- Holds if call `x` begins before call `y` and, if one thread makes both calls, also ends before `y` begins.
 pub record Later (x y : TracedCall) : Type 0 where
   pub begins : x.begun < y.begun
   pub one_thread : x.thread ≡ y.thread → IsSomeAnd x.ended (λ (e : ℕ × Reply). e.0 < y.begun)
@@ -87,7 +87,7 @@ pub record Later (x y : TracedCall) : Type 0 where
 abbrev pub IsOpenOf : ℕ → TracedCall → Type 0
 IsOpenOf t x = (x.thread ≡ t) × (x.ended ≡ None)
 
--- Holds if some call in the list satisfies the predicate.
+-- Holds if some call in the list satisfies the predicate `P`.
 abbrev pub SomeCall : (TracedCall → Type 0) → List TracedCall → Type 0
 SomeCall P xs = (i : ℕ) × (i < length xs) × P (traced_at xs i)
 
@@ -95,18 +95,18 @@ pub if_some : {A : Type 0} (o : Option A) (P : A → Type 0) → ((x : A) → o 
 if_some None P f = tt
 if_some (Some x) P f = f x refl
 
--- Holds if `xs` are the calls of the run after `k` events. Each call agrees with the log. The list contains each
--- pending call and each call that has changed the set.
+-- Holds if `xs` are the calls of the run after `k` events: each call in `xs` agrees with the log, and `xs` contains
+-- each pending call and each call that has changed the set.
 pub record Calls (r : Run) (k : ℕ) (xs : List TracedCall) : Type 0 where
   pub each : All (Traced r k) xs
   pub pairs : AllPairs Later xs
-  -- If thread `t` has a pending call in the log, this call is in the list.
+  -- If thread `t` has a pending call in the log, the call is in `xs`.
   pub opens : (t : ℕ) → is_open r.log t k ≡ true → SomeCall (IsOpenOf t) xs
-  -- If an entry of the log is a change, the call that made the change is in the list.
+  -- If an entry of the log is a change of the set, the call that made the change is in `xs`.
   pub changers : (j t : ℕ) (change : Change) (reply : Option Reply) → j < k → r.log j ≡ stepped t (Some change) reply
       → SomeCall (λ x. x.changed ≡ Some (suc j)) xs
 
--- ---- A log entry of another thread does not change a pending call
+-- ---- Lemmas about log entries of other threads
 waits : {r : Run} {k : ℕ} {x : TracedCall} → (x.ended ≡ None → maker (r.log k) ≢ x.thread) → Traced r k x
     → Traced r (suc k) x
 waits {r} {k} {x} other t = record {
@@ -205,7 +205,7 @@ may_be : (quota count : ℕ) (call here : Call) (b : Bool) (c : Change) → here
 may_be quota count call here b (key, true) e m = (sym e ∙ m.0, refl, m.2)
 may_be quota count call here b (key, false) e m = (sym e ∙ m.0, refl)
 
--- Lemmas about the pending call `x` of the thread that takes the step.
+-- Lemmas about the pending call `x` of the thread that makes the next step.
 module _ {r : Run} {k : ℕ} {change : Option Change} {reply : Option Reply} {x : TracedCall}
     (entry : r.log k ≡ stepped x.thread change reply)
     (s : Steps r.threads r.quota r.log r.contents r.counts k x.thread change reply) (none : x.ended ≡ None) (p : Traced r k x) where
@@ -337,8 +337,8 @@ module _ {r : Run} {k t : ℕ} {change : Option Change} {reply : Option Reply} (
         | inr y ↦ (sym (ap (λ (x : LastCall). x.pending) (last_other r.log u k entry y)) ∙ o, λ z. absurd (y z))
       ]
 
--- After each event of a run, the list of the run's calls has the properties in `Calls`. Proof by induction on the
--- number of events.
+-- Lemma: after each event of a run, the list of the run's calls has the properties in `Calls`. The proof is by
+-- induction on the number of events.
 pub calls_of : (op : Opening) (last : ℕ) (log : Log) (contents : Contents) (counts : Counts)
     → Account op last log contents counts
     → (k : ℕ) → k ≤ last → Calls (run_of op.threads op.quota log contents counts) k (calls_at log k)

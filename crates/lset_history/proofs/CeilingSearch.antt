@@ -1,5 +1,5 @@
--- The search for the first moment when a key is the smallest present key at or above another key. The search goes from
--- one recorded change to the next, and finally examines the keys present after the last change.
+-- Lemmas about a search: at which moment is a key first the smallest present key at or above a given key? The search
+-- examines one recorded change after another, and finally the keys present after the last change.
 use Rattle.std.proofs.Common.{rules, ◌≡◌, ◌≢◌, ℕ, ◌+◌, ◌<◌, ◌≤◌, inl, inr, Bool, true, false, not, List, [], ◌∷◌, sym, refl}
 use Rattle.std.proofs.Common.{subst, ap, ◌∙◌, arith}
 use Rattle.std.specs.Prelude.{Option, Some, None, All, IsTrue, ◌==◌, nat_lt, if◌then◌else◌}
@@ -15,8 +15,8 @@ use Rattle.lset_history.proofs.ChangeLaws.{present_past}
 abbrev pub CeilingAt : (ℕ → List ℕ) → ℕ → Option ℕ → ℕ → Type 0
 CeilingAt changes key found m = IsCeiling (λ j. is_present changes j m ≡ true) key found
 
--- Holds if no moment of the list is after `a` and at or before `b`. If the list contains all moments when a key
--- changes, the key does not change from `a` to `b`.
+-- Holds if no moment in `ms` is after `a` and at or before `b`. If `ms` contains all moments when a key changes, the
+-- key does not change after `a` up to `b`.
 abbrev IsQuiet : List ℕ → ℕ → ℕ → Type 0
 IsQuiet ms a b = All (λ m. a < m → m ≤ b → ⊥) ms
 
@@ -120,7 +120,7 @@ module _ (changes : ℕ → List ℕ) (key : ℕ) (found : Option ℕ) where
 
 -- ---- Lemmas about the search after the last change
 
--- A key from `key` to just below the found key refutes the result if and only if the key is present.
+-- Lemma: a key from `key` to just below the found key refutes the result if and only if the key is present.
 against_below : (changes : ℕ → List ℕ) (key : ℕ) (o : Option ℕ) (j m : ℕ) → key ≤ j → IsBelow j o
     → is_against changes key o j m ≡ is_present changes j m
 against_below changes key None j m l u = if_not_below j key l false (is_present changes j m)

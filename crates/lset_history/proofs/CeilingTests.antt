@@ -1,4 +1,4 @@
--- A computable test for whether a key is the smallest present key at or above another key at a given moment. All keys
+-- A computable test of whether a key is the smallest present key at or above a given key at a given moment. All keys
 -- must be below 2^32.
 use Rattle.std.proofs.Common.{rules, ◌≡◌, ℕ, ◌+◌, ◌-◌, ◌<◌, ◌≤◌, ◌⊎◌, inl, inr, true, List, refl, subst, ap, arith}
 use Rattle.std.specs.Prelude.{Option, Some, None}

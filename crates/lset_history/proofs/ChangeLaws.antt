@@ -1,4 +1,4 @@
--- How appending a change of a key affects the moments when the key is present.
+-- Lemmas about how appending a change of a key affects the moments when the key is present.
 use Rattle.std.proofs.lemmas.Grind.{common_steps}
 use Rattle.std.proofs.Common.{◌≡◌, ◌≢◌, ℕ, zero, suc, ◌<◌, ◌≤◌, Bool, true, false, not, List, [], ◌∷◌, ◌++◌, length, get_or}
 use Rattle.std.proofs.Common.{sym, refl, ap, ◌∙◌, arith}
@@ -13,8 +13,8 @@ abbrev pub turned : ℕ → Bool → Bool
 turned zero b = b
 turned (suc i) b = turned i (not b)
 
--- A key's presence at moment `m` is its presence before the first change, flipped once for each change at or before
--- `m`.
+-- Lemma: a key's presence at moment `m` is its presence before the first change, flipped once for each change at or
+-- before `m`.
 pub state_between : (b : Bool) (ms : List ℕ) (i m : ℕ) → i ≤ length ms → ((j : ℕ) → j < i → get_or ms j 0 ≤ m)
     → (i < length ms → m < get_or ms i 0) → state_at b ms m ≡ turned i b
 state_between b [] zero m l f g = refl

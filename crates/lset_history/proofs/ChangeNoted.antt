@@ -1,4 +1,4 @@
--- How recording a new change affects the recorded changes of all keys.
+-- Lemmas about how recording a new change affects the recorded changes of all keys.
 use Rattle.std.proofs.lemmas.Grind.{common_steps}
 use Rattle.std.proofs.Common.{◌≡◌, ◌≢◌, ℕ, ◌<◌, ◌^◌, ◌≤◌, inl, inr, Bool, true, false, List, [], ◌∷◌, ◌++◌, get_or, map, sym}
 use Rattle.std.proofs.Common.{refl, subst, ap, ◌∙◌, arith, append_assoc}
@@ -84,8 +84,8 @@ bounded_noted c d key at low bounded is k high =
 all_both : (P Q R : ℕ → Type 0) → ((m : ℕ) → P m → Q m → R m) → (ms : List ℕ) → All P ms → All Q ms → All R ms
 all_both P Q R f ms p q = All-from_get_or R ms 0 (λ i l. f (get_or ms i 0) (All-get_or P ms i 0 l p) (All-get_or Q ms i 0 l q))
 
--- Lemmas about recording a change: `c` is the record before key `key` changed at moment `at`, and `d` the record after
--- it.
+-- Lemmas about recording a change: `c` contains the changes before key `key` changed at moment `at`, and `d` the
+-- changes after.
 module _ (c d : ChangesValue) (key at : ℕ) (noted : (k : ℕ) → moments_of d k ≡ with_change (moments_of c) key at k) where
   listed_noted : (keys_at : BTreeMap ℕ ℕ) → (0 < at → get nat_cmp keys_at at ≡ Some key)
       → ((k : ℕ) → All (IsListed keys_at k) (moments_of c k)) → (k : ℕ) → All (IsListed keys_at k) (moments_of d k)
@@ -182,7 +182,7 @@ kept_opened keys keys_at now increasing small has = record {
     too_high : (k : ℕ) → 2 ^ 32 ≤ k → Contains keys k → ⊥
     too_high k high c = let low : k < 2 ^ 32 = All-contains (λ x. x < 2 ^ 32) keys k small c in omega (arith, high, low)
 
--- Returns the entries of a map, with lists in place of vectors.
+-- Converts the entries of a map from keys to vectors into entries from keys to lists.
 abbrev pub shown : List (ℕ × Vec ℕ Global) → List (ℕ × List ℕ)
 shown es = map (λ (e : ℕ × Vec ℕ Global). (e.0, e.1.items)) es
 

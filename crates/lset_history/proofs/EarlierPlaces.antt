@@ -1,4 +1,4 @@
--- Lemmas about the first i elements of an order of calls, and about the correctness of their replies.
+-- Lemmas about the first i items of an order of calls, and about the correctness of their replies.
 use Rattle.std.proofs.Common.{◌≡◌, ◌≢◌, ℕ, zero, suc, ◌<◌, ◌≤◌, ◌+◌, ◌==◌, ◌||◌, Bool, true, false, List, [], ◌∷◌, length}
 use Rattle.std.proofs.Common.{get_or, take, map, Option, Some, None, refl, sym, ap, ◌∙◌, subst, inl, inr, arith, add-one}
 use Rattle.std.specs.Prelude.{set}
@@ -51,13 +51,14 @@ marks_more marks order i inside low holds q =
           ∙ holds q ∙ sym (more ∙ ap (λ b. stands (take i order) q || b) (ne_eqb call q ne) ∙ or-false _)
     ]
 
--- Holds if the sequential set returns the reply at index `i` of the order after the earlier calls of the order.
+-- Holds if the sequential set returns the reply at index `i` of the order after the preceding calls of the order.
 abbrev GivesReply : ℕ → List CallRecord → List Placed → ℕ → SetState → Type 0
 GivesReply quota calls order i s =
     reply_to quota (set_left_by s calls (take i order)) (placed_call calls order i).thread (placed_call calls order i).call
     ≡ (place_at order i).reply
 
--- Returns the state of the sequential set after the call at index `i` of the order. `s` is the state before this call.
+-- Returns the state of the sequential set after the call at index `i` of the order. `s` is the state before the call at
+-- index `i`.
 abbrev after_place : List CallRecord → List Placed → ℕ → SetState → SetState
 after_place calls order i s = after_call s (placed_call calls order i).thread (placed_call calls order i).call
     (place_at order i).reply

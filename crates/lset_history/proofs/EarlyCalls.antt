@@ -1,5 +1,5 @@
--- The loop of the checker goes through an order from its last call to its first. The loop keeps the earliest moment
--- when one of these calls ended. A call that begins after this moment is too early in the order.
+-- Lemmas about the checker's loop over an order from the last call to the first. The loop keeps the earliest moment
+-- when a call ended. A call that begins after this moment is too early in the order.
 use Rattle.std.proofs.Common.{rules, ◌≡◌, ℕ, ◌<◌, ◌≤◌, List, length, Option, Some, None, refl, subst, inl, inr, ◌⊎◌}
 use Rattle.std.proofs.Common.{suc, arith}
 use Rattle.std.proofs.lemmas.Bool.{cases_order, cases_lt}
@@ -10,8 +10,8 @@ use Rattle.lset_words.specs.declared.history.Placed.{Placed}
 use Rattle.lset_history.specs.Checks.{smallest_with}
 use Rattle.lset_history.specs.Faults.{place_at, placed_call, IsTooEarly, Passes, RefusesFirst}
 
--- `EndsBefore`: a call ended before this moment. `EndsFrom`: some call at index `i` of the order, or at a larger
--- index, ended before this moment.
+-- `EndsBefore`: a call ended before `moment`. `EndsFrom`: some call at index `i` of the order or at a larger index
+-- ended before `moment`.
 abbrev pub EndsBefore : ℕ → Option (ℕ × Reply) → Type 0
 EndsBefore moment ended = IsSomeAnd ended (λ (end : ℕ × Reply). end.0 < moment)
 
@@ -19,14 +19,14 @@ abbrev pub EndsFrom : List CallRecord → List Placed → ℕ → ℕ → Type 0
 EndsFrom calls order i moment =
     (later : ℕ) × (i ≤ later) × (later < length order) × EndsBefore moment (placed_call calls order later).ended
 
--- Holds if `smallest` is the earliest moment when one of the calls at index `i` and later ended, or `None` if none of
--- these calls has ended.
+-- Holds if `smallest` is the earliest moment when a call at index `i` or at a larger index ended, or `None` if no such
+-- call has ended.
 pub record EndsSmallest (calls : List CallRecord) (order : List Placed) (i : ℕ) (smallest : Option ℕ) : Type 0 where
   pub below : (moment : ℕ) → IsSomeAnd smallest (λ end. end < moment) → EndsFrom calls order i moment
   pub ends : (moment : ℕ) → EndsFrom calls order i moment → IsSomeAnd smallest (λ end. end < moment)
 
--- The first call of the order, from index `i` on, that is too early: a later call of the order ended before this call
--- began.
+-- Holds if the call `number` is the first call of the order, from index `i` on, that is too early: a later call of the
+-- order ended before the call began.
 pub record EarlyFrom (calls : List CallRecord) (order : List Placed) (i number : ℕ) : Type 0 where
   pub place : ℕ
   pub from : i ≤ place

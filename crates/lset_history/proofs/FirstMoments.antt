@@ -1,5 +1,5 @@
--- Lemmas about the first moment when a predicate holds. They state how this moment is computed, that it is unique, and
--- how it depends on the end of the search.
+-- Lemmas about the first moment when a predicate holds: how the moment is computed, that it is unique, and how it
+-- depends on the end of the search.
 use Rattle.std.proofs.Common.{◌≡◌, ℕ, zero, suc, ◌+◌, ◌<◌, ◌≤◌, ◌⊎◌, inl, inr, Bool, true, false, refl, ap, subst, arith}
 use Rattle.std.specs.Prelude.{Option, Some, None}
 use Rattle.lset_history.specs.Changes.{IsFirst, is_same, first_passing}

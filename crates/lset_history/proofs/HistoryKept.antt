@@ -1,4 +1,4 @@
--- Proof that the invariant of the Rust type `History` still holds after a call begins or ends.
+-- Proof: the invariant of the Rust type `History` still holds after a call begins or ends.
 use Rattle.std.proofs.Common.{◌≡◌, ℕ, suc, zero, ◌<◌, ◌≤◌, ◌^◌, ◌≢◌, ◌==◌, ◌&&◌, ◌||◌, Bool, true, false, List, [], ◌∷◌, ◌++◌}
 use Rattle.std.proofs.Common.{length, get_or, max, Option, Some, None, is_none, is_some, not, refl, sym, ap, ◌∙◌, subst}
 use Rattle.std.proofs.Common.{arith, inl, inr, ◌⊎◌, replicate}
@@ -68,7 +68,7 @@ latest_ended [] n at z inside b e h = absurd (omega arith)
 latest_ended (y ∷ ys) zero at z inside b e h = omega arith
 latest_ended (y ∷ ys) (suc n) at z inside b e h = let rest = latest_ended ys n at z (omega arith) b e (omega arith) in omega arith
 
--- ---- Lemmas about the threads that have a pending call
+-- ---- Lemmas about the threads with a pending call
 abbrev is_open_of : ℕ → CallRecord → Bool
 is_open_of t x = x.thread == t && is_none x.ended
 
@@ -93,7 +93,7 @@ none_left : (o : Option (ℕ × Reply)) (P : ℕ × Reply → Type 0) → IsSome
 none_left None P h = absurd h
 none_left (Some x) P h = refl
 
--- ---- Lemmas about beginning a call
+-- ---- Lemmas about the start of a call
 pub begun_follows : (h : HistoryValue) (x : CallRecord) → MayBegin h x.thread x.begun → x.ended ≡ None
     → MayFollow h.opening.threads h.calls x
 begun_follows h x may e = record {

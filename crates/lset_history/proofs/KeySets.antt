@@ -1,4 +1,4 @@
--- Lemmas about the tree that stores the keys of the sequential set in the code: the tree contains the same keys as the
+-- Lemmas about the tree in which the code stores the keys of the sequential set: the tree contains the same keys as the
 -- set.
 use Rattle.std.proofs.Common.{◌≡◌, ℕ, ◌<◌, ◌==◌, ◌||◌, false, List, [], ◌∷◌, refl, sym, ap, ◌∙◌, inl, inr, subst}
 use Rattle.std.proofs.Common.{arith}

@@ -23,8 +23,8 @@ halved (suc b) low high next_low next_high h l g =
     let k : high - low < 2 ^ b * 2 = subst (λ z. high - low < z) (pow-suc 2 b) h in
     (omega arith, subst (λ z. next_high - next_low < 2 ^ z) (let e : b ≡ suc b - 1 = omega arith in e) (omega arith))
 
--- A lower bound on the number of comparisons in a binary search. Each comparison leaves at least half of the range,
--- minus one.
+-- Lemma: a lower bound on the number of comparisons in a binary search, since each comparison leaves at least half of
+-- the range, minus one.
 pub half_needed : (k low high next_low next_high : ℕ) → 2 ^ k ≤ high - low + 1 → high - low ≤ 2 * (next_high - next_low) + 2
     → 2 ^ (k - 1) ≤ next_high - next_low + 1
 half_needed zero low high next_low next_high h l = let one : 2 ^ (zero - 1) ≡ 1 = refl in omega arith
@@ -61,7 +61,7 @@ turned_is n = elim (odd_or_even n) [
   | inr h ↦ (unequal_test (n % 2) 1 (λ e. let a : n % 2 ≡ 0 = h.0 in omega arith) ∙ sym h.1)
 ]
 
--- Lemmas about negating a `Bool` n times. Each change of a key negates whether the key is present.
+-- Lemmas about negating a `Bool` n times. (Each change of a key negates the key's presence.)
 differ : (x there : Bool) → not (beq x there) ≡ (if there then not x else x)
 differ true true = refl
 differ true false = refl

@@ -1,4 +1,4 @@
--- Lemmas about predicates on two elements of a list, an earlier one and a later one.
+-- Lemmas about predicates on two items of a list, an earlier one and a later one.
 use Rattle.std.proofs.Common.{◌≡◌, ℕ, suc, zero, ◌<◌, ◌≢◌, List, ◌∷◌, length, get_or, inl, inr, ◌∙◌, arith}
 use Rattle.std.specs.List.{All, AllPairs}
 use Rattle.std.proofs.Math.ListN.{set}

@@ -1,4 +1,4 @@
--- The calls of a run can be sorted by their linearization points in exactly one way.
+-- Proof: the calls of a run can be sorted by their linearization points in exactly one way.
 use Rattle.std.proofs.Common.{◌≡◌, ◌<◌, ◌⊎◌, inl, inr, List, [], ◌∷◌, refl, sym, subst, ◌∙◌, arith}
 use Rattle.std.specs.List.{AllByRecursion}
 use Rattle.std.specs.List.Sorted.{IsPermutation}
@@ -8,7 +8,7 @@ use Rattle.std.proofs.lemmas.List.Sorted.{All-permutation, Contains-permutation}
 use Rattle.lset_history.specs.Placement.{Standing, ComesBefore}
 use Rattle.lset_history.proofs.Lists.{Pairs, SomeOf, all_imply, some_contains, contains_some, some_all}
 
--- ---- Lemmas about sorted lists, for a total strict order
+-- ---- Lemmas about sorted lists for a total strict order
 module _ {X : Type 0} (R : X → X → Type 0) (chain : (x y z : X) → R x y → R y z → R x z) (only : (x y : X) → R x y → R y x → ⊥) where
   abbrev Apart : X → X → Type 0
   Apart x y = R x y ⊎ R y x
@@ -61,7 +61,7 @@ module _ {X : Type 0} (R : X → X → Type 0) (chain : (x y z : X) → R x y �
       (λ z s. contains_some z zs (Contains-permutation xs zs z b (Contains-permutation ys xs z (IsPermutation-sym xs ys a) (some_contains z ys s))))
       (λ z s. contains_some z ys (Contains-permutation xs ys z a (Contains-permutation zs xs z (IsPermutation-sym xs zs b) (some_contains z zs s))))
 
--- ---- Proof that `ComesBefore`, the order of calls by their linearization points, is total and strict
+-- ---- The order of calls by their linearization points is total and strict
 pub before_chain : (s r q : Standing) → ComesBefore s r → ComesBefore r q → ComesBefore s q
 before_chain s r q a b = grind arith
 

@@ -1,5 +1,5 @@
--- The placement theorem: the order of a run's calls by their linearization points linearizes the history, and leaves
--- the same keys as the run.
+-- Proof of the placement theorem: the order of a run's calls by their linearization points linearizes the history, and
+-- leaves the final keys of the run.
 use Rattle.std.proofs.Common.{◌≡◌, ◌≢◌, ℕ, zero, suc, ◌<◌, ◌≤◌, true, false, inl, inr, List, [], ◌∷◌, sym, refl, subst, ap}
 use Rattle.std.proofs.Common.{◌∙◌, arith, length, map}
 use Rattle.std.specs.Prelude.{◌==◌, Option, Some, None, IfSome, IsSomeAnd, slice_index, Contains, All, AllPairs}
@@ -36,15 +36,16 @@ use Rattle.lset_history.proofs.SetStates.{Shows, keys_after, counts_after, set_a
 use Rattle.lset_history.proofs.Standings.{Stood, Changing, changing, Reading, IsStanding, during, ended_place, EndedPlace, reading, stood}
 use Rattle.lset_history.proofs.Standings.{has_place}
 
--- Converts a call with a linearization point to an element of an order: its thread, the call, and its reply.
+-- Converts a call with a linearization point to an item of an order: its thread, the call, and its reply.
 abbrev pub answered_of : Standing → Answered
 answered_of s = record { thread = s.traced.thread; call = s.traced.call; reply = reply_by s.traced.changed s.traced.ended }
 
--- Holds if a set in state `s`, called in this order, returns the replies of these calls and is then in state `t`.
+-- Holds if a set in state `s` returns the replies of the calls in `xs`, made in the order of `xs`, and is then in state
+-- `t`.
 abbrev Leads : ℕ → SetState → SetState → List Standing → Type 0
 Leads quota s t xs = IsLegal quota s (map answered_of xs) × (set_left s (map answered_of xs) ≡ t)
 
--- Holds if a set in state `s` returns the reply of this call, and is then in state `t`.
+-- Holds if a set in state `s` returns the reply of the call `x`, and is then in state `t`.
 abbrev LeadsTo : ℕ → SetState → SetState → Standing → Type 0
 LeadsTo quota s t x = let b = answered_of x in
     (reply_to quota s b.thread b.call ≡ b.reply) × (after_call s b.thread b.call b.reply ≡ t)
@@ -93,11 +94,12 @@ reading_stays r s state h same increasing n =
         → reply_by changed ended ≡ h.end.1
     replied changed ended e f = rw (e, f) refl
 
--- Holds if the call of `q` did not end before the call of `p` began. In the order, `p` comes before `q`.
+-- Holds if the order can list the call of `p` before the call of `q`: the call of `q` did not end before the call of
+-- `p` began.
 abbrev InTime : List CallRecord → Placed → Placed → Type 0
 InTime history p q = Precedes (call_numbered history q.call) (call_numbered history p.call) → ⊥
 
--- Holds if the call changes the set at moment `m`.
+-- Holds if the call `q` changes the set at moment `m`.
 abbrev ChangesIn : ℕ → Standing → Type 0
 ChangesIn m q = (makes_change q ≡ true) × (q.moment ≡ m)
 
@@ -181,7 +183,7 @@ module _ (op : Opening) (last : ℕ) (log : Log) (contents : Contents) (counts :
   no_end None moment begun f p l = p
   no_end (Some e) moment begun f p l = omega arith
 
-  -- No two calls change the set at the same moment, since each moment has one event.
+  -- Lemma: no two calls change the set at the same moment, since there is one event at each moment.
   clash : (s q : Standing) → Stands s → Stands q → s.number < q.number → s.moment ≡ q.moment → makes_change s ≡ true
       → makes_change q ≡ true → ⊥
   clash s q h i l e f g =
@@ -191,7 +193,7 @@ module _ (op : Opening) (last : ℕ) (log : Log) (contents : Contents) (counts :
       let same : s.traced.thread ≡ q.traced.thread = cc (before, c.change.entry, d.change.entry) in
       no_end s.traced.ended s.moment q.traced.begun (during h).in_call (later.one_thread same) (omega (arith, (during i).from))
 
-  -- ---- Lemmas about two calls, the first before the second in the order
+  -- ---- Lemmas about two calls of the order
   comes_on : (s q : Standing) → Stands s → Stands q → ComesBefore s q → (s.moment ≤ q.moment) × (makes_change q ≡ true → s.moment < q.moment)
   comes_on s q h i b = (moments, later)
     where
@@ -207,7 +209,7 @@ module _ (op : Opening) (last : ℕ) (log : Log) (contents : Contents) (counts :
         | inr f ↦ grind arith
       ]
 
-  -- Holds if each of these calls takes effect at moment `m` or later, and after `m` if the call changes the set.
+  -- Holds if each call in `xs` takes effect at moment `m` or later, and after `m` if the call changes the set.
   abbrev Late : ℕ → List Standing → Type 0
   Late m xs = AllByRecursion (λ q. (m ≤ q.moment) × (makes_change q ≡ true → m < q.moment)) xs
 
@@ -220,14 +222,14 @@ module _ (op : Opening) (last : ℕ) (log : Log) (contents : Contents) (counts :
   none_due m i (q ∷ xs) late l (inl s) = let b : m < q.moment = late.0.1 s.0 in omega (arith, s.1)
   none_due m i (q ∷ xs) late l (inr s) = none_due m i xs late.1 l s
 
-  -- Holds if each change of the set after the first `j` events was made by one of these calls.
+  -- Holds if each change of the set after the first `j` events was made by a call in `xs`.
   abbrev Due : ℕ → List Standing → Type 0
   Due j xs = (i t : ℕ) (change : Change) (reply : Option Reply) → j ≤ i → i < last → log i ≡ stepped t (Some change) reply
       → SomeOf (ChangesIn (suc i)) xs
 
-  -- If all calls after moment `j` (the first `j` events) are applied in sorted order to the sequential set in its
-  -- state of moment `j`, the set returns their replies. Proof by induction on the calls: the set does not change
-  -- between two changes.
+  -- Lemma: if the calls that take effect after moment `j` (the number of events so far) are applied in sorted order to
+  -- the sequential set in its state at moment `j`, the set returns the replies of these calls. The proof is by
+  -- induction on the calls: the set does not change between two changes.
   leads : (xs : List Standing) (j : ℕ) → j ≤ last → AllByRecursion Stands xs → Pairs ComesBefore xs → Late j xs → Due j xs
       → Leads op.quota (set_at op log j) (set_at op log last) xs
   leads [] j l s b late due = (tt, sym (quiet j last l due))
@@ -293,7 +295,7 @@ module _ (op : Opening) (last : ℕ) (log : Log) (contents : Contents) (counts :
     leaves : set_left (opening_set op) (map (answered history) (map placed_of sorted)) ≡ set_at op log last
     leaves = rw answers_are led.1
 
-    -- ---- The order contains no call twice, and keeps the real-time order of calls
+    -- ---- The order contains no call twice and keeps the real-time order
     is_once : AllPairs (λ (p q : Placed). p.call ≢ q.call) (map placed_of sorted)
     is_once = pairs_std (λ (p q : Placed). p.call ≢ q.call) (map placed_of sorted)
         (pairs_map placed_of (λ (p q : Placed). p.call ≢ q.call) sorted
@@ -314,7 +316,7 @@ module _ (op : Opening) (last : ℕ) (log : Log) (contents : Contents) (counts :
         each s q h i b p = no_end q.traced.ended q.moment s.traced.begun (during i).in_call (rw (numbered q i, numbered s h) at p)
             (omega (arith, (during h).from, (comes_on s q h i b).0))
 
-    -- ---- The order contains each completed call, and only calls of the history
+    -- ---- The order contains each completed call and only calls of the history
     is_known : All (λ (p : Placed). p.call < length history) (map placed_of sorted)
     is_known = All-from_recursion (λ (p : Placed). p.call < length history) (map placed_of sorted)
         (all_map placed_of (λ (p : Placed). p.call < length history) sorted

@@ -1,4 +1,4 @@
--- Proof that the calls of a run form a history.
+-- Proof: the calls of a run form a history.
 use Rattle.std.proofs.Common.{◌≡◌, ◌≢◌, ℕ, ◌<◌, ◌≤◌, Some, length, map, arith}
 use Rattle.std.specs.Prelude.{IfSome}
 use Rattle.std.proofs.lemmas.List.{length-map, get_or-map}

@@ -1,5 +1,5 @@
--- Proof that [Fits] agrees with the sequential set: a reply fits if and only if the set returns the reply and the call
--- changes nothing.
+-- Proof: the predicate `Fits` agrees with the sequential set. A reply fits if and only if the set returns the reply and
+-- the call changes nothing.
 use Rattle.std.proofs.Common.{◌≡◌, ℕ, ◌+◌, ◌<◌, ◌≤◌, ◌⊎◌, inl, inr, List, [], ◌∷◌, sym, refl, ap, ◌∙◌, arith, true, false, subst}
 use Rattle.std.specs.Prelude.{Contains, nat_lt, ◌==◌}
 use Rattle.std.proofs.lemmas.Bool.{cases_Bool}
@@ -17,7 +17,7 @@ use Rattle.lset_words.specs.Account.{Content, Fits}
 use Rattle.lset_history.specs.Laws.{IncreasesFor}
 use Rattle.lset_history.proofs.Keys.{has_true, has_from, has_false, has_none, with_keeps, without_from, member_or_not}
 
--- Holds if `x` is the smallest key of the list at or above `k`.
+-- Holds if `x` is the smallest key in `xs` at or above `k`.
 abbrev pub IsCeilingIn : ℕ → List ℕ → ℕ → Type 0
 IsCeilingIn k xs x = (k ≤ x) × Contains xs x × ((j : ℕ) → k ≤ j → j < x → Contains xs j → ⊥)
 
@@ -102,7 +102,7 @@ abbrev key_told : Reply → ℕ
 key_told (reply.At x) = x.0
 key_told reply = 0
 
--- Holds if a content (a set of keys, as a predicate) and a list have the same keys.
+-- Holds if the predicate `content` holds for exactly the keys in the list `keys`.
 abbrev pub SameKeys : Content → List ℕ → Type 0
 SameKeys content keys = (j : ℕ) → (content j → Contains keys j) × (Contains keys j → content j)
 
@@ -110,7 +110,7 @@ pub increases_for : (call : Call) (keys : List ℕ) → IncreasesFrom 0 keys →
 increases_for (call.Ceiling k) keys r = increasing_from_increases 0 keys r
 increases_for call keys r = tt
 
--- Holds if the sequential set returns this reply and the call does not change the set.
+-- Holds if the sequential set returns `reply` and the call does not change the set.
 abbrev pub Replies : ℕ → SetState → ℕ → Call → Reply → Type 0
 Replies quota s thread call reply = (reply_to quota s thread call ≡ reply) × (after_call s thread call reply ≡ s)
 
@@ -188,8 +188,8 @@ module _ (quota : ℕ) (content : Content) (s : SetState) (same : SameKeys conte
   fits_from_replies t n (call.Ceiling k) reply.Nothing increasing e f = λ j lo m. none_ceiling k.0 s.keys f.0 j lo ((same j).0 m)
   fits_from_replies t n (call.Ceiling k) y increasing e f = ceiling_not k.0 s.keys y f.0 (λ x g. cc) (λ g. cc)
 
-  -- Whether a key is in the set is decidable, since the set's keys are known as a list. Therefore it is also decidable
-  -- whether a reply is correct.
+  -- Lemmas: it is decidable whether a key is in the set, because the set's keys are known as a list. Therefore it is
+  -- also decidable whether a reply is correct.
   present : (k : ℕ) → content k ⊎ (content k → ⊥)
   present k = elim (member_or_not k s.keys) [ inl c ↦ inl ((same k).1 c) | inr c ↦ inr (λ h. c ((same k).0 h)) ]
 

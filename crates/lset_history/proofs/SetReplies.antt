@@ -1,4 +1,4 @@
--- Proof that the replies of the sequential set equal the replies that the code computes from its tree of keys and its
+-- Proof: the replies of the sequential set equal the replies that the code computes from its tree of keys and its
 -- counters.
 use Rattle.std.proofs.Common.{rules, ◌≡◌, ℕ, ◌≤◌, ◌<◌, ◌≢◌, ◌==◌, ◌+◌, Bool, true, false, cond, List, [], ◌∷◌, get_or, refl, sym}
 use Rattle.std.proofs.Common.{ap, inl, inr, ◌∙◌, arith}
@@ -88,7 +88,7 @@ contained o t k false e = record {
   state_is = refl;
 }
 
--- Returns the keys that are at least `k`. The first of these keys is the ceiling of `k`.
+-- Returns the keys that are at least `k`. The first key in the result is the ceiling of `k`.
 abbrev from_on : ℕ → List ℕ → List ℕ
 from_on k keys = filter (range_contains nat_cmp (Included k) Unbounded) keys
 

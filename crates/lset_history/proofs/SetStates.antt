@@ -1,4 +1,4 @@
--- If the sequential set makes the changes of a run, it has the run's keys and numbers of successful adds at each
+-- Proof: if the sequential set makes the changes of a run, it has the run's keys and numbers of successful adds at each
 -- moment.
 use Rattle.std.proofs.Common.{rules, ◌≡◌, ◌≢◌, ℕ, zero, suc, ◌+◌, ◌<◌, ◌≤◌, true, false, inl, inr, List, length, sym, refl, subst}
 use Rattle.std.proofs.Common.{◌∙◌, arith}
@@ -25,18 +25,19 @@ counts_after thread None counts = counts
 counts_after thread (Some (k, true)) counts = slice_set counts thread (slice_index counts thread + 1)
 counts_after thread (Some (k, false)) counts = counts
 
--- Returns the sequential set after an entry of the log. The start of a call, or a step without a change, does not
--- change the set.
+-- Returns the state of the sequential set after an entry of the log. The start of a call, or a step without a change,
+-- does not change the set.
 abbrev pub set_after : Entry → SetState → SetState
 set_after (began t call) s = s
 set_after (stepped t change reply) s = record { keys = keys_after change s.keys; counts = counts_after t change s.counts }
 
--- Returns the sequential set after the changes of the first k events.
+-- Returns the state of the sequential set after the changes of the first k events.
 abbrev pub set_at : Opening → Log → ℕ → SetState
 set_at op log zero = opening_set op
 set_at op log (suc k) = set_after (log k) (set_at op log k)
 
--- Holds if the state of the sequential set has exactly these keys and these numbers of successful adds.
+-- Holds if the sequential set in state `s` has exactly the keys in `content` and the numbers of successful adds in
+-- `counts`.
 pub record Shows (threads : ℕ) (content : Content) (counts : ℕ → ℕ) (s : SetState) : Type 0 where
   pub keys : SameKeys content s.keys
   pub increasing : IncreasesFrom 0 s.keys

@@ -1,4 +1,4 @@
--- Lemmas about the calls of a run that have a linearization point, with their numbers and moments.
+-- Lemmas about the calls of a run that have a linearization point: their numbers and moments.
 use Rattle.std.proofs.Common.{◌≡◌, ℕ, zero, suc, ◌+◌, ◌<◌, ◌≤◌, true, false, inl, inr, List, [], ◌∷◌, length, sym, refl, subst}
 use Rattle.std.proofs.Common.{ap, arith}
 use Rattle.std.specs.Prelude.{◌⊎◌, Option, Some, None, IfSome, is_some}
@@ -41,7 +41,7 @@ standing_above P n (x ∷ xs) (Some m ∷ ps) a = (
       (standing_above P (suc n) xs ps a.1),
 )
 
--- Holds if call `s` has a smaller number than call `r`, and begins before it.
+-- Holds if call `s` has a smaller number than call `r` and begins before `r`.
 abbrev pub Follows : Standing → Standing → Type 0
 Follows s r = (s.number < r.number) × Later s.traced r.traced
 
@@ -56,7 +56,7 @@ standing_pairs n (x ∷ xs) (Some m ∷ ps) a = (
   standing_pairs (suc n) xs ps a.1,
 )
 
--- Holds if the element `s` has this number, this call, and moment `m` as its linearization point.
+-- Holds if `s` is the call `x` with the number `number` and a linearization point at moment `m`.
 abbrev pub IsStanding : ℕ → TracedCall → ℕ → Standing → Type 0
 IsStanding number x m s = (s.number ≡ number) × (s.traced ≡ x) × (s.moment ≡ m)
 
@@ -72,7 +72,7 @@ standing_has n (x ∷ xs) (Some p ∷ ps) (suc i) m l e = let f : suc n + i ≡ 
     (standing_has (suc n) xs ps i m (omega arith) e))
 standing_has n xs ps i m l e = absurd cc
 
--- Holds if `s` is one of these calls, and its moment is its linearization point.
+-- Holds if `s` is a call in `calls`, and the moment of `s` is the call's linearization point.
 pub record Stood (r : Run) (last : ℕ) (calls : List TracedCall) (places : List (Option ℕ)) (s : Standing) : Type 0 where
   pub known : s.number < length calls
   pub call_is : traced_at calls s.number ≡ s.traced
@@ -85,15 +85,16 @@ pub record Changing (r : Run) (s : Standing) : Type 0 where
   pub is : s.traced.changed ≡ Some s.moment
   pub change : ChangeAt r s.traced.thread s.traced.call s.traced.begun s.moment
 
--- The call is completed, has changed nothing, and takes effect at the first moment when its reply is correct.
+-- Holds if the call `s` is completed, has changed nothing, and takes effect at the first moment when its reply is
+-- correct.
 pub record Reading (r : Run) (s : Standing) : Type 0 where
   pub no_change : s.traced.changed ≡ None
   pub end : ℕ × Reply
   pub ended : s.traced.ended ≡ Some end
   pub fit : IsSmallestFit r.quota r.contents r.counts s.traced end.0 end.1 s.moment
 
--- Holds if a call takes effect while it is pending: not before it begins, not after it ends, and not after moment
--- `last`.
+-- Holds if a call takes effect at `moment` while it is pending: not before it begins, not after it ends, and not after
+-- moment `last`.
 pub record During (last begun moment : ℕ) (ended : Option (ℕ × Reply)) : Type 0 where
   pub from : begun ≤ moment
   pub upto : moment ≤ last
@@ -131,7 +132,7 @@ module _ {r : Run} {last : ℕ} {calls : List TracedCall} {places : List (Option
     }
   ]
 
--- Holds if a completed call has a linearization point, and its reply in the order is the reply of the call in the run.
+-- Holds if a completed call has a linearization point, and its reply in the order is its reply in the run.
 pub record EndedPlace (changed : Option ℕ) (ended : Option (ℕ × Reply)) (reply : Reply) (place : Option ℕ) : Type 0 where
   pub moment : ℕ
   pub is : place ≡ Some moment

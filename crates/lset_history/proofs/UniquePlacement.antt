@@ -1,5 +1,5 @@
--- Every run with an account (a record of the effect of each event on the set) has exactly one placement, the order of
--- its calls by their linearization points.
+-- Proof: every run with an account (a record of the effect of each event on the set) has exactly one placement, the
+-- order of its calls by their linearization points.
 use Rattle.std.proofs.Common.{◌≡◌, ℕ, zero, suc, ◌+◌, ◌<◌, ◌≤◌, ◌⊎◌, inl, inr, List, [], ◌∷◌, length, map, sym, refl, subst, ap}
 use Rattle.std.proofs.Common.{◌∙◌, arith}
 use Rattle.std.specs.Prelude.{Option, Some, None}
@@ -21,8 +21,7 @@ use Rattle.lset_history.proofs.SetStates.{Shows, set_at, shows_at}
 use Rattle.lset_history.proofs.SetFitting.{fits_or_not}
 use Rattle.lset_words.specs.Words.{Opening}
 
--- The smallest moment from `first` to `last` with the property `P`. It can be found if `P` is decidable at each
--- moment.
+-- The smallest moment from `first` to `last` with the property `P`. It can be found if `P` is decidable at each moment.
 pub record Smallest (P : ℕ → Type 0) (first last : ℕ) : Type 0 where
   pub moment : ℕ
   pub from : first ≤ moment
@@ -44,7 +43,7 @@ smallest_by P (suc d) first last e f p = elim (f first (omega arith)) [
     below : (r : Smallest P (suc first) last) → (P first → ⊥) → (m : ℕ) → first ≤ m → m < r.moment → P m → ⊥
     below r n m b c h = grind arith
 
--- ---- Proof that it is decidable whether a call has a linearization point
+-- ---- Lemmas about calls that have a linearization point
 place_of : (r : Run) (last : ℕ) (x : TracedCall) (changed : Option ℕ) (ended : Option (ℕ × Reply)) → Traced r last x
     → ((m : ℕ) → m ≤ last → (reply : Reply) → Fits r.quota (r.contents m) (r.counts m x.thread) x.call reply
     ⊎ (Fits r.quota (r.contents m) (r.counts m x.thread) x.call reply → ⊥))
@@ -70,7 +69,7 @@ place_of r last x None (Some end) t f c_is e_is =
         between (suc a) (suc b) l = let i : (d : ℕ) × (b ≡ a + d) = between a b (omega arith) in
             let j : b ≡ a + i.0 = i.1 in (i.0, omega arith)
 
--- Collects the linearization points of all calls in one list, with one entry for each call.
+-- Lemma: the linearization points of all calls can be collected in one list, with one item for each call.
 chosen : (P : TracedCall → Option ℕ → Type 0) (xs : List TracedCall) → AllByRecursion (λ x. (place : Option ℕ) × P x place) xs
     → (ps : List (Option ℕ)) × (length ps ≡ length xs) × ((i : ℕ) → i < length xs → P (traced_at xs i) (place_at ps i))
 chosen P [] h = ([], refl, λ i l. absurd (omega arith))
@@ -123,7 +122,7 @@ has_placement op last log contents counts a =
         contents counts a m l in
         fits_or_not op.quota (contents m) (set_at op log m) w.keys w.increasing (counts m x.thread) x.call reply) refl refl
 
--- ---- Proof that the linearization point is unique
+-- ---- The linearization point is unique
 smallest_once : (quota : ℕ) (contents : Contents) (counts : Counts) (x : TracedCall) (end : ℕ) (reply : Reply) (m n : ℕ)
     → IsSmallestFit quota contents counts x end reply m → IsSmallestFit quota contents counts x end reply n → m ≡ n
 smallest_once quota contents counts x end reply m n a b = grind arith

@@ -1,5 +1,4 @@
--- The result of checking a whole order, derived from the single checks: either one of the checks finds the first
--- error, or the order explains the history.
+-- Proof: either one of the checks finds the first error in an order, or the order explains the history.
 use Rattle.std.proofs.Common.{rules, ◌≡◌, ◌≢◌, ℕ, ◌<◌, ◌==◌, Bool, true, false, List, [], length, get_or, Option, Some, None}
 use Rattle.std.proofs.Common.{refl, sym, ap, ◌∙◌, subst, inl, inr, ◌⊎◌, arith}
 use Rattle.std.proofs.lemmas.Grind.{common_steps}
@@ -27,12 +26,12 @@ use Rattle.lset_history.proofs.EarlierPlaces.{stands_earlier, legal_at, passes_r
 read_place : (order : List Placed) (i : ℕ) (d : Placed) → i < length order → get_or order i d ≡ place_at order i
 read_place order i d low = get_or_default order i d (place_at [] 0) low
 
--- ---- Lemmas about the check that every call of the order is in the history
+-- ---- Lemmas about the check for unknown calls
 pub passes_known : (calls : List CallRecord) (order : List Placed) → HasKnownCalls calls order
     → Passes (IsUnknown calls order) order
 passes_known calls order known place low unknown = let h = known place (place_at [] 0) low in omega arith
 
--- ---- Lemmas about the check that every completed call is in the order
+-- ---- Lemmas about the check for missing calls
 absent_stands : (order : List Placed) (n : ℕ) → All (λ (p : Placed). p.call ≢ n) order → stands order n ≡ false
 absent_stands order n absent = list_any_none (λ (p : Placed). p.call == n) order (λ k d low. ne_eqb _ n (absent k d low))
 
@@ -97,10 +96,10 @@ linearizes o calls order known once none replies early = record {
               (reply_of_end _ end reply _ e recorded)),
         )
 
--- ---- Lemmas that combine the results of the single checks
+-- ---- Lemmas that combine the results of several checks
 
--- The result of the first two checks: all calls of the order are in the history, none is in the order twice, and the
--- marks are set for exactly the calls of the order.
+-- The result of the first two checks: all calls of the order are in the history, no call is in the order twice, and
+-- exactly the calls of the order are marked.
 pub record StandsOnce (h : HistoryValue) (calls : List CallRecord) (order : List Placed) (marks : List Bool) : Type 0 where
   pub calls_are : calls ≡ h.calls
   pub known : HasKnownCalls calls order

@@ -1,5 +1,5 @@
--- Defines when an order of calls explains a history and its final keys, and which error is reported for any other
--- order.
+-- Defines when an order of calls explains a history and its final keys, and which error is reported if the order does
+-- not explain them.
 use Rattle.std.specs.Prelude.{◌≡◌, ◌≢◌, ℕ, ◌<◌, ◌≤◌, ◌⊎◌, List, map, take, length, All, IsSome, IsSomeAnd, slice_index_or}
 use Rattle.std.specs.List.Sorted.{IsStrictlyIncreasing}
 use Rattle.lset_words.specs.declared.Reply.{Reply}
@@ -17,18 +17,19 @@ use Rattle.lset_history.specs.History.{HistoryValue}
 abbrev pub set_left_by : SetState → List CallRecord → List Placed → SetState
 set_left_by start calls order = set_left start (map (answered calls) order)
 
--- Holds if the order explains the history and the final keys: it linearizes the history, and `keys` are the keys of the
--- set after the order's calls, in strictly increasing order.
+-- Holds if the order explains the history and the final keys: the order linearizes the history, and `keys` are the keys
+-- of the set after the order's calls, in strictly increasing order.
 pub record Explains (h : HistoryValue) (order : List Placed) (keys : List ℕ) : Type 0 where
   pub linearizes : Linearizes h.opening.quota (opening_set h.opening) h.calls order
   pub keys_left : keys ≡ (set_left_by (opening_set h.opening) h.calls order).keys
   pub increasing : IsStrictlyIncreasing keys
 
--- Returns element `i` of the order, from 0. An index past the end returns a default, which no definition depends on.
+-- Returns the item at index `i` of the order, from 0. An index past the end returns a default, on which no definition
+-- depends.
 abbrev pub place_at : List Placed → ℕ → Placed
 place_at order i = slice_index_or order i (record { call = 0; reply = True })
 
--- Returns the call of the history that is at this index of the order.
+-- Returns the call of the history at index `i` of the order.
 abbrev pub placed_call : List CallRecord → List Placed → ℕ → CallRecord
 placed_call calls order i = call_numbered calls (place_at order i).call
 
@@ -41,7 +42,7 @@ abbrev pub IsTwice : List Placed → ℕ → Type 0
 IsTwice order i = (earlier : ℕ) × (earlier < i) × ((place_at order earlier).call ≡ (place_at order i).call)
 
 -- Holds if the reply at index `i` of the order is wrong: it differs from the reply in the history, or from the
--- sequential set's reply after the earlier calls of the order.
+-- sequential set's reply after the preceding calls of the order.
 abbrev pub HasWrongReply : ℕ → SetState → List CallRecord → List Placed → ℕ → Type 0
 HasWrongReply quota start calls order i =
     let x = placed_call calls order i in
@@ -49,19 +50,20 @@ HasWrongReply quota start calls order i =
     IsSomeAnd x.ended (λ (end : ℕ × Reply). end.1 ≢ reply)
     ⊎ (reply_to quota (set_left_by start calls (take i order)) x.thread x.call ≢ reply)
 
--- Holds if the call at index `i` of the order is too early, because a call at a later index had ended before this call
--- began.
+-- Holds if the call at index `i` of the order is too early, because a call at a later index had ended before the call
+-- at index `i` began.
 abbrev pub IsTooEarly : List CallRecord → List Placed → ℕ → Type 0
 IsTooEarly calls order i =
     (later : ℕ) × (i < later) × (later < length order) × Precedes (placed_call calls order later) (placed_call calls order i)
 
--- Holds if the call with this number is completed and not in the order.
+-- Holds if the call numbered `number` is completed but not in the order.
 pub record IsMissing (calls : List CallRecord) (order : List Placed) (number : ℕ) : Type 0 where
   pub known : number < length calls
   pub ended : IsSome (call_numbered calls number).ended
   pub absent : All (λ (p : Placed). p.call ≢ number) order
 
--- Holds if a check finds no error at any index of the order.
+-- Holds if a check finds no error at any index of the order. `Refuses i` holds if the check finds an error at index
+-- `i`.
 abbrev pub Passes : (ℕ → Type 0) → List Placed → Type 0
 Passes Refuses order = (place : ℕ) → place < length order → Refuses place → ⊥
 
@@ -80,8 +82,9 @@ pub record MissesFirst (calls : List CallRecord) (order : List Placed) (number :
   pub missing : IsMissing calls order number
   pub smallest : (smaller : ℕ) → smaller < number → IsMissing calls order smaller → ⊥
 
--- Holds if this is the error to report: no earlier check finds an error, and this is the first error of its own check.
--- `Missing` names the smallest number of a missing call. For `Memory`, a failed allocation, nothing is required.
+-- Holds if the fault is the error to report: no earlier check finds an error, and the fault is the first error that its
+-- own check finds. `Missing` names the smallest number of a missing call. `Memory`, a failed allocation, can always be
+-- reported.
 abbrev pub IsFault : HistoryValue → List Placed → List ℕ → OrderFault → Type 0
 IsFault h order keys (Unknown number) = RefusesFirst (IsUnknown h.calls order) order number
 IsFault h order keys (Twice number) = Passes (IsUnknown h.calls order) order × RefusesFirst (IsTwice order) order number

@@ -10,30 +10,31 @@ use Rattle.lset_words.specs.History.{IsHistory, call_numbered}
 use Rattle.lset_history.specs.declared.fault.HistoryFault.{HistoryFault}
 use Rattle.lset_history.specs.declared.fault.HistoryFault.TheVariants.{NoThread, Busy, NotOpen, Time, Memory}
 
--- The value of a history: its calls, indexed by their numbers, and the threads, quota and opening keys of the set.
+-- The value of a history: the calls, indexed by number, and the number of threads, the quota (the number of successful
+-- adds that one thread can make) and the opening keys of the set.
 pub record HistoryValue : Type 0 where
   pub opening : Opening
   pub calls : List CallRecord
 
--- Returns whether this thread has a pending call.
+-- Returns whether `thread` has a pending call.
 abbrev pub has_open : List CallRecord → ℕ → Bool
 has_open calls thread = list_any (λ x. x.thread == thread && is_none x.ended) calls
 
--- Holds if the moment is at least 1, and after the start and the end of every call in the history.
+-- Holds if the moment `at` is at least 1, and after the start and the end of every call.
 pub record IsLater (calls : List CallRecord) (at : ℕ) : Type 0 where
   pub counted : 0 < at
   pub begins : All (λ (x : CallRecord). x.begun < at) calls
   pub ends : All (λ (x : CallRecord). IfSome x.ended (λ (e : ℕ × Reply). e.0 < at)) calls
 
--- Holds if `thread` can begin a call at the moment `at`: the thread exists and has no pending call, and the moment is
--- later than all others of the history.
+-- Holds if `thread` can begin a call at the moment `at`: the thread exists and has no pending call, and `at` is after
+-- all moments in the history.
 pub record MayBegin (h : HistoryValue) (thread at : ℕ) : Type 0 where
   pub of_a_thread : thread < h.opening.threads
   pub idle : has_open h.calls thread ≡ false
   pub later : IsLater h.calls at
 
--- Holds if this error is the first reason why the thread cannot begin a call. `Memory`, a failed allocation, is a
--- reason only if the call could begin.
+-- Holds if the fault is the first reason why `thread` cannot begin a call. `Memory`, a failed allocation, is a reason
+-- only if the call could begin otherwise.
 abbrev pub CannotBegin : HistoryValue → ℕ → ℕ → HistoryFault → Type 0
 CannotBegin h thread at NoThread = h.opening.threads ≤ thread
 CannotBegin h thread at Busy = (thread < h.opening.threads) × (has_open h.calls thread ≡ true)
@@ -44,7 +45,7 @@ CannotBegin h thread at Memory = MayBegin h thread at
 abbrev pub with_begun : HistoryValue → CallRecord → HistoryValue
 with_begun h x = record h { calls = h.calls ++ x ∷ [] }
 
--- Holds if the history has a call with this number, and this call is pending.
+-- Holds if the history has a call numbered `number`, and the call is pending.
 pub record IsOpen (calls : List CallRecord) (number : ℕ) : Type 0 where
   pub known : number < length calls
   pub not_ended : (call_numbered calls number).ended ≡ None
@@ -53,8 +54,8 @@ pub record MayEnd (h : HistoryValue) (number at : ℕ) : Type 0 where
   pub open_call : IsOpen h.calls number
   pub later : IsLater h.calls at
 
--- Holds if this error is the first reason why the call cannot end. Ending a call does not allocate, so `Memory` is
--- never a reason.
+-- Holds if the fault is the first reason why the call cannot end. `Memory` is never a reason, since ending a call does
+-- not allocate.
 abbrev pub CannotEnd : HistoryValue → ℕ → ℕ → HistoryFault → Type 0
 CannotEnd h number at NotOpen = IsOpen h.calls number → ⊥
 CannotEnd h number at Time = IsOpen h.calls number × (IsLater h.calls at → ⊥)
@@ -62,7 +63,7 @@ CannotEnd h number at NoThread = ⊥
 CannotEnd h number at Busy = ⊥
 CannotEnd h number at Memory = ⊥
 
--- Returns the call `x`, completed with the moment and the reply in `end`.
+-- Returns the call `x`, completed with the moment and reply in `end`.
 abbrev pub ended_with : CallRecord → ℕ × Reply → CallRecord
 ended_with x end = record x { ended = Some end }
 

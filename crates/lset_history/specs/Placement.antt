@@ -1,4 +1,5 @@
--- [Placement]: the order of a run's calls by their linearization points (the moments when the calls take effect).
+-- The placement of a run: the order of its calls by their linearization points (the moments when the calls take
+-- effect).
 use Rattle.std.specs.Prelude.{◌≡◌, ℕ, suc, ◌+◌, ◌*◌, ◌<◌, ◌≤◌, ◌⊎◌, Bool, true, false, if◌then◌else◌, List, [], ◌∷◌, map, length}
 use Rattle.std.specs.Prelude.{Option, Some, None, AllPairs, slice_index_or}
 use Rattle.std.specs.List.Sorted.{IsPermutation}
@@ -9,7 +10,7 @@ use Rattle.lset_words.specs.declared.history.Placed.{Placed}
 use Rattle.lset_words.specs.Log.{TracedCall}
 use Rattle.lset_words.specs.Account.{Contents, Counts, Fits}
 
--- Holds if `moment` is the first moment of the call `x`, from its start to its end, when its reply is correct.
+-- Holds if `moment` is the first moment, from the start to the end of the call `x`, when the reply of `x` is correct.
 pub record IsSmallestFit (quota : ℕ) (contents : Contents) (counts : Counts) (x : TracedCall) (end : ℕ) (reply : Reply)
     (moment : ℕ) : Type 0 where
   pub from : x.begun ≤ moment
@@ -17,9 +18,9 @@ pub record IsSmallestFit (quota : ℕ) (contents : Contents) (counts : Counts) (
   pub fits : Fits quota (contents moment) (counts moment x.thread) x.call reply
   pub smallest : (m : ℕ) → x.begun ≤ m → m < moment → Fits quota (contents m) (counts m x.thread) x.call reply → ⊥
 
--- Holds if `place` is the moment of a call's linearization point. If the call has changed the set, this is the moment
--- of the change. If the call is completed and changed nothing, this is the first moment when its reply is correct. A
--- pending call without a change has no linearization point (`None`).
+-- Holds if `place` is the moment of a call's linearization point. If the call has changed the set, the point is the
+-- moment of the change. If the call is completed and has not changed the set, the point is the first moment when the
+-- call's reply is correct. A pending call that has not changed the set has no linearization point (`None`).
 abbrev pub StandsBy : ℕ → Contents → Counts → TracedCall → Option ℕ → Option (ℕ × Reply) → Option ℕ → Type 0
 StandsBy quota contents counts x (Some changed) ended place = place ≡ Some changed
 StandsBy quota contents counts x None None place = place ≡ None
@@ -29,7 +30,7 @@ StandsBy quota contents counts x None (Some end) place =
 abbrev pub StandsAt : ℕ → Contents → Counts → TracedCall → Option ℕ → Type 0
 StandsAt quota contents counts x place = StandsBy quota contents counts x x.changed x.ended place
 
--- A call that has a linearization point, with its number in the history and the moment of its point.
+-- A call that has a linearization point, with the call's number in the history and the moment of the point.
 pub record Standing : Type 0 where
   pub number : ℕ
   pub traced : TracedCall
@@ -40,8 +41,8 @@ reply_by (Some changed) ended = True
 reply_by None None = True
 reply_by None (Some end) = end.1
 
--- Returns the element of the order for this call: the call's number and its reply. The reply of a call that changed
--- the set is `True`, even if the call is still pending.
+-- Returns the item of an order for a call: the call's number and reply. The reply of a call that changed the set is
+-- `True`, even if the call is still pending.
 abbrev pub placed_of : Standing → Placed
 placed_of s = record { call = s.number; reply = reply_by s.traced.changed s.traced.ended }
 
@@ -52,8 +53,8 @@ makes_change s = has s.traced.changed
     has None = false
     has (Some moment) = true
 
--- Returns the calls that have a linearization point, ordered by number. `places` has one entry for each call: the
--- moment of the linearization point, or `None`.
+-- Returns the calls that have a linearization point, ordered by number. `places` has one item for each call: the moment
+-- of the call's linearization point, or `None`.
 abbrev pub standing : ℕ → List TracedCall → List (Option ℕ) → List Standing
 standing number [] places = []
 standing number (x ∷ xs) [] = []
@@ -61,8 +62,9 @@ standing number (x ∷ xs) (None ∷ places) = standing (suc number) xs places
 standing number (x ∷ xs) (Some moment ∷ places) =
     record { number = number; traced = x; moment = moment } ∷ standing (suc number) xs places
 
--- Returns the rank of a call in the order. Calls are sorted by the moment of their linearization point. At one moment,
--- the call that changes the set comes before the calls that see the change. Calls of equal rank are sorted by number.
+-- Returns the rank of a call in the order. Calls are sorted by the moment of their linearization point. If several
+-- calls have the same moment, the call that changes the set precedes the calls that read the set. Calls of equal rank
+-- are sorted by number.
 abbrev pub rank_of : Standing → ℕ
 rank_of s = if makes_change s then 2 * s.moment else 2 * s.moment + 1
 
@@ -78,8 +80,8 @@ traced_at calls number = slice_index_or calls number no_traced
 abbrev pub place_at : List (Option ℕ) → ℕ → Option ℕ
 place_at places number = slice_index_or places number None
 
--- Holds if the order is the placement of these calls: it lists all calls that have a linearization point, sorted by
--- this point.
+-- Holds if `order` is the placement of `calls`: all calls that have a linearization point, sorted by linearization
+-- point.
 pub record IsPlacement (quota : ℕ) (calls : List TracedCall) (contents : Contents) (counts : Counts)
     (order : List Placed) : Type 0 where
   -- The moment of each call's linearization point, or `None`.
@@ -87,7 +89,7 @@ pub record IsPlacement (quota : ℕ) (calls : List TracedCall) (contents : Conte
   pub one_each : length places ≡ length calls
   pub stands : (number : ℕ) → number < length calls
       → StandsAt quota contents counts (traced_at calls number) (place_at places number)
-  -- The calls that have a linearization point, sorted by this point.
+  -- The calls that have a linearization point, sorted by linearization point.
   pub sorted : List Standing
   pub moved : IsPermutation (standing 0 calls places) sorted
   pub rises : AllPairs ComesBefore sorted

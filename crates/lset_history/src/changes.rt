@@ -32,19 +32,19 @@ use std::collections::{BTreeMap, BTreeSet};
 use std::marker::Model;
 use std::ops::Bound;
 
-/// The changes of a set's keys in time: for each key, the moments when it was added and removed. A moment is a number
-/// that dates an event, from 1. At moment 0, before all events, the set has exactly its opening keys.
+/// The changes of a set over time: the moments when each key was added and removed. A moment is a number that dates an
+/// event, from 1. At moment 0, before all events, the set has exactly the opening keys.
 #[derive(Drop)]
 pub struct Changes {
     alloc: Global,
-    /// The opening keys (in the set before all events), in increasing order. `moments` and `keys_at` cover only the
-    /// later changes.
+    /// The opening keys (the keys in the set before all events), in increasing order. `moments` and `keys_at` contain
+    /// only later changes.
     opening: Vec<u32>,
-    /// Maps each key that was added or removed after the start to the moments of these changes, in increasing order. A
-    /// key is alternately added and removed.
+    /// Maps each key that was added or removed to the moments of its changes, in increasing order. Additions and
+    /// removals of a key alternate.
     moments: BTreeMap<u32, Vec<u32>>,
-    /// Maps the moment of each change to the key that changed. If an allocation fails in `note`, this map and
-    /// `keys_now` can keep an extra entry, for a change that was not recorded.
+    /// Maps the moment of each change to the key that changed. If an allocation fails in `note`, `keys_at` and
+    /// `keys_now` can keep a surplus entry for a change that was not recorded.
     keys_at: BTreeMap<u32, u32>,
     /// The keys that the set has after the last change.
     keys_now: BTreeSet<u32>,
@@ -60,7 +60,7 @@ impl Model for Changes {
     ghost invariant = { λ c. AreKept (changes_in c.opening.items c.moments) c.keys_at c.keys_now };
 }
 
-/// Returns how many of `moments` are at or before `at`, and how many of them the binary search compared with `at`.
+/// Returns how many items of `moments` are at or before `at`, and how many items the binary search compared with `at`.
 /// `moments` must increase strictly.
 fn count_upto(moments: &[u32], at: u32) -> (usize, u32)
     requires { IsStrictlyIncreasing moments.now }
@@ -92,8 +92,8 @@ fn is_past(end: Option<u32>, key: u32) -> bool
     }
 }
 
-/// Records that `key` was added or removed at the moment `at`. If an allocation fails, returns `AllocError` and
-/// changes nothing.
+/// Records that `key` was added or removed at the moment `at`. If an allocation fails, returns `AllocError` and leaves
+/// `moments` unchanged.
 fn push_moment(
     moments: &mut BTreeMap<u32, Vec<u32>>,
     alloc: Global,
@@ -115,8 +115,7 @@ fn push_moment(
 }
 
 impl Changes {
-    /// Returns a record without changes, for a set that is empty before the first event. Does not allocate; later
-    /// calls use `alloc`.
+    /// Returns a `Changes` without changes, for a set without opening keys. Does not allocate; later calls use `alloc`.
     pub fn new(alloc: Global) -> Changes
         ensures { result ≡ no_changes }
     {
@@ -129,8 +128,8 @@ impl Changes {
         }
     }
 
-    /// Returns a record without changes, for a set that has exactly `keys` before the first event. `keys` must
-    /// increase strictly. Allocates a copy of the keys; returns `AllocError` if that fails.
+    /// Returns a `Changes` without changes, for a set with the opening keys `keys`, which must increase strictly.
+    /// Allocates a copy of `keys`. Returns `AllocError` if the allocation fails.
     pub fn opened(alloc: Global, keys: &[u32]) -> Result<Changes, AllocError>
         requires { IsStrictlyIncreasing keys.now }
         ensures { IfOk result (λ c. (k : ℕ) → moments_of c k ≡ opened_moments keys.now k) }
@@ -145,18 +144,18 @@ impl Changes {
         })
     }
 
-    /// Records that `key` was added (`present` is true) or removed at the moment `at`. `at` must be above 0 and after
-    /// every recorded moment. A key that is added must be absent, a key that is removed must be present. Can allocate.
-    /// If an allocation fails, returns `AllocError` and records nothing.
+    /// Records that `key` was added (if `present` is true) or removed at the moment `at`. `at` must be above 0 and
+    /// after every recorded moment. A key that is added must be absent; a key that is removed must be present. Can
+    /// allocate. If an allocation fails, returns `AllocError` and records no change.
     pub fn note(&mut self, key: u32, present: bool, at: u32) -> Result<(), AllocError>
         requires later { IsLaterThanAll (moments_of self.old) at }
         requires turn { present ≡ not (is_present_now (moments_of self.old) key) }
         ensures noted { OnOk result ((k : ℕ) → moments_of self.new k ≡ with_change (moments_of self.old) key at k) }
         ensures unchanged { OnErr result (self.new ≡ self.old) }
     {
-        // The key is inserted into both indexes before its change is recorded. A removed key is taken out of
-        // `keys_now` only afterwards. An index can therefore have a surplus entry after a failed allocation, but never
-        // lacks one.
+        // `key` is inserted into both indexes before its change is recorded. A removed key is removed from `keys_now`
+        // only afterwards. After a failed allocation, an index can therefore have a surplus entry, but no entry is
+        // missing.
         self.keys_at.insert(at, key)?;
         self.keys_now.insert(key)?;
         push_moment(&mut self.moments, self.alloc, key, at)?;
@@ -166,13 +165,13 @@ impl Changes {
         Ok(())
     }
 
-    /// Searches for the first moment from `from` to `to` when `key` is present (if `present` is true) or absent.
-    /// Returns this moment, or `None`, and the number of recorded moments that the search compared. `from` must be at
-    /// most `to`.
+    /// Searches for the first moment from `from` to `to` when `key` is present (if `present` is true) or absent
+    /// (otherwise). Returns the moment, or `None`, and the number of recorded moments that the search compared. `from`
+    /// must be at most `to`.
     ///
-    /// The binary search compares at most 24 moments if the key changed at most 1,000,000 times. If the key changed n
+    /// If the key changed at most 1,000,000 times, the binary search compares at most 24 moments. If the key changed n
     /// times after moment 0, the search compares at least log2(n + 1) moments, rounded down. No search by comparisons
-    /// can guarantee fewer. Does not allocate.
+    /// can guarantee fewer comparisons. Does not allocate.
     pub fn first(&self, key: u32, present: bool, from: u32, to: u32) -> (Option<u32>, u32)
         requires { from ≤ to }
         ensures first { IsFirst (λ m. is_present (moments_of self.now) key m ≡ present) from to result.0 }
@@ -199,7 +198,7 @@ impl Changes {
         upto > 0 && self.opening[upto - 1] == key
     }
 
-    /// Returns the moments when `key` was added or removed after the start, in increasing order.
+    /// Returns the moments when `key` was added or removed after moment 0, in increasing order.
     fn noted(&self, key: u32) -> &[u32]
         ensures value { result.now ≡ noted_of self.now key }
         ensures increases { IsStrictlyIncreasing result.now }
@@ -216,8 +215,9 @@ impl Changes {
         self.first(key, true, moment, moment).0.is_some()
     }
 
-    /// Returns the first entry of `keys_at` after `moment`: a moment, and the only key that could have changed at that
-    /// moment. No key changed between `moment` and the result. Returns `None` if no change comes after `moment`.
+    /// Returns the first entry of `keys_at` after `moment`: a moment, and the only key that can have changed at this
+    /// moment. No key changed between `moment` and the moment of the entry. Returns `None` if no change comes after
+    /// `moment`.
     fn note_after(&self, moment: u32) -> Option<(u32, u32)>
         ensures { IsNextNote (moments_of self.now) moment result }
     {
@@ -240,9 +240,9 @@ impl Changes {
         }
     }
 
-    /// Returns whether key `other` is a counterexample to this claim: at `moment`, `found` is the smallest key of the
-    /// set at or above `key`. (`None` claims that there is no such key.) A key from `key` to just below `found` is a
-    /// counterexample if it is present; `found` itself is one if it is absent.
+    /// Returns whether key `other` refutes the claim that `found` is the smallest key of the set at or above `key` at
+    /// `moment`. If `found` is `None`, the claim is that there is no such key. A key from `key` to just below `found`
+    /// refutes the claim if it is present; `found` itself refutes the claim if it is absent.
     fn is_against(&self, key: u32, found: Option<u32>, other: u32, moment: u32) -> bool
         ensures { result ≡ is_against (moments_of self.now) key found other moment }
     {
@@ -254,17 +254,18 @@ impl Changes {
         }
     }
 
-    /// Returns the only moment, from `from` on, that can be the first moment when `found` is the smallest key at or
-    /// above `key`. At each earlier moment, some key refutes this claim (see `is_against`). A key that refutes the
-    /// claim at the returned moment also refutes it at all later moments.
+    /// Returns the only moment, from `from` on, that can be the first moment when `found` is the smallest key of the
+    /// set at or above `key`. At each earlier moment from `from` on, some key refutes the claim that `found` is this
+    /// key (see `is_against`). A key that refutes the claim at the returned moment also refutes it at all later
+    /// moments.
     fn candidate(&self, key: u32, found: Option<u32>, from: u32) -> u32
         ensures { IsCandidate (moments_of self.now) key found from result }
     {
         let mut moment = from;
         let mut last = from;
         while let Some((at, noted)) = self.note_after(last) {
-            // A key that refutes the claim at `moment` refutes it until the key is added or removed. The only key that
-            // can change at the moment `at` is `noted`.
+            // A key that refutes the claim at `moment` continues to refute it until the key is added or removed. The
+            // only key that can change at the moment `at` is `noted`.
             if self.is_against(key, found, noted, moment) {
                 moment = at;
             }
@@ -273,9 +274,8 @@ impl Changes {
         moment
     }
 
-    /// Compares the keys from `key` to just below `end` after the last change and at `moment`. If the result is
-    /// `true`, each key present after the last change was absent at `moment`. If it is `false`, some key was present
-    /// at `moment`.
+    /// Returns `true` only if each key from `key` to just below `end` that is present after the last change was absent
+    /// at `moment`. Returns `false` only if some key from `key` to just below `end` was present at `moment`.
     fn came_after(&self, key: u32, end: Option<u32>, moment: u32) -> bool
         ensures came { IsTrue result → CameAfter (moments_of self.now) key end moment }
         ensures there { result ≡ false → IsSomeThere (moments_of self.now) key end moment }
@@ -293,12 +293,12 @@ impl Changes {
         true
     }
 
-    /// Returns the first moment from `from` to `to` when `found` is the smallest key of the set at or above `key` (if
-    /// `found` is `None`: when no such key is in the set). Returns `None` if there is no such moment. `from` must be
-    /// at most `to`.
+    /// Returns the first moment from `from` to `to` when `found` is the smallest key of the set at or above `key`. If
+    /// `found` is `None`, returns the first moment when the set contains no key at or above `key`. Returns `None` if
+    /// there is no such moment. `from` must be at most `to`.
     ///
     /// Reads all changes after `from`, even those after `to`. A caller should therefore search before it records
-    /// changes after `to`: all its searches together then take time proportional to the sum of their ranges. Does not
+    /// changes after `to`: all searches together then take time proportional to the sum of their ranges. Does not
     /// allocate.
     pub fn first_ceiling(&self, key: u32, found: Option<u32>, from: u32, to: u32) -> Option<u32>
         requires { from ≤ to }

@@ -10,7 +10,7 @@ use crate::{History, Oracle, OrderFault};
 use lset_words::{CallRecord, Placed, Reply};
 use std::alloc::{AllocError, Global};
 
-/// Returns the number of the first call in the order that is not in the history, or `None` if all are in the history.
+/// Returns the number of the first call in the order that is not in the history, or `None` if all are.
 fn first_unknown(calls: &[CallRecord], order: &[Placed]) -> Option<u32>
     ensures { MatchOption result
         (HasKnownCalls calls.now order.now)
@@ -24,9 +24,9 @@ fn first_unknown(calls: &[CallRecord], order: &[Placed]) -> Option<u32>
     None
 }
 
-/// Returns the number of the first call that occurs a second time in the order. `placed` must have one mark for each
-/// call of the history, all false. If no call occurs twice, `placed` is afterwards true for each call in the order,
-/// and false for all others.
+/// Returns the number of the first call that occurs a second time in the order, or `None`. `placed` must have one mark
+/// for each call of the history, all false. If the result is `None`, exactly the marks of the calls in the order are
+/// then true.
 fn first_twice(order: &[Placed], placed: &mut [bool]) -> Option<u32>
     requires known { All (λ (p : Placed). p.call < length placed.old) order.now }
     requires none_set { All (λ (mark : Bool). mark ≡ false) placed.old }
@@ -45,8 +45,8 @@ fn first_twice(order: &[Placed], placed: &mut [bool]) -> Option<u32>
     None
 }
 
-/// Returns the smallest number of a completed call that is not in the order. `placed` contains a mark for each call of
-/// the history: true if the call is in the order.
+/// Returns the smallest number of a completed call that is not in the order, or `None`. `placed` has one mark for each
+/// call of the history: true if the call is in the order.
 fn first_missing(calls: &[CallRecord], placed: &[bool]) -> Option<u32>
     requires few { length calls.now < 2 ^ 32 }
     requires each { length placed.now ≡ length calls.now }
@@ -62,8 +62,8 @@ fn first_missing(calls: &[CallRecord], placed: &[bool]) -> Option<u32>
     None
 }
 
-/// Returns whether `reply` is right: the history does not record a different reply for the call, and `oracle`, the
-/// sequential set, returns `reply` to the call. If the result is `true`, `oracle` is the set after the call.
+/// Returns whether `reply` is correct: the history does not record a different reply for the call, and `oracle` (the
+/// sequential set) returns `reply`. If the result is `true`, `oracle` is the set after the call.
 fn has_reply(oracle: &mut Oracle, call_record: CallRecord, reply: Reply) -> Result<bool, AllocError>
     requires { call_record.thread < oracle.old.threads }
     ensures answers { IfOk result (λ right. MatchBool right
@@ -79,9 +79,9 @@ fn has_reply(oracle: &mut Oracle, call_record: CallRecord, reply: Reply) -> Resu
     Ok(oracle.apply(call_record.thread, call_record.call)? == reply)
 }
 
-/// Applies the calls to `oracle`, the sequential set, in the given order. Returns the number of the first call with a
-/// wrong reply, or `None`. A reply is wrong if it differs from the reply in the history, or from the set's reply after
-/// the earlier calls.
+/// Applies the calls to `oracle` (the sequential set) in the given order. Returns the number of the first call with a
+/// wrong reply, or `None`. A reply is wrong if it differs from the reply in the history, or from the reply of `oracle`
+/// after the preceding calls.
 pub(crate) fn first_wrong_reply(
     oracle: &mut Oracle,
     calls: &[CallRecord],
@@ -108,7 +108,7 @@ fn is_below(end: Option<u32>, moment: u32) -> bool
     end.is_some_and(|end| end < moment)
 }
 
-/// Returns the earlier of two moments: `smallest`, and the end of a call (`ended`). Each of them can be missing
+/// Returns the earlier of `smallest` and the moment when a call ends, which is in `ended`. Either can be absent
 /// (`None`).
 fn lesser(smallest: Option<u32>, ended: Option<(u32, Reply)>) -> Option<u32>
     ensures { result ≡ smallest_with smallest ended }
@@ -141,23 +141,23 @@ fn first_too_early(calls: &[CallRecord], order: &[Placed]) -> Option<u32>
     early
 }
 
-/// Checks that `order` explains the calls of `history`, with `keys` as the final keys.
+/// Checks whether `order` explains the calls of `history` and leaves `keys` as the final keys.
 ///
-/// `Ok` means that the order linearizes the history (Herlihy and Wing, with completion of pending calls) for the
-/// sequential set with the history's threads, quota and opening keys, and that `keys` are the keys of this set after
-/// all calls, in strictly increasing order. The command `check` calls this function (`src/check_command.rt` of
-/// `tool_replay`).
+/// `Ok` means that the order linearizes the history (as defined by Herlihy and Wing, with completion of pending calls)
+/// for the sequential set with the history's threads, quota and opening keys, and that `keys` are the keys of the
+/// sequential set after all calls, in strictly increasing order. The command `check` calls this function
+/// (`src/check_command.rt` of `tool_replay`).
 ///
 /// # Errors
 ///
-/// Returns the first of these that applies. The whole order is searched for one kind of error before the next kind:
-/// - `Unknown`: the history has no call with this number;
+/// Returns the first error that applies. The whole order is searched for one kind of error before the next kind:
+/// - `Unknown`: the history has no call with the number in the order;
 /// - `Twice`: the call is in the order twice;
-/// - `Missing`: this call is completed and not in the order; if several calls are missing, the smallest number;
-/// - `WrongReply`: the history records another reply, or the sequential set returns another reply after the order's
-///   earlier calls;
-/// - `TooEarly`: a later call of the order had ended before this call began;
-/// - `WrongSet`: `keys` are not the final keys after the order's calls, in strictly increasing order.
+/// - `Missing`: the call is completed but not in the order; if several calls are missing, the smallest number;
+/// - `WrongReply`: the reply in the order differs from the reply in the history, or from the sequential set's reply
+/// after the preceding calls;
+/// - `TooEarly`: a later call of the order had ended before the call began;
+/// - `WrongSet`: `keys` are not the keys of the sequential set after all calls, in strictly increasing order.
 ///
 /// Returns `Memory`, in place of any other result, if an allocation fails. With n calls in the order, c calls in the
 /// history and at most k keys in the set, the check takes about `c + n log k` steps. Does not block.

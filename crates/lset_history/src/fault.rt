@@ -4,20 +4,21 @@ ghost use Rattle.lset_history.specs.declared.fault.OrderFault.TheVariants.{Memor
 use std::alloc::AllocError;
 use thiserror::Error;
 
-/// An error of `History::begin` or `History::end`. If several errors apply, the first in this order is returned. The
-/// history is then unchanged.
+/// An error of `History::begin` or `History::end`. If several errors apply, the first in the order of the variants is
+/// returned. An error leaves the history unchanged.
 #[derive(Clone, Copy, Debug, PartialEq, Eq, Error)]
 pub enum HistoryFault {
-    /// No thread of the history has this number.
+    /// The history has no thread with the given number.
     #[error("no such thread")]
     NoThread,
     /// The thread already has a pending call.
     #[error("the thread already has a pending call")]
     Busy,
-    /// No call of the history has this number, or the call has already ended.
+    /// The history has no call with the given number, or the call has already ended.
     #[error("no pending call has this number")]
     NotOpen,
-    /// The moment (a number that dates the start or the end of a call) is 0, or not after every earlier start and end.
+    /// The moment (a number that dates the start or the end of a call) is 0, or is not after every earlier start and
+    /// end.
     #[error("the moment is 0, or not above every earlier one")]
     Time,
     /// An allocation failed.
@@ -25,24 +26,24 @@ pub enum HistoryFault {
     Memory,
 }
 
-/// The first error in an order of calls, with the number of the call. The whole order is searched for one kind of
-/// error before the next kind. Of several errors of one kind, the first in the order is reported.
+/// The first error in an order of calls, with the number of the call. The whole order is searched for one kind of error
+/// before the next kind. If several errors are of the same kind, the first in the order is reported.
 #[derive(Clone, Copy, Debug, PartialEq, Eq, Error)]
 pub enum OrderFault {
-    /// The history has no call with this number.
+    /// The history has no call with the given number.
     #[error("no call has the number {0}")]
     Unknown(u32),
     /// The call is in the order more than once.
     #[error("call {0} is in the order twice")]
     Twice(u32),
-    /// This completed call is not in the order. If several calls are missing, the smallest number is reported.
+    /// The completed call is not in the order. If several calls are missing, the smallest number is reported.
     #[error("call {0} has ended and is not in the order")]
     Missing(u32),
-    /// The history records a different reply for this call, or the sequential set returns a different reply after the
-    /// earlier calls of the order.
+    /// The reply in the order differs from the reply in the history, or from the sequential set's reply after the
+    /// preceding calls of the order.
     #[error("call {0} has another reply")]
     WrongReply(u32),
-    /// In the order, this call comes before a call that had already ended when this call began.
+    /// In the order, the call precedes a call that had already ended when the call began.
     #[error("call {0} is ordered before a call that had ended before call {0} began")]
     TooEarly(u32),
     /// The final keys differ from the keys of the sequential set after all calls, or do not increase strictly.

@@ -10,8 +10,8 @@ use std::alloc::{AllocError, Global};
 use std::fmt;
 use std::marker::Model;
 
-/// A history of calls (Herlihy and Wing): each call's thread, start, end and reply. Calls are numbered from 0, ordered
-/// by start. The moments of starts and ends are numbers from 1. Each start and each end has a moment of its own.
+/// A history of calls (as defined by Herlihy and Wing): the thread, start, end and reply of each call. Calls are
+/// numbered from 0, ordered by start. Moments are numbers from 1. No two starts or ends have the same moment.
 #[derive(Drop)]
 pub struct History {
     threads: u32,
@@ -59,8 +59,9 @@ fn last_moment(call_record: &CallRecord) -> u32
 }
 
 impl History {
-    /// Returns a history without calls, for a set that is empty at the start, with `threads` threads (1 to 64) and a
-    /// quota of `quota` successful adds each (0 to 16,384). Does not allocate; later calls use `alloc`.
+    /// Returns a history without calls, for a set without opening keys. `threads` is the number of threads (1 to 64);
+    /// `quota` is the number of successful adds that each thread can make (0 to 16,384). Does not allocate; later calls
+    /// use `alloc`.
     pub fn new(alloc: Global, threads: u32, quota: u32) -> History
         requires { IsWithin (record { threads = threads; quota = quota; opening = 0 }) }
         ensures { result ≡ record { opening = empty threads quota; calls = [] } }
@@ -68,9 +69,9 @@ impl History {
         History::opened(alloc, threads, quota, Vec::new(alloc))
     }
 
-    /// Returns a history without calls, for a set that starts with the keys `opening`: at most 1,048,576 keys in
-    /// strictly increasing order. `threads` must be 1 to 64, `quota` 0 to 16,384. Takes ownership of the vector and
-    /// does not allocate.
+    /// Returns a history without calls, for a set with the opening keys `opening`: at most 1,048,576 keys in strictly
+    /// increasing order. `threads` is the number of threads (1 to 64); `quota` is the number of successful adds that
+    /// each thread can make (0 to 16,384). Takes ownership of `opening` and does not allocate.
     pub fn opened(alloc: Global, threads: u32, quota: u32, opening: Vec<u32>) -> History
         requires within { IsWithin (record { threads = threads; quota = quota; opening = length opening.items }) }
         requires rising { IsStrictlyIncreasing opening.items }
@@ -91,7 +92,7 @@ impl History {
     }
 
     /// Replaces the opening keys of the set, and keeps the calls. `opening` must have at most 1,048,576 keys in
-    /// strictly increasing order. Takes ownership of the vector and does not allocate.
+    /// strictly increasing order. Takes ownership of `opening` and does not allocate.
     pub fn reopen(&mut self, opening: Vec<u32>)
         requires within { IsWithin (record {
           threads = self.old.opening.threads;
@@ -105,10 +106,10 @@ impl History {
         self.opening = opening;
     }
 
-    /// Appends a call, pending or completed, to the history. The call must satisfy `MayFollow`. It begins after the
-    /// start of every other call, and after all earlier calls of its thread have ended. No other call begins or ends at
-    /// the moment when it begins or ends. Can allocate. If an allocation fails, returns `AllocError` and changes
-    /// nothing.
+    /// Appends a pending or completed call to the history. The call must satisfy `MayFollow`: it begins after all other
+    /// calls have begun and all earlier calls of its thread have ended, and no other call begins or ends at the moment
+    /// when it begins or ends. Can allocate. If an allocation fails, returns `AllocError` and leaves the history
+    /// unchanged.
     pub fn push(&mut self, call_record: CallRecord) -> Result<(), AllocError>
         requires { MayFollow self.old.opening.threads self.old.calls call_record }
         ensures pushed { OnOk result (self.new ≡ with_begun self.old call_record) }
@@ -120,13 +121,13 @@ impl History {
         Ok(())
     }
 
-    /// Records that thread `thread` begins a call at the moment `at`. Returns the call's number: 0 for the first call
-    /// of the history, 1 for the second, and so on. Can allocate.
+    /// Records that `thread` begins a call at the moment `at`. Returns the call's number: 0 for the first call of the
+    /// history, 1 for the second, and so on. Can allocate.
     ///
     /// # Errors
     ///
-    /// Returns the first that applies. The history is then unchanged:
-    /// - `NoThread`: the history has no such thread;
+    /// Returns the first error that applies, and leaves the history unchanged:
+    /// - `NoThread`: the history has no thread with the number `thread`;
     /// - `Busy`: the thread already has a pending call;
     /// - `Time`: `at` is 0, or not after every earlier moment;
     /// - `Memory`: an allocation failed.
@@ -164,7 +165,7 @@ impl History {
     ///
     /// # Errors
     ///
-    /// Returns the first that applies. The history is then unchanged:
+    /// Returns the first error that applies, and leaves the history unchanged:
     /// - `NotOpen`: the call does not exist, or has already ended;
     /// - `Time`: `at` is 0, or not after every earlier moment.
     pub fn end(&mut self, id: u32, reply: Reply, at: u32) -> Result<(), HistoryFault>
@@ -210,7 +211,7 @@ impl History {
         self.threads
     }
 
-    /// Returns the quota of each thread, 0 to 16,384.
+    /// Returns the quota (the number of successful adds that each thread can make), 0 to 16,384.
     pub fn quota(&self) -> u32
         ensures value { result ≡ self.now.opening.quota }
         ensures opens { Opens self.now.opening }

@@ -1,6 +1,6 @@
-//! The sequential set, histories of calls, the check of an order of calls, and placement: the order of a run's calls by
-//! their linearization points, with the theorem that this order linearizes the history. Nothing in this crate mentions
-//! nodes, links, locks or marks of a list.
+//! The sequential set, histories of calls, and the check of an order of calls. The crate also contains placement, the
+//! order of a run's calls by their linearization points, and the theorem that a placement linearizes the history.
+//! Nothing in the crate depends on the nodes, links, locks or marks of a list.
 #![tactic(auto)]
 
 mod changes;

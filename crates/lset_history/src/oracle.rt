@@ -28,8 +28,8 @@ fn tree_of(alloc: Global, keys: &[u32]) -> Result<BTreeSet<u32>, AllocError>
     Ok(tree)
 }
 
-/// The sequential set (Herlihy and Shavit's interface) with a quota for each thread: the set's keys, and the number of
-/// successful adds of each thread.
+/// The sequential set (with Herlihy and Shavit's interface) with a quota: the keys of the set, and the number of
+/// successful adds of each thread. The quota is the number of successful adds that each thread can make.
 #[derive(Drop)]
 pub struct Oracle {
     alloc: Global,
@@ -49,16 +49,17 @@ impl Model for Oracle {
 }
 
 impl Oracle {
-    /// Returns the empty set for `threads` threads, each with a quota of `quota` successful adds. Accepts any numbers.
-    /// Allocates a counter for each thread. If that fails, returns `AllocError`.
+    /// Returns the empty set for `threads` threads, each of which can make `quota` successful adds. Accepts any
+    /// numbers. Allocates a counter for each thread. Returns `AllocError` if an allocation fails.
     pub fn new(alloc: Global, threads: u32, quota: u32) -> Result<Oracle, AllocError>
         ensures { IfOk result (λ o. o ≡ set_opened (empty threads quota)) }
     {
         Oracle::opened(alloc, threads, quota, &[])
     }
 
-    /// Returns a set that contains `keys`, which must be in strictly increasing order. These opening keys do not count
-    /// toward a thread's quota. Accepts any `threads` and `quota`. Allocates. If that fails, returns `AllocError`.
+    /// Returns a set with the opening keys `keys`, which must be in strictly increasing order and do not count toward a
+    /// thread's quota (the number of successful adds that each thread can make). Accepts any `threads` and `quota`.
+    /// Allocates. Returns `AllocError` if an allocation fails.
     pub fn opened(
         alloc: Global,
         threads: u32,
@@ -77,8 +78,8 @@ impl Oracle {
         })
     }
 
-    /// Returns the set in its opening state, before the first call of `history`. Allocates. If that fails, returns
-    /// `AllocError`.
+    /// Returns the set in its opening state, before the first call of `history`. Allocates. Returns `AllocError` if an
+    /// allocation fails.
     pub(crate) fn before(alloc: Global, history: &History) -> Result<Oracle, AllocError>
         ensures { IfOk result (λ o. o ≡ set_opened history.now.opening) }
     {
@@ -87,13 +88,13 @@ impl Oracle {
 
     /// Applies `call` of thread `thread`, which must be below the number of threads, to the set. Returns the reply.
     ///
-    /// - `Add` replies `False` if the key is present; otherwise `Full` if the thread has used up its quota of adds, and
-    ///   `True` if not.
-    /// - `Remove` and `Contains` reply `True` if the key is present, and otherwise `False`.
-    /// - `Ceiling` replies `At` with the smallest key at or above its argument, or `Nothing` if no key is.
+    /// - `Add` returns `False` if the key is present; otherwise `Full` if the thread has used up its quota (the number
+    /// of successful adds that each thread can make), else `True`.
+    /// - `Remove` and `Contains` return `True` if the key is present, else `False`.
+    /// - `Ceiling` returns `At` with the smallest key at or above its argument, or `Nothing` if there is no such key.
     ///
-    /// Only an `Add` or a `Remove` that replies `True` changes the set. Only such an `Add` allocates. If the
-    /// allocation fails, returns `AllocError` and changes nothing.
+    /// Only an `Add` or a `Remove` that returns `True` changes the set. Only an `Add` that returns `True` allocates. If
+    /// the allocation fails, returns `AllocError` and leaves the set unchanged.
     pub fn apply(&mut self, thread: u32, call: Call) -> Result<Reply, AllocError>
         requires { thread < self.old.threads }
         ensures answers { IfOk result (Answers self.old self.new thread call) }
@@ -147,8 +148,8 @@ impl Oracle {
         }
     }
 
-    /// Returns the keys of the set in strictly increasing order. Allocates one vector. If that fails, returns
-    /// `AllocError`.
+    /// Returns the keys of the set in strictly increasing order. Allocates one vector. Returns `AllocError` if the
+    /// allocation fails.
     pub fn keys(&self) -> Result<Vec<u32>, AllocError>
         ensures keys { IfOk result (λ v. v.items ≡ self.now.state.keys) }
         ensures rising { IsStrictlyIncreasing self.now.state.keys }

@@ -2,7 +2,7 @@ use Rattle.std.proofs.Common.{◌+◌, ◌-◌, ◌≤◌, ◌<◌, ◌^◌, ℕ
 use Rattle.std.specs.Prelude.{slice_index}
 use Rattle.lset_history.proofs.changes.count_upto.Given as goal
 
--- Loop invariant: the result is from `low` to `high`, and each comparison has halved this range.
+-- Loop invariant: the result is in the range from `low` to `high`, and each comparison has halved the range.
 abbrev pub invariant-loop-low : goal.invariant-loop-low
 invariant-loop-low l = record {
   inside : l.high ≤ length l.moments;

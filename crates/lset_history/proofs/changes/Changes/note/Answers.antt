@@ -14,7 +14,7 @@ invariant_of-self c = kept_listed (changes_in c.self.inside.opening.items c.self
     c.self.inside.keys_now
     c.in_err-insert.ensures.err c.self.invariant
 
--- If the second allocation fails, the invariant still holds: only `keys_at` got a new entry.
+-- If the second allocation fails, the invariant still holds: only `keys_at` has a new entry.
 pub invariant_of-self-in_err-insert-2 : goal.invariant_of-self-in_err-insert-2
 invariant_of-self-in_err-insert-2 c = kept_present (changes_in c.self.inside.opening.items c.self.inside.moments) c.insert.new.self c.self.inside.keys_now
     c.insert-2.new.self
@@ -22,7 +22,7 @@ invariant_of-self-in_err-insert-2 c = kept_present (changes_in c.self.inside.ope
     (kept_beside (changes_in c.self.inside.opening.items c.self.inside.moments) c.args.key c.args.at (rw (← c.self.view_is) at c.requires.later)
     c.self.inside.keys_at c.insert.new.self c.self.inside.keys_now c.in_ok-insert.ensures.updates c.self.invariant)
 
--- If recording the moment fails, the invariant still holds: `keys_at` and `keys_now` have a new entry each.
+-- If recording the moment fails, the invariant still holds: `keys_at` and `keys_now` each have a new entry.
 pub invariant_of-self-in_err-push_moment : goal.invariant_of-self-in_err-push_moment
 invariant_of-self-in_err-push_moment c = subst (λ d. AreKept d c.insert.new.self c.insert-2.new.self)
     (sym (c.in_err-push_moment.ensures.unchanged c.self.inside.opening.items))
