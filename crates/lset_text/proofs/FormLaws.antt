@@ -1,5 +1,5 @@
--- Proof that reading inverts writing for every form of line (a list of fields). Reading a line returns values if and
--- only if the line is the spelling of these values.
+-- Proof: reading inverts writing for every form of line (a list of fields). Reading a line yields values if and only if
+-- the line is the spelling of these values.
 use Rattle.std.proofs.Common.{◌≡◌, ℕ, ◌<◌, true, false, List, [], ◌∷◌, Option, Some, None, refl, ap, ◌∙◌, arith, codes, length}
 use Rattle.std.proofs.lemmas.Bool.{and_parts, and_left}
 use Rattle.std.specs.List.{AllByRecursion}

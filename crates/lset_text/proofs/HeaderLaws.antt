@@ -1,5 +1,5 @@
--- Proof that reading inverts writing for headers: reading returns a header if and only if the text begins with the
--- four lines of this header.
+-- Proof: reading inverts writing for headers. Reading a text yields a header if and only if the text begins with the
+-- four lines of the header.
 use Rattle.std.proofs.Common.{◌≡◌, Result, ℕ, ◌<◌, ◌≤◌, ◌^◌, true, List, [], ◌∷◌, ◌++◌, length, Option, Some, None, Ok, Err, refl}
 use Rattle.std.proofs.Common.{ap, subst, ◌∙◌, arith, codes}
 use Rattle.std.specs.Prelude.{option_map}
@@ -64,7 +64,7 @@ pub line_due_goes : (line : ℕ) (cause : Cause) (x : List ℕ) (parts : List (L
 line_due_goes line cause x [] h = absurd (omega arith)
 line_due_goes line cause x (y ∷ more) h = refl
 
--- A header line, and the parts of the text that follow it.
+-- A header line, and the parts of the text after the header line.
 abbrev Due : Type 0
 Due = List ℕ × List (List ℕ)
 
@@ -77,8 +77,8 @@ line_due_ok line cause [] due is = absurd cc
 line_due_ok line cause (rest ∷ []) due is = absurd cc
 line_due_ok line cause (a ∷ b ∷ more) due is = subst (IsDue (a ∷ b ∷ more)) (ok_is (a, b ∷ more) due is) (refl, omega arith)
 
--- Holds if `read` reads the value `told.0` from the first line. `told.1` contains the parts after this line, and is
--- not empty.
+-- Holds if `read` returns the value `told.0` for the first item of `parts`, and `told.1`, which is not empty, contains
+-- all other items.
 abbrev IsToldBy : {A : Type 0} → (List ℕ → Option A) → List (List ℕ) → A × List (List ℕ) → Type 0
 IsToldBy read parts told = (x : List ℕ) × (parts ≡ x ∷ told.1) × (read x ≡ Some told.0) × (0 < length told.1)
 
@@ -102,7 +102,7 @@ told_again line cause read x y more told is = rw is refl
 abbrev Found : Type 0
 Found = Header × List (List ℕ)
 
--- `after_quota` continues reading a header after its quota line. `after_threads`, `after_kind` and `after_title`
+-- `after_quota` continues reading a header after the quota line. `after_threads`, `after_kind` and `after_title`
 -- continue after the threads line, the kind line and the title.
 abbrev after_quota : Kind → ℕ → ℕ × List (List ℕ) → Result Found LineFault
 after_quota kind threads quota = Ok (record { kind = kind; threads = threads; quota = quota.0 }, quota.1)
@@ -119,7 +119,7 @@ after_title first = kind_told first.1 >>= after_kind
 abbrev BeginsWith : List ℕ → List (List ℕ) → Found → Type 0
 BeginsWith title parts found = (parts ≡ header_lines title found.0 ++ found.1) × IsHeader found.0 × (0 < length found.1)
 
--- ---- Proof that reading a header never fails with `Memory`
+-- ---- Reading a header never fails with `Memory`
 
 abbrev NeverMemory : {A : Type 0} → Result A LineFault → Type 0
 NeverMemory r = (e : LineFault) → r ≡ Err e → e.cause ≡ wrong.Memory → ⊥

@@ -1,4 +1,4 @@
--- Proof that a line and the value read from it determine each other, for every list of kinds of lines.
+-- Proof: a line and the value read from it determine each other, for every list of kinds of lines.
 use Rattle.std.proofs.Common.{◌≡◌, ◌⊎◌, inl, inr, ℕ, Bool, true, false, cond, List, [], ◌∷◌, map, length, ◌<◌, Option, Some, None}
 use Rattle.std.proofs.Common.{Result, Ok, Err, refl, sym, ap, subst, ◌∙◌}
 use Rattle.std.specs.List.{AllByRecursion}
@@ -17,9 +17,8 @@ pub made_ok : {X Y : Type 0} (f : X → Y) (r : Result X Cause) (y : Y) → made
 made_ok f (Ok x) y e = (x, refl, ok_is (f x) y e)
 made_ok f (Err d) y e = absurd cc
 
--- Holds if a kind of line has two properties. First, its form (the list of its fields) can be read back. Second, each
--- value made from fields that the version can spell has the property `Good`, and the value's spelling consists of
--- these fields.
+-- Holds if the form (list of fields) of the kind of line can be read back and, if the version can spell the fields, the
+-- value made from the fields has the property `Good` and is spelled by these fields.
 abbrev pub Knows : {X : Type 0} → Version → (X → List (List ℕ)) → (X → Type 0) → LineKind X → Type 0
 Knows v pieces Good k = IsForm k.0 × ((t : Told k.0) → AllFit v k.0 t → (spell k.0 t ≡ pieces (k.1 t)) × Good (k.1 t))
 
@@ -66,8 +65,8 @@ line_found_lacks v none pieces Good ks line x known e =
     let found = line_found v none pieces (λ y. Lacks 10 (line_of (pieces y))) ks line x (lacks_too v pieces Good ks known) e in
     subst (Lacks 10) (sym found.0) found.1
 
--- Holds if the value `x` can be read from a line of one of these kinds. This kind must be the first with a form (a list
--- of fields) that matches the spelling of `x`.
+-- Holds if the value `x` can be read from a line of one of the kinds, which must be the first kind with a form (list of
+-- fields) that matches the spelling of `x`.
 abbrev pub IsMade : {X : Type 0} → Version → (X → List (List ℕ)) → List (LineKind X) → X → Type 0
 IsMade v pieces [] x = ⊥
 IsMade v pieces (k ∷ ks) x =
@@ -125,7 +124,7 @@ pub first_many : {X : Type 0} (v : Version) (none : Cause) (ks : List (LineKind 
 first_many v none [] ps below = refl
 first_many v none (k ∷ ks) ps below = rw (too_many v k.0 ps below.0) (first_many v none ks ps below.1)
 
--- ---- Lemmas about applying a function to the values of kinds of lines
+-- ---- Lemmas about a function applied to the values of kinds of lines
 
 kind_seen : {X Y T : Type 0} (f : X → Y) (g : T → X) (c : Cause) (b : Bool) (o : Option T) (r : Result Y Cause) (s : Result X Cause)
     → r ≡ made f s → cond b (made (λ t. f (g t)) (or_fail c o)) r ≡ made f (cond b (made g (or_fail c o)) s)
@@ -140,8 +139,8 @@ first_as f v none (k ∷ ks) ps =
     kind_seen f k.1 Number (have_form v k.0 ps) (all_told v k.0 ps) (first_of v none (map (kind_as f) ks) ps)
     (first_of v none ks ps) (first_as f v none ks ps)
 
--- If the kinds of lines have the properties `Knows` and `IsMade`, they still have them after a function `f` is applied
--- to their values.
+-- Lemmas: if the kinds of lines have the properties `Knows` and `IsMade`, the kinds still have the properties after a
+-- function `f` is applied to their values.
 module _ {X Y : Type 0} (f : X → Y) (v : Version) (pieces : X → List (List ℕ)) (seen : Y → List (List ℕ))
     (same : (x : X) → pieces x ≡ seen (f x)) where
   pub knows_as : (Good : X → Type 0) (Fine : Y → Type 0) → ((x : X) → Good x → Fine (f x)) → (ks : List (LineKind X))

@@ -15,7 +15,7 @@ use Rattle.lset_text.specs.Lines.{Grammar, lines_from, Leads, IsFaultlessTo, IsG
 use Rattle.lset_text.proofs.PartLaws.{some_part}
 use Rattle.lset_text.proofs.ReadingLaws.{bind_ok, map_fault_ok}
 
--- ---- Lemmas about reading a single complete line
+-- ---- Lemmas about reading one complete line
 
 lines_go : {S : Type 0} (g : Grammar S) (line : ℕ) (s t : S) (x : List ℕ) (parts : List (List ℕ)) → 0 < length parts
     → g.step s x ≡ Ok t → lines_from g line s (x ∷ parts) ≡ lines_from g (line + 1) t parts
@@ -29,7 +29,7 @@ unfolding lines_from
 lines_stop g d line s x [] some is = absurd (omega arith)
 lines_stop g d line s x (y ∷ more) some is = rw is refl
 
--- ---- Proof that a reported error is in the first line that is read, or in a later line
+-- ---- A reported error is not in a line before the first
 
 pub bind_err : {A B E : Type 0} (r : Result A E) (f : A → Result B E) (d : E) → (r >>= f) ≡ Err d
     → (r ≡ Err d) ⊎ ((x : A) × (r ≡ Ok x) × (f x ≡ Err d))
@@ -60,7 +60,7 @@ faultless_from {S} g above line s parts below =
     faultless (Ok x) all = tt
     faultless (Err e) all = all e refl
 
--- ---- Lemmas about one round of the loop
+-- ---- Lemmas about one iteration of the loop
 
 pub starts : {S : Type 0} (g : Grammar S) (first : ℕ) (text : List ℕ) (s : S)
     → Stands g first text (lines_from g first s (cut_at 10 text)) first s text
@@ -133,7 +133,7 @@ line_at g first text read line s rest x after parts stands =
     ap (λ (ps : List (List ℕ)). get_or ps (length stands.above) []) (cc (stands.parts, parts))
     ∙ get_or-append_seam stands.above x (cut_at 10 after) []
 
--- ---- Proof that reading and writing are inverse operations
+-- ---- Proof that reading inverts writing
 
 ended : {S : Type 0} (g : Grammar S) (line : ℕ) (other : Cause) (b : Bool) (s t : S)
     → map_fault (fault line) (cond b (g.ends s) (Err other)) ≡ Ok t → (b ≡ true) × (g.ends s ≡ Ok t)

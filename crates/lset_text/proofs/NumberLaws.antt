@@ -69,7 +69,7 @@ is_spelled low high p v is some digits first low_ok high_ok =
     let both = and_from _ _ number (and_from _ _ low_test high_test) in
     rw both (ap (λ (n : ℕ). Some n) is)
 
--- ---- Proof that reading and writing are inverse operations
+-- ---- Proof that reading inverts writing
 
 some_then : (b : Bool) (n v : ℕ) → cond b (Some n) None ≡ Some v → (b ≡ true) × (n ≡ v)
 some_then true n v e = (refl, cc)

@@ -1,4 +1,4 @@
--- Lemmas about cutting a text into lines, cutting a line into fields, and joining the parts again.
+-- Lemmas about splitting a text into lines, splitting a line into fields, and joining the parts again.
 use Rattle.std.proofs.Common.{◌≡◌, ℕ, ◌+◌, ◌-◌, ◌<◌, ◌≤◌, Bool, true, false, cond, eqb, ltb, not, ◌&&◌, List, [], ◌∷◌, ◌++◌}
 use Rattle.std.proofs.Common.{length, take, drop, Some, None, refl, sym, ap, ◌∙◌, append_assoc, arith, length-append}
 use Rattle.std.specs.Prelude.{position}
@@ -12,7 +12,7 @@ use Rattle.std.proofs.lemmas.List.Splits.{join_with_byte-slice_split}
 use Rattle.std.proofs.lemmas.List.Sums.{position_or_len_is, fails_before_first}
 use Rattle.lset_text.specs.Parts.{cut_at, line_of, text_of, all_from, Lacks}
 
--- ---- Lemmas about cutting a text once
+-- ---- Lemmas about splitting a text once
 
 cond_none : {X : Type 0} (b : Bool) (x : X) → None ≡ cond b (Some x) None → b ≡ false
 cond_none true x e = absurd cc
@@ -37,7 +37,7 @@ some_part byte text = omega (arith, length-slice_split (λ b. eqb b byte) text)
 
 -- ---- Lemmas about bytes that do not occur in a text
 
--- Returns whether a byte is absent from a text. Unlike the proposition `Lacks`, this test can be computed for a given
+-- Returns whether `byte` is absent from a text. Unlike the proposition `Lacks`, the test can be computed for a given
 -- text.
 abbrev pub is_free : ℕ → List ℕ → Bool
 is_free byte [] = true
@@ -72,7 +72,7 @@ Lacks-joined byte between (x ∷ y ∷ ys) ne h =
 pub line_lacks : (pieces : List (List ℕ)) → AllByRecursion (Lacks 10) pieces → Lacks 10 (line_of pieces)
 line_lacks pieces h = Lacks-joined 10 32 pieces (λ bad. absurd (omega (arith, bad))) h
 
--- ---- Lemmas about cutting a line into fields
+-- ---- Lemmas about splitting a line into fields
 
 pub cut_joined : (byte : ℕ) (x : List ℕ) (xs : List (List ℕ)) → Lacks byte x → AllByRecursion (Lacks byte) xs
     → cut_at byte (join_with_byte byte (x ∷ xs)) ≡ x ∷ xs
@@ -92,7 +92,7 @@ joined_cut byte text parts e = sym (join_with_byte-slice_split byte text) ∙ ap
 pub line_from_cut : (line : List ℕ) (pieces : List (List ℕ)) → cut_at 32 line ≡ pieces → line ≡ line_of pieces
 line_from_cut line pieces e = joined_cut 32 line pieces e
 
--- ---- Lemmas about cutting a text into lines
+-- ---- Lemmas about splitting a text into lines
 
 pub cut_text : (lines : List (List ℕ)) (rest : List ℕ) → AllByRecursion (Lacks 10) lines
     → cut_at 10 (text_of lines ++ rest) ≡ lines ++ cut_at 10 rest

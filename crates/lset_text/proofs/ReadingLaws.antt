@@ -1,4 +1,4 @@
--- Lemmas about a chain of checks: if the chain returned a value, each of its checks passed.
+-- Lemmas about a chain of checks: if the chain returns a value, each of its checks passes.
 use Rattle.std.proofs.Common.{◌≡◌, Bool, true, false, cond, Option, Some, None, Result, Ok, Err, refl}
 use Rattle.lset_text.specs.Results.{◌>>=◌, or_fail, map_fault}
 

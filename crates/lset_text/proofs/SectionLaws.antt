@@ -1,5 +1,5 @@
--- Lemmas about the sections of a file. A section has one line for each item of a list, such as one `key K` line for
--- each key.
+-- Lemmas about the sections of a file. A section has one line for each item of a list, for example one line `key K` for
+-- each key K.
 use Rattle.std.proofs.Common.{◌≡◌, ℕ, ◌<◌, ◌≤◌, ◌^◌, List, [], ◌∷◌, ◌++◌, map, length, true, Ok, refl, sym, ap, subst, arith}
 use Rattle.std.proofs.Common.{append_assoc, length-append}
 use Rattle.std.specs.List.{AllByRecursion}
@@ -27,7 +27,7 @@ middle P front more xs x is all = at_seam P front more x (subst (AllByRecursion 
 pub shorter : {X : Type 0} (front more xs : List X) (x : X) → front ++ x ∷ more ≡ xs → length front < length xs
 shorter front more xs x is = let long = ap length is in omega (arith, long, length-append front (x ∷ more))
 
--- ---- A line that is added to a section is the last line of the text, if the later sections are still empty
+-- ---- Lemmas about a new line at the end of a section
 
 pub push_last : {X : Type 0} (f : List (List ℕ)) (line : X → List ℕ) (xs : List X) (x : X)
     → f ++ map line (xs ++ x ∷ []) ≡ f ++ map line xs ++ line x ∷ []
@@ -47,8 +47,7 @@ pub later_pushed : {X T : Type 0} (xs : List X) (x : X) (s t : T) → t ≡ late
 later_pushed [] x s t = refl
 later_pushed (y ∷ ys) x s t = refl
 
--- ---- If reading the line of one item adds the item to the state, reading a section adds all its items, up to the
--- section's limit
+-- ---- Lemmas about reading a whole section, up to its maximum number of lines
 
 pub section_leads : {S X : Type 0} (g : Grammar S) (state : List X → S) (line : X → List ℕ) (P : X → Type 0) (most : ℕ)
     (xs : List X) → length xs ≤ most → AllByRecursion P xs

@@ -1,4 +1,4 @@
--- Proof that a file and the value read from it determine each other, for every grammar.
+-- Proof: a file and the value read from it determine each other, for every grammar.
 use Rattle.std.proofs.Common.{◌≡◌, ℕ, ◌<◌, false, List, [], ◌∷◌, ◌++◌, length, Result, Ok, Err, refl, sym, ap, ◌∙◌, subst}
 use Rattle.std.proofs.Common.{append_assoc, arith}
 use Rattle.std.specs.Prelude.{IfErr}
@@ -62,7 +62,7 @@ good_after g bytes rest h (Ok x) is good = tt
 good_after g bytes rest h (Err e) is good = λ m.
     let line = good m in (omega (arith, line.0), good_in_text g bytes rest h e.line is line)
 
--- ---- Proof that reading and writing are inverse operations
+-- ---- Proof that reading inverts writing
 
 pub text_found : {S : Type 0} (g : TextGrammar S) (P : S → Type 0) (text : S → List (List ℕ))
     → ((h : Header) → IsHeader h → P (g.start h) × (text (g.start h) ≡ header_lines g.title h))

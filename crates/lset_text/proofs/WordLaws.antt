@@ -1,5 +1,5 @@
--- Proof that reading inverts writing for names and replies: reading returns a value only for the exact spelling of
--- this value.
+-- Proof: reading inverts writing for names and replies. Reading a field yields a value only if the field is exactly the
+-- spelling of the value.
 use Rattle.std.proofs.Common.{◌≡◌, ℕ, ◌<◌, ◌≤◌, ◌^◌, ◌||◌, Bool, true, List, [], ◌∷◌, ◌++◌, take, drop, Option, Some, None, is_some}
 use Rattle.std.proofs.Common.{refl, sym, ap, subst, ◌∙◌, inl, inr, codes, arith, option_map, take-append-drop}
 use Rattle.std.specs.List.{AllByRecursion}
@@ -110,7 +110,8 @@ at_again : (k : Key) → k.0 < 2 ^ 32 → reply_in Two (reply_text (reply.At k))
 unfolding reply_of
 at_again k low = rw (number_again 0 max_number k.0 (omega arith) (omega arith) (omega arith)) refl
 
--- Holds if the field is the spelling of this reply and looks like a reply, and the version has this reply.
+-- Holds if the version has the reply `r`, the field `piece` is the spelling of `r`, and the test for the form of a
+-- reply (`form`) succeeds.
 abbrev pub ReadFrom : Version → Reply → List ℕ → Bool → Type 0
 ReadFrom v r piece form = HasReply v r × (piece ≡ reply_text r) × (form ≡ true)
 

@@ -7,7 +7,7 @@ use Rattle.lset_text.specs.declared.causes.LineFault.{LineFault}
 abbrev pub fault : ℕ → Cause → LineFault
 fault line cause = record { line = line; cause = cause }
 
--- Returns the error of a line that has bytes but no newline.
+-- Returns the error for a line that has bytes but no newline.
 abbrev pub unended : ℕ → LineFault
 unended line = fault line cause.NotEnded
 

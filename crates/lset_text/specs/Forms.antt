@@ -1,4 +1,4 @@
--- Forms of lines. A form is a list of fields; each field has a type of values, a spelling, and a reader.
+-- Forms of lines. A form is a list of fields. Each field has a type of values, a spelling for each value, and a reader.
 use Rattle.std.specs.Prelude.{◌≡◌, ℕ, ◌<◌, ◌≤◌, ◌^◌, ◌&&◌, Bool, true, false, List, [], ◌∷◌, Option, Some, None, is_some, if◌then◌else◌}
 use Rattle.std.specs.Fmt.{decimal}
 use Rattle.std.specs.Str.{bytes_eq}
@@ -27,7 +27,7 @@ any = number 0 max_number
 abbrev pub moment : Piece
 moment = number 1 max_number
 
--- Returns the type of the values that this field can have. A fixed word has one value.
+-- Returns the type of the values that a field can have. A field with a fixed word has one value.
 abbrev pub Tells : Piece → Type 0
 Tells (word w) = Unit {0}
 Tells (number low high) = ℕ
@@ -35,7 +35,7 @@ Tells kind = Kind
 Tells call = CallWord
 Tells reply = Reply
 
--- Returns the text that spells a value in this field.
+-- Returns the text that spells the value of a field.
 abbrev pub spelled : (p : Piece) → Tells p → List ℕ
 spelled (word w) t = w
 spelled (number low high) n = decimal n
@@ -43,7 +43,7 @@ spelled kind k = kind_text k
 spelled call w = call_word_text w
 spelled reply r = reply_text r
 
--- Holds if this version of a file format can spell this value in this field.
+-- Holds if a version of a file format can spell the value of a field.
 abbrev pub Fits : Version → (p : Piece) → Tells p → Type 0
 Fits v (word w) t = Unit {0}
 Fits v (number low high) n = (low ≤ n) × (n ≤ high)
@@ -51,8 +51,8 @@ Fits v kind k = Unit {0}
 Fits v call w = HasWord v w
 Fits v reply r = HasReply v r
 
--- Returns whether the text `x` looks like this field. A fixed word must match exactly, and a name must be a known one.
--- Any text looks like a number: a malformed number is reported as an error of its own.
+-- Returns whether the text `x` matches a field. A fixed word must match exactly, and a name must be known. A field with
+-- a number matches any text, since a malformed number is reported as a different error.
 abbrev pub has_form : Version → Piece → List ℕ → Bool
 has_form v (word w) x = bytes_eq x w
 has_form v (number low high) x = true
@@ -60,7 +60,7 @@ has_form v kind x = is_some (kind_of x)
 has_form v call x = is_some (call_word_in v x)
 has_form v reply x = is_reply_in v x
 
--- Returns the value that the text `x` spells in this field, or `None`.
+-- Returns the value of a field that the text `x` spells, or `None`.
 abbrev pub told : Version → (p : Piece) → List ℕ → Option (Tells p)
 told v (word w) x = if bytes_eq x w then Some tt else None
 told v (number low high) x = number_in low high x
@@ -68,11 +68,11 @@ told v kind x = kind_of x
 told v call x = call_word_in v x
 told v reply x = reply_in v x
 
--- The form of a line: its fields, in sequence.
+-- The form of a line: the list of its fields.
 abbrev pub Form : Type 0
 Form = List Piece
 
--- Returns the type of the values of a line with this form: one value for each field.
+-- Returns the type of the values of a line with the given form: one value for each field.
 abbrev pub Told : Form → Type 0
 Told [] = Unit {0}
 Told (p ∷ f) = Tells p × Told f
@@ -81,7 +81,7 @@ abbrev pub spell : (f : Form) → Told f → List (List ℕ)
 spell [] t = []
 spell (p ∷ f) t = spelled p t.0 ∷ spell f t.1
 
--- Returns the line that spells these values, in the form `f`.
+-- Returns the line with the form `f` that spells the values `t`.
 abbrev pub line_with : (f : Form) → Told f → List ℕ
 line_with f t = line_of (spell f t)
 
@@ -89,7 +89,8 @@ abbrev pub AllFit : Version → (f : Form) → Told f → Type 0
 AllFit v [] t = Unit {0}
 AllFit v (p ∷ f) t = Fits v p t.0 × AllFit v f t.1
 
--- Returns whether a line looks like this form: it has the same number of fields, and each looks like the form's field.
+-- Returns whether a line matches a form: both have the same number of fields, and each field of the line matches the
+-- corresponding field of the form.
 abbrev pub have_form : Version → Form → List (List ℕ) → Bool
 have_form v [] [] = true
 have_form v [] (x ∷ xs) = false
@@ -106,13 +107,13 @@ all_told v [] xs = Some tt
 all_told v (p ∷ f) [] = None
 all_told v (p ∷ f) (x ∷ xs) = both (told v p x) (all_told v f xs)
 
--- Returns the values of a line with this form. Returns `None` if the line does not look like the form, or if a field
+-- Returns the values that a line with the form `f` spells. Returns `None` if the line does not match `f`, or if a field
 -- has no value, such as a number out of range.
 abbrev pub told_in : Version → (f : Form) → List (List ℕ) → Option (Told f)
 told_in v f xs = if have_form v f xs then all_told v f xs else None
 
--- Holds if the field can be separated from its neighbors and read back. A fixed word has only bytes from 45 up
--- (letters, digits and dashes, but no space and no newline). The largest number is below 2^64.
+-- Holds if the text of the field can be separated from the neighboring fields and read back. A fixed word consists of
+-- bytes from 45 up (letters, digits and dashes, but no space and no newline). A number is below 2^64.
 abbrev pub IsPiece : Piece → Type 0
 IsPiece (word w) = all_from 45 w ≡ true
 IsPiece (number low high) = high < 2 ^ 64
@@ -126,8 +127,8 @@ abbrev pub IsForm : Form → Type 0
 IsForm [] = ⊥
 IsForm (p ∷ f) = IsPiece p × ArePieces f
 
--- Reading inverts writing for every form of line (a list of fields). Reading a line returns values if and only if the
--- version can spell these values and the line is their spelling.
+-- Lemma: reading inverts writing for every form of line (a list of fields). Reading a line yields values if and only if
+-- the version can spell these values and the line is their spelling.
 abbrev pub FormsReadBack : Type 0
 FormsReadBack = (v : Version) (f : Form) (line : List ℕ) (t : Told f) → IsForm f
     → (AllFit v f t → told_in v f (cut_at 32 (line_with f t)) ≡ Some t)

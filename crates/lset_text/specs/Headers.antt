@@ -1,5 +1,5 @@
--- The header of a file, its first four lines: title, kind of list, number of threads, and quota (the maximum number of
--- successful adds of each thread).
+-- The header of a file, which consists of the first four lines: title, kind of list, number of threads, and quota (the
+-- number of successful adds that each thread can make).
 use Rattle.std.specs.Prelude.{◌≡◌, ℕ, ◌==◌, List, [], ◌∷◌, ◌++◌, length, codes, Option, Some, None, Result, Ok, Err}
 use Rattle.std.specs.Prelude.{if◌then◌else◌, option_map}
 use Rattle.std.specs.Fmt.{decimal}
@@ -20,7 +20,7 @@ use Rattle.lset_text.specs.Forms as piece
 use Rattle.lset_text.specs.Spellings.{kind_text}
 use Rattle.lset_text.specs.Results.{◌>>=◌, or_fail}
 
--- ---- How a header is written
+-- ---- Writing a header
 
 abbrev pub kind_line : Kind → List ℕ
 kind_line k = line_of (codes "list" ∷ kind_text k ∷ [])
@@ -37,13 +37,13 @@ header_lines title h =
 abbrev pub IsHeader : Header → Type 0
 IsHeader h = IsWithin (record { threads = h.threads; quota = h.quota; opening = 0 })
 
--- ---- Finding the version of a text; `title` is the title of version 2
+-- ---- The version of a text (`title` is the title of version 2)
 
 abbrev pub version_in : List ℕ → List (List ℕ) → Version
 version_in title [] = One
 version_in title (first ∷ more) = if bytes_eq first title then Two else One
 
--- ---- How a header is read
+-- ---- Reading a header
 
 abbrev pub title_in : List ℕ → List ℕ → Option (List ℕ)
 title_in title line = if bytes_eq line title then Some title else None
@@ -51,26 +51,27 @@ title_in title line = if bytes_eq line title then Some title else None
 abbrev pub kind_form : Form
 kind_form = piece.word (codes "list") ∷ piece.kind ∷ []
 
--- Returns the kind of list if the line is `list` followed by the name of a kind. Otherwise returns `None`.
+-- Returns the kind of list if the line consists of `list`, a space, and the name of a kind. Otherwise returns `None`.
 abbrev pub kind_in : List ℕ → Option Kind
 kind_in line = option_map (λ t. t.1.0) (told_in Two kind_form (cut_at 32 line))
 
 abbrev pub number_form : List ℕ → ℕ → ℕ → Form
 number_form word low high = piece.word word ∷ piece.number low high ∷ []
 
--- Returns the number if the line is `word`, a space, and a number from `low` to `high`. Otherwise returns `None`.
+-- Returns the number if the line consists of `word`, a space, and a number from `low` to `high`. Otherwise returns
+-- `None`.
 abbrev pub number_after : List ℕ → ℕ → ℕ → List ℕ → Option ℕ
 number_after word low high line = option_map (λ t. t.1.0) (told_in Two (number_form word low high) (cut_at 32 line))
 
--- Splits off the next header line, number `line`, and returns it with the parts after it. The last part is the text
--- after the last newline. If only an empty last part remains, the line is missing, and the error is `cause`. If only a
--- last part with bytes remains, the error is `NotEnded`.
+-- Splits off the next header line, which has the number `line`, and returns it with the remaining parts. The last part
+-- is the text after the last newline. If only an empty last part remains, the line is missing, and the error is
+-- `cause`. If only a last part with bytes remains, the error is `NotEnded`.
 abbrev pub line_due : ℕ → Cause → List (List ℕ) → Result (List ℕ × List (List ℕ)) LineFault
 line_due line cause [] = Err (fault line cause)
 line_due line cause (rest ∷ []) = Err (fault line (if length rest == 0 then cause else wrong.NotEnded))
 line_due line cause (x ∷ y ∷ more) = Ok (x, y ∷ more)
 
--- Reads a value from the next header line with `read`, and returns the value with the parts after that line.
+-- Reads a value from the next header line with `read`. Returns the value and the parts after the header line.
 unfoldable pub told_by_line : {A : Type 0} → ℕ → Cause → (List ℕ → Option A) → List (List ℕ)
     → Result (A × List (List ℕ)) LineFault
 told_by_line line cause read parts = do
@@ -90,7 +91,7 @@ threads_told = told_by_line 3 wrong.Threads (number_after (codes "threads") 1 MO
 abbrev pub quota_told : List (List ℕ) → Result (ℕ × List (List ℕ)) LineFault
 quota_told = told_by_line 4 wrong.Quota (number_after (codes "quota") 0 MOST_QUOTA)
 
--- Reads a header from the lines of a text. Returns the header with the parts of the text that follow the header.
+-- Reads a header from the parts of a text. Returns the header and the parts after the header.
 unfoldable pub header_of : List ℕ → List (List ℕ) → Result (Header × List (List ℕ)) LineFault
 header_of title parts = do
   first ← title_told title parts
@@ -99,7 +100,7 @@ header_of title parts = do
   quota ← quota_told threads.1
   Ok (record { kind = kind.0; threads = threads.0; quota = quota.0 }, quota.1)
 
--- Reading the text of a header returns this header, whatever text follows.
+-- Lemma: reading the text of a header yields the header, whatever text follows.
 abbrev pub HeadersReadBack : Type 0
 HeadersReadBack = (title : List ℕ) (h : Header) (rest : List ℕ) → Lacks 10 title → IsHeader h
     → header_of title (cut_at 10 (text_of (header_lines title h) ++ rest)) ≡ Ok (h, cut_at 10 rest)

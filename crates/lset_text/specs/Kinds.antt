@@ -1,4 +1,4 @@
--- The kinds of lines in a file, such as `begin` or `go`. Each kind has a form (the list of its fields), and a function
+-- The kinds of lines in a file, such as `begin` or `go`. A kind has a form (the list of its fields), and a function
 -- that makes a value from the fields.
 use Rattle.std.specs.Prelude.{ℕ, List, [], ◌∷◌, Result, Ok, Err, if◌then◌else◌}
 use Rattle.lset_text.specs.declared.words.Version.{Version}
@@ -11,7 +11,7 @@ use Rattle.lset_text.specs.Results.{or_fail}
 abbrev pub LineKind : Type 0 → Type 0
 LineKind X = (f : Form) × (Told f → X)
 
--- Returns a kind of line that accepts the same lines as `k`, and applies `f` to each value that `k` makes.
+-- Returns the kind of line that accepts the same lines as `k` and applies `f` to each value that `k` makes.
 abbrev pub kind_as : {X Y : Type 0} → (X → Y) → LineKind X → LineKind Y
 kind_as f k = (k.0, λ t. f (k.1 t))
 
@@ -19,9 +19,9 @@ abbrev pub made : {X Y : Type 0} → (X → Y) → Result X Cause → Result Y C
 made f (Ok x) = Ok (f x)
 made f (Err e) = Err e
 
--- Reads a line that was cut into fields. The value comes from the first kind with a form that matches the line. If no
--- kind matches, the line is refused with the cause `none`. If a kind matches, but a number in the line is malformed or
--- out of range, the line is refused with `Number`.
+-- Reads a line that was split into fields. The value comes from the first kind whose form (list of fields) matches the
+-- line. If no kind matches, the line is refused with the cause `none`. If a kind matches, but a number in the line is
+-- malformed or out of range, the line is refused with the cause `Number`.
 abbrev pub first_of : {X : Type 0} → Version → Cause → List (LineKind X) → List (List ℕ) → Result X Cause
 first_of v none [] pieces = Err none
 first_of v none (k ∷ ks) pieces =

@@ -2,12 +2,12 @@
 use Rattle.std.specs.Prelude.{◌≡◌, ℕ, ◌==◌, ◌&&◌, nat_le, Bool, true, false, List, [], ◌∷◌, ◌++◌, All}
 use Rattle.std.specs.List.{slice_split, flat_map, join_with_byte}
 
--- Cuts a text at each occurrence of a byte. If the byte is the newline, the parts are the complete lines and, as the
+-- Splits a text at each occurrence of `byte`. If `byte` is the newline, the parts are the complete lines and, as the
 -- last part, the text after the last newline.
 abbrev pub cut_at : ℕ → List ℕ → List (List ℕ)
 cut_at byte text = slice_split (λ b. b == byte) text
 
--- Joins fields to a line, separated by single spaces.
+-- Joins fields into a line, separated by single spaces.
 abbrev pub line_of : List (List ℕ) → List ℕ
 line_of pieces = join_with_byte 32 pieces
 
@@ -15,15 +15,15 @@ line_of pieces = join_with_byte 32 pieces
 abbrev pub ended : List ℕ → List ℕ
 ended line = line ++ 10 ∷ []
 
--- Joins lines to a text, with a newline after each.
+-- Joins lines into a text, with a newline after each line.
 abbrev pub text_of : List (List ℕ) → List ℕ
 text_of lines = flat_map ended lines
 
--- Holds if the byte does not occur in the text.
+-- Holds if `byte` does not occur in the text.
 abbrev pub Lacks : ℕ → List ℕ → Type 0
 Lacks byte text = All (λ b. b == byte ≡ false) text
 
--- Returns whether each byte is at least `low`. Letters, digits and dashes are at least 45, the space and the newline
+-- Returns whether each byte is at least `low`. Letters, digits and dashes are at least 45; the space and the newline
 -- are not.
 abbrev pub all_from : ℕ → List ℕ → Bool
 all_from low [] = true

@@ -11,7 +11,7 @@ abbrev pub or_fail : {A E : Type 0} → E → Option A → Result A E
 or_fail e None = Err e
 or_fail e (Some x) = Ok x
 
--- Applies `f` to the error. A value is returned unchanged.
+-- Applies `f` to an error. Leaves a value unchanged.
 abbrev pub map_fault : {A E D : Type 0} → (E → D) → Result A E → Result A D
 map_fault f (Ok x) = Ok x
 map_fault f (Err e) = Err (f e)

@@ -25,7 +25,7 @@ kind_text kind.Optimistic = codes "optimistic"
 kind_text kind.Lazy = codes "lazy"
 kind_text kind.LockFree = codes "lock-free"
 
--- Returns the first of these values that is spelled like the field, or `None`.
+-- Returns the first item of `values` whose spelling is the field `piece`, or `None`.
 abbrev pub value_of : {A : Type 0} → (A → List ℕ) → List A → List ℕ → Option A
 value_of text values piece = find (λ x. bytes_eq piece (text x)) values
 
@@ -41,7 +41,7 @@ call_word_text word.Remove = codes "remove"
 call_word_text word.Contains = codes "contains"
 call_word_text word.Ceiling = codes "ceiling"
 
--- Returns the name of a call. `with_key` is the inverse: it makes a call from a name and a key.
+-- `word_of` returns the name of a call. `with_key` is the inverse: it returns the call with a given name and key.
 abbrev pub word_of : Call → CallWord
 word_of (call.Add k) = word.Add
 word_of (call.Remove k) = word.Remove
@@ -73,7 +73,7 @@ HasWord version word.Add = Unit {0}
 HasWord One word.Ceiling = ⊥
 HasWord version w = Unit {0}
 
--- Holds if this version of a file format has this call.
+-- Holds if the given version of a file format has the call `c`.
 abbrev pub HasCall : Version → Call → Type 0
 HasCall version c = HasWord version (word_of c)
 
@@ -84,7 +84,7 @@ reply_text reply.Full = codes "full"
 reply_text (reply.At k) = codes "at-" ++ decimal k.0
 reply_text reply.Nothing = codes "nothing"
 
--- Returns the replies of this version that contain no number. (In version 2, `at-K` is also a reply.)
+-- Returns the replies of the given version that contain no number. (In version 2, `at-K` is also a reply.)
 abbrev pub plain_in : Version → List Reply
 plain_in One = reply.True ∷ reply.False ∷ reply.Full ∷ []
 plain_in Two = reply.True ∷ reply.False ∷ reply.Full ∷ reply.Nothing ∷ []
@@ -102,8 +102,8 @@ begins_at piece = bytes_eq (take 3 piece) (codes "at-")
 abbrev pub at_number : List ℕ → Option Reply
 at_number piece = if begins_at piece then option_map at_key (number_in 0 max_number (drop 3 piece)) else None
 
--- Returns the reply that a field spells in this version, or `None`. `is_reply_in` tests only whether the field looks
--- like a reply.
+-- Returns the reply that a field spells in the given version, or `None`. (`is_reply_in` is weaker: it accepts any field
+-- that begins like a reply with a number.)
 abbrev pub reply_in : Version → List ℕ → Option Reply
 reply_in One piece = reply_of (plain_in One) piece
 reply_in Two piece = option_or (reply_of (plain_in Two) piece) (at_number piece)
@@ -112,7 +112,7 @@ abbrev pub is_reply_in : Version → List ℕ → Bool
 is_reply_in One piece = is_some (reply_of (plain_in One) piece)
 is_reply_in Two piece = is_some (reply_of (plain_in Two) piece) || begins_at piece
 
--- Holds if this version of a file format can express this reply.
+-- Holds if the given version of a file format has the reply.
 abbrev pub HasReply : Version → Reply → Type 0
 HasReply version reply.True = Unit {0}
 HasReply One (reply.At k) = ⊥
@@ -120,8 +120,8 @@ HasReply Two (reply.At k) = k.0 < 2 ^ 32
 HasReply One reply.Nothing = ⊥
 HasReply version r = Unit {0}
 
--- Reading inverts writing for kinds of lists: a field is read as a kind if and only if it is the kind's name.
--- `CallsReadBack` and `RepliesReadBack` are the same law for calls and replies.
+-- Lemma: reading inverts writing for kinds of lists. A field is read as a kind if and only if the field is the name of
+-- the kind. `CallsReadBack` and `RepliesReadBack` state the same for calls and replies.
 abbrev pub KindsReadBack : Type 0
 KindsReadBack = (k : Kind) (piece : List ℕ)
     → (kind_of (kind_text k) ≡ Some k) × (kind_of piece ≡ Some k → piece ≡ kind_text k)

@@ -1,4 +1,4 @@
--- Definitions for whole files: a header, then lines.
+-- Definitions for whole files. A file consists of a header and lines after it.
 use Rattle.std.specs.Prelude.{ℕ, ◌+◌, List, Result}
 use Rattle.lset_text.specs.declared.words.Version.{Version}
 use Rattle.lset_text.specs.declared.words.Version.TheVariants.{Two}
@@ -8,7 +8,8 @@ use Rattle.lset_text.specs.Headers.{header_of, version_in}
 use Rattle.lset_text.specs.Lines.{Grammar, lines_from}
 use Rattle.lset_text.specs.Results.{◌>>=◌}
 
--- The grammar of a file: its title, the start state for the lines after the header, and the grammar of these lines.
+-- The grammar of a file: the title, the state in which the lines after the header start, and the grammar of these
+-- lines.
 pub record TextGrammar (S : Type 0) : Type 0 where
   pub title : List ℕ
   pub start : Header → S
@@ -21,7 +22,7 @@ last_of_header = 4
 abbrev pub first_line : ℕ
 first_line = last_of_header + 1
 
--- Reads a whole file from its parts: first the header, then the lines.
+-- Reads a whole file from its parts: first the header, then the lines after the header.
 unfoldable pub text_from : {S : Type 0} → TextGrammar S → List (List ℕ) → Result S LineFault
 text_from g parts = do
   head ← header_of g.title parts

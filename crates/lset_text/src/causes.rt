@@ -6,7 +6,7 @@ use std::alloc::{AllocError, AllocFailed};
 use thiserror::Error;
 
 /// The cause of an error in a line of a file, with examples of such lines. If several causes apply to a line, the first
-/// one in this order is reported, except that `NotEnded` comes before all others.
+/// in the order of the variants is reported, except that `NotEnded` precedes all others.
 #[derive(Clone, Copy, Debug, PartialEq, Eq)]
 pub enum Cause {
     /// The first line is not the title of the file: an empty input; a schedule passed to `check`; `listset-calls 2`.
@@ -94,7 +94,7 @@ impl<T: Drop> From<AllocFailed<T>> for Cause {
     }
 }
 
-/// The first error in a file: the number of the line, counted from 1, and the cause.
+/// The first error in a file: its cause, and the number of the line, counted from 1.
 #[derive(Clone, Copy, Debug, PartialEq, Eq, Error)]
 #[error("line {line}: {cause:?}")]
 pub struct LineFault {
@@ -103,14 +103,14 @@ pub struct LineFault {
 }
 
 impl LineFault {
-    /// Returns the error with this cause at line `line`, counted from 1.
+    /// Returns the error with the given cause at line `line`, counted from 1.
     pub fn at(line: u64, cause: Cause) -> LineFault
         ensures { result ≡ fault line cause }
     {
         LineFault { line, cause }
     }
 
-    /// Returns the error of a line that has bytes but no newline.
+    /// Returns the error for a line that has bytes but no newline.
     pub fn unended(line: u64) -> LineFault
         ensures { result ≡ unended line }
     {

@@ -18,8 +18,8 @@ use crate::words::{Version, kind_word, read_kind};
 use lset_words::{Kind, MOST_QUOTA, MOST_THREADS};
 use std::alloc::AllocError;
 
-/// The header of a file: the kind of list, the number of threads (1 to 64) and the quota (the maximum number of
-/// successful adds of each thread, 0 to 16,384).
+/// The header of a file: the kind of list, the number of threads (1 to 64), and the quota (the number of successful
+/// adds that each thread can make, 0 to 16,384).
 #[derive(Clone, Copy, Debug, PartialEq, Eq)]
 pub struct Header {
     pub kind: Kind,
@@ -40,8 +40,8 @@ fn kind_of_line(line: &[u8]) -> Option<Kind>
     read_kind(kind)
 }
 
-/// Reads a line that consists of `word`, a space, and a number from `low` to `high`. Returns the number, or `None` for
-/// any other line.
+/// Returns the number if the line consists of `word`, a space, and a number from `low` to `high`. Otherwise returns
+/// `None`.
 pub fn number_of_line(line: &[u8], word: &[u8], low: u32, high: u32) -> Option<u32>
     ensures { result ≡ number_after word.now low high line.now }
 {
@@ -55,8 +55,9 @@ pub fn number_of_line(line: &[u8], word: &[u8], low: u32, high: u32) -> Option<u
     number(count, low, high)
 }
 
-/// Splits the next header line, number `line`, off a text. Returns the line and the text after it. Returns an error
-/// with the given cause if the text is empty, and with `NotEnded` if it has bytes but no newline.
+/// Splits off the next header line, which has the number `line`. Returns the line and the text after it. If the text is
+/// empty, returns an error with the cause `cause`. If the text has bytes but no newline, returns an error with the
+/// cause `NotEnded`.
 fn due(text: &[u8], line: u64, cause: Cause) -> Result<(&[u8], &[u8]), LineFault>
     ensures value { MatchResult result
         (λ p. line_due line cause (cut_at 10 text.now) ≡ Ok (p.0.now, cut_at 10 p.1.now))
@@ -72,7 +73,7 @@ fn due(text: &[u8], line: u64, cause: Cause) -> Result<(&[u8], &[u8]), LineFault
     Err(LineFault::unended(line))
 }
 
-/// Returns the version of a file: 2 if its first line is `title`, the title of version 2, else 1.
+/// Returns the version of a file: 2 if the first line is `title` (the title of version 2), else 1.
 pub fn version_of(text: &[u8], title: &[u8]) -> Version
     ensures { result ≡ version_in title.now (cut_at 10 text.now) }
 {
@@ -87,28 +88,29 @@ pub fn version_of(text: &[u8], title: &[u8]) -> Version
     }
 }
 
-/// Reads the header of a file: lines 1 to 4. The first must be `title`. Returns the header and the text after
-/// it. Does not allocate.
+/// Reads the header of a file, lines 1 to 4. Line 1 must be `title`. Returns the header and the text after the header.
+/// Does not allocate.
 ///
 /// # Errors
 ///
-/// Returns the first error, at a line from 1 to 4. A missing header line has the cause of that line: `Header`, `Kind`,
-/// `Threads` or `Quota`. A line that has bytes but no newline has the cause `NotEnded`, whatever else is wrong with it.
+/// Returns the first error, at a line from 1 to 4. If a header line is missing, the cause is `Header`, `Kind`,
+/// `Threads` or `Quota`, depending on the line. If a line has bytes but no newline, the cause is `NotEnded`, even if
+/// the line has other errors.
 pub fn read_header<'a>(title: &[u8], text: &'a [u8]) -> Result<(Header, &'a [u8]), LineFault>
     // The text begins with the returned header.
     ensures found { IfOk result (λ p. IsHeader p.0 × (text.now ≡ text_of (header_lines title.now p.0) ++ p.1.now)) }
-    // Specifies both the value and the error exactly: `header_of` is the definition of reading a header.
+    // Specifies the value and the error exactly: `header_of` is the definition of reading a header.
     ensures exact { MatchResult result
         (λ p. header_of title.now (cut_at 10 text.now) ≡ Ok (p.0, cut_at 10 p.1.now))
         (λ e. header_of title.now (cut_at 10 text.now) ≡ Err e) }
-    // The error is never `Memory`, since nothing is allocated.
+    // The error is never `Memory`, because the function does not allocate.
     ensures asks { IfErr result (λ e. e.cause ≢ Cause.Memory) }
     ensures shorter { IfOk result (λ p. length p.1.now < length text.now) }
 {
     header_due(title, text)
 }
 
-/// Lemma: reading the text of a header returns this header, whatever text follows.
+/// Lemma: reading the text of a header yields the header, whatever text follows.
 #[tactic(auto, using(crate::proofs::HeaderLaws::header_from_text))]
 pub fn headers_read_back()
     ensures { HeadersReadBack }
@@ -145,8 +147,8 @@ fn header_due<'a>(title: &[u8], text: &'a [u8]) -> Result<(Header, &'a [u8]), Li
     Ok((header, rest))
 }
 
-/// Appends the four lines of a header to `out`. Returns `AllocError` if an allocation fails; `out` can then end with a
-/// part of these lines.
+/// Appends the four lines of a header to `out`. Returns `AllocError` if an allocation fails; `out` can then end with
+/// some of the lines.
 pub fn put_header(out: &mut String, title: &str, header: Header) -> Result<(), AllocError>
     ensures { OnOk result (string_bytes out.new ≡ string_bytes out.old ++ text_of (header_lines title.now header)) }
 {

@@ -1,5 +1,5 @@
-//! The common parts of all file formats: lines and fields, numbers, names, the four header lines, and the lines of
-//! opening keys.
+//! The common parts of all file formats: lines and fields, numbers, names, the four lines of a header, and the lines
+//! that list the opening keys.
 #![tactic(auto)]
 
 mod causes; // the causes of errors in files

@@ -1,8 +1,8 @@
 ghost use Rattle.std.specs.Prelude.{◌≡◌, ◌≤◌, IfSome};
 ghost use Rattle.lset_text.specs.Numbers.{number_in, NumbersReadBack};
 
-/// Returns the number from `low` to `high` that the field spells in decimal digits, without leading zeros. Returns
-/// `None` for any other field. Stops reading when the value exceeds `high`.
+/// Returns the number from `low` to `high` that the field `piece` spells in decimal digits, without leading zeros.
+/// Returns `None` if the field spells no such number. Stops reading when the value exceeds `high`.
 #[tactic(auto, unfolding(crate::specs::Numbers::number_in))]
 pub fn number(piece: &[u8], low: u32, high: u32) -> Option<u32>
     ensures { result ≡ number_in low high piece.now }
@@ -26,9 +26,9 @@ pub fn number(piece: &[u8], low: u32, high: u32) -> Option<u32>
     Some(value as u32)
 }
 
-/// Returns the number from `low` to `high` that the field spells in decimal digits, without leading zeros. Returns
-/// `None` for any other field. Accepts ranges beyond 32 bits, unlike `number`, but makes an additional test for each
-/// digit.
+/// Returns the number from `low` to `high` that the field `piece` spells in decimal digits, without leading zeros.
+/// Returns `None` if the field spells no such number. Unlike `number`, accepts ranges beyond 32 bits, but performs an
+/// additional test for each digit.
 #[tactic(auto, unfolding(crate::specs::Numbers::number_in))]
 pub fn long_number(piece: &[u8], low: u64, high: u64) -> Option<u64>
     ensures value { result ≡ number_in low high piece.now }
@@ -58,7 +58,7 @@ pub fn long_number(piece: &[u8], low: u64, high: u64) -> Option<u64>
     Some(value)
 }
 
-/// Lemma: a field is read as a number if and only if it is the decimal numeral of this number.
+/// Lemma: a field is read as a number if and only if the field is the number's decimal numeral.
 pub fn numbers_read_back()
     ensures { NumbersReadBack }
 {}

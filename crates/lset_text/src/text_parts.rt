@@ -7,8 +7,8 @@ fn first_of(text: &[u8], byte: u8) -> Option<usize>
     text.iter().position(|b| *b == byte)
 }
 
-/// Splits a text at the first occurrence of `byte`. Returns the text before the byte and the text after it, or `None`
-/// if `byte` does not occur. Reads only up to the byte.
+/// Splits a text at the first occurrence of `byte`. Returns the text before the byte and the text after the byte, or
+/// `None` if `byte` does not occur. Reads no further than the byte.
 pub fn cut(text: &[u8], byte: u8) -> Option<(&[u8], &[u8])>
     ensures parts { MatchOption result (cut_at byte text.now ≡ text.now ∷ [])
         (λ p. cut_at byte text.now ≡ p.0.now ∷ cut_at byte p.1.now) }

@@ -21,14 +21,15 @@ use crate::numbers::number;
 use lset_words::{Call, Key, Kind, Reply};
 use std::fmt;
 
-/// The version of a file format. Only version 2 has opening keys, the call `ceiling` and its replies.
+/// The version of a file format. Only version 2 has opening keys (keys that the set contains at the start), the call
+/// `ceiling` (the smallest key not less than the argument), and the replies of `ceiling`.
 #[derive(Clone, Copy, Debug, PartialEq, Eq)]
 pub enum Version {
     One,
     Two,
 }
 
-/// The name of a call in a file, such as `add`, without the key.
+/// The name of a call in a file, such as `add`, without the call's key.
 #[derive(Clone, Copy)]
 pub enum CallWord {
     Add,
@@ -38,7 +39,7 @@ pub enum CallWord {
 }
 
 impl CallWord {
-    /// Returns the call with this name and this key.
+    /// Returns the call with the name `self` and the key `key`.
     pub fn with_key(self, key: Key) -> Call
         ensures { result ≡ with_key self key }
     {
@@ -64,14 +65,14 @@ pub fn kind_word(kind: Kind) -> &'static str
     }
 }
 
-/// Returns whether a field is the name that files use for this kind of list.
+/// Returns whether the field `piece` is the name that files use for the given kind of list.
 fn is_word_of(piece: &[u8], kind: Kind) -> bool
     ensures { result ≡ bytes_eq piece.now (kind_text kind) }
 {
     piece == kind_word(kind).as_bytes()
 }
 
-/// Returns the kind of list that a field names; `None` for any other field.
+/// Returns the kind of list that a field names, or `None` if the field names no kind.
 #[tactic(auto, unfolding(crate::specs::Spellings::kind_of))]
 pub fn read_kind(piece: &[u8]) -> Option<Kind>
     ensures { result ≡ kind_of piece.now }
@@ -98,7 +99,8 @@ pub fn call_word(call: Call) -> &'static str
     }
 }
 
-/// Returns the call name that a field spells in this version of a file format. Returns `None` for any other field.
+/// Returns the call name that a field spells in the given version of a file format, or `None` if the field spells no
+/// call name.
 #[tactic(auto, unfolding(crate::specs::Spellings::call_word_of))]
 pub fn read_call(version: Version, piece: &[u8]) -> Option<CallWord>
     ensures { result ≡ call_word_in version piece.now }
@@ -112,7 +114,7 @@ pub fn read_call(version: Version, piece: &[u8]) -> Option<CallWord>
     }
 }
 
-/// A reply that is displayed as files spell it, such as `true` or `at-5`.
+/// A reply that is displayed in the spelling of files, such as `true` or `at-5`.
 #[derive(Clone, Copy)]
 pub struct ReplyWord(pub Reply);
 
@@ -133,15 +135,15 @@ impl fmt::Display for ReplyWord {
     }
 }
 
-/// Wraps a reply. The result is displayed as files spell the reply.
+/// Wraps a reply, so that it is displayed in the spelling of files.
 pub fn reply_word(reply: Reply) -> ReplyWord
     ensures { result ≡ record { 0 = reply } }
 {
     ReplyWord(reply)
 }
 
-/// Returns the reply that a field spells in this version, if the reply contains no number. (Only `at-K` contains one.)
-/// Returns `None` for any other field.
+/// Returns the reply that a field spells in the given version, if the reply contains no number. (Only `at-K` contains a
+/// number.) Returns `None` for any other field.
 #[tactic(auto, unfolding(crate::specs::Spellings::reply_of))]
 fn read_plain_reply(version: Version, piece: &[u8]) -> Option<Reply>
     ensures { result ≡ reply_of (plain_in version) piece.now }
@@ -163,7 +165,7 @@ fn read_at(piece: &[u8]) -> Option<Reply>
     Some(Reply::At(Key(number(key, 0, u32::MAX)?)))
 }
 
-/// Returns the reply that a field spells in this version of a file format. Returns `None` for any other field.
+/// Returns the reply that a field spells in the given version of a file format, or `None` if the field spells no reply.
 pub fn read_reply(version: Version, piece: &[u8]) -> Option<Reply>
     ensures { result ≡ reply_in version piece.now }
 {
@@ -174,8 +176,7 @@ pub fn read_reply(version: Version, piece: &[u8]) -> Option<Reply>
     }
 }
 
-/// Returns whether a field looks like a reply: it is a reply of this version or, in version 2, begins with `at-`, even
-/// if no key follows.
+/// Returns whether a field is a reply of the given version or, in version 2, begins with `at-`, even if no key follows.
 pub fn is_reply(version: Version, piece: &[u8]) -> bool
     ensures { result ≡ is_reply_in version piece.now }
 {
