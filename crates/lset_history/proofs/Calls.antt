@@ -38,8 +38,8 @@ pub record Beginning (r : Run) (thread : ℕ) (call : Call) (begun : ℕ) : Type
   pub is : begun ≡ suc before
   pub entry : r.log before ≡ began thread call
 
--- Holds if event number `changed` of the run, counted from 1, is a step of the call `call` that changes the set as the
--- call is allowed to.
+-- Holds if event number `changed` of the run, counted from 1, is a step in which the call `call` changes the set, and
+-- the call permits the change.
 pub record ChangeAt (r : Run) (thread : ℕ) (call : Call) (begun changed : ℕ) : Type 0 where
   pub before : ℕ
   pub is : changed ≡ suc before

@@ -120,7 +120,8 @@ module _ (changes : ℕ → List ℕ) (key : ℕ) (found : Option ℕ) where
 
 -- ---- Lemmas about the search after the last change
 
--- Lemma: a key from `key` to just below the found key refutes the result if and only if the key is present.
+-- Lemma: a key from `key` to just below `o` refutes the claim that `o` is the smallest present key at or above `key` if
+-- and only if it is present.
 against_below : (changes : ℕ → List ℕ) (key : ℕ) (o : Option ℕ) (j m : ℕ) → key ≤ j → IsBelow j o
     → is_against changes key o j m ≡ is_present changes j m
 against_below changes key None j m l u = if_not_below j key l false (is_present changes j m)

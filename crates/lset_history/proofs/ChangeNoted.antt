@@ -84,8 +84,8 @@ bounded_noted c d key at low bounded is k high =
 all_both : (P Q R : ℕ → Type 0) → ((m : ℕ) → P m → Q m → R m) → (ms : List ℕ) → All P ms → All Q ms → All R ms
 all_both P Q R f ms p q = All-from_get_or R ms 0 (λ i l. f (get_or ms i 0) (All-get_or P ms i 0 l p) (All-get_or Q ms i 0 l q))
 
--- Lemmas about recording a change: `c` contains the changes before key `key` changed at moment `at`, and `d` the
--- changes after.
+-- Lemmas about recording a change of key `key` at moment `at`: `c` contains the earlier changes, and `d` contains the
+-- earlier changes and the new change.
 module _ (c d : ChangesValue) (key at : ℕ) (noted : (k : ℕ) → moments_of d k ≡ with_change (moments_of c) key at k) where
   listed_noted : (keys_at : BTreeMap ℕ ℕ) → (0 < at → get nat_cmp keys_at at ≡ Some key)
       → ((k : ℕ) → All (IsListed keys_at k) (moments_of c k)) → (k : ℕ) → All (IsListed keys_at k) (moments_of d k)

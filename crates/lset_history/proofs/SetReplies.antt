@@ -88,7 +88,8 @@ contained o t k false e = record {
   state_is = refl;
 }
 
--- Returns the keys that are at least `k`. The first key in the result is the ceiling of `k`.
+-- Returns the keys that are at least `k`. The first key in the result is the ceiling of `k` (the smallest key at or
+-- above `k`).
 abbrev from_on : ℕ → List ℕ → List ℕ
 from_on k keys = filter (range_contains nat_cmp (Included k) Unbounded) keys
 

@@ -24,12 +24,12 @@ pub record Explains (h : HistoryValue) (order : List Placed) (keys : List ℕ) :
   pub keys_left : keys ≡ (set_left_by (opening_set h.opening) h.calls order).keys
   pub increasing : IsStrictlyIncreasing keys
 
--- Returns the item at index `i` of the order, from 0. An index past the end returns a default, on which no definition
+-- Returns the item at index `i` (from 0) of the order. An index past the end returns a default, on which no definition
 -- depends.
 abbrev pub place_at : List Placed → ℕ → Placed
 place_at order i = slice_index_or order i (record { call = 0; reply = True })
 
--- Returns the call of the history at index `i` of the order.
+-- Returns the call of the history that is at index `i` of the order.
 abbrev pub placed_call : List CallRecord → List Placed → ℕ → CallRecord
 placed_call calls order i = call_numbered calls (place_at order i).call
 

@@ -34,7 +34,7 @@ pub record MayBegin (h : HistoryValue) (thread at : ℕ) : Type 0 where
   pub later : IsLater h.calls at
 
 -- Holds if the fault is the first reason why `thread` cannot begin a call. `Memory`, a failed allocation, is a reason
--- only if the call could begin otherwise.
+-- only if the call could otherwise begin.
 abbrev pub CannotBegin : HistoryValue → ℕ → ℕ → HistoryFault → Type 0
 CannotBegin h thread at NoThread = h.opening.threads ≤ thread
 CannotBegin h thread at Busy = (thread < h.opening.threads) × (has_open h.calls thread ≡ true)

@@ -16,8 +16,8 @@ abbrev pub IsNextPresent : (ℕ → List ℕ) → ℕ → Option ℕ → Type 0
 IsNextPresent changes key None = (j : ℕ) → key < j → is_present_now changes j ≡ false
 IsNextPresent changes key (Some k) = (key < k) × ((j : ℕ) → key < j → j < k → is_present_now changes j ≡ false)
 
--- Returns whether key `j` refutes the claim that `found` is the smallest present key at or above `key` at `moment`. If
--- `found` is `None`, the claim is that no key at or above `key` is present.
+-- Returns whether key `j` refutes the claim that, at `moment`, `found` is the smallest present key at or above `key`.
+-- If `found` is `None`, the claim is that no key at or above `key` is present.
 abbrev pub is_against : (ℕ → List ℕ) → ℕ → Option ℕ → ℕ → ℕ → Bool
 is_against changes key None j moment = if nat_lt j key then false else is_present changes j moment
 is_against changes key (Some x) j moment =

@@ -240,9 +240,9 @@ impl Changes {
         }
     }
 
-    /// Returns whether key `other` refutes the claim that `found` is the smallest key of the set at or above `key` at
-    /// `moment`. If `found` is `None`, the claim is that there is no such key. A key from `key` to just below `found`
-    /// refutes the claim if it is present; `found` itself refutes the claim if it is absent.
+    /// Returns whether key `other` refutes the claim that, at `moment`, `found` is the smallest key of the set at or
+    /// above `key`. If `found` is `None`, the claim is that there is no such key. A key from `key` to just below
+    /// `found` refutes the claim if it is present; `found` itself refutes the claim if it is absent.
     fn is_against(&self, key: u32, found: Option<u32>, other: u32, moment: u32) -> bool
         ensures { result ≡ is_against (moments_of self.now) key found other moment }
     {

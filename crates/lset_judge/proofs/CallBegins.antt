@@ -68,7 +68,7 @@ end_met threads opening calls s t moment p rest upto next pending at met is =
           (subst (λ (q : Pending). IsMetBy s.states (key_in q) q.end (event_of q) t.states s.failed t.failed) (sym own) met) is.judged);
     }
 
--- ---- Proof for the start of a call x
+-- ---- Proof for a call x that starts
 
 module _ (threads : ℕ) (opening : List ℕ) (calls : List CallRecord) (s : Stream) (is : IsStreamOf threads opening calls s) (x : CallRecord)
     (may : MayCome s.pending s.moment x) (met : All (λ (p : Pending). x.begun ≤ p.end) s.pending) where

@@ -244,7 +244,7 @@ clash_has_none threads key there left was first second calls history c quota key
     left_as None e = tt
     left_as (Some l) e = ap (has_key key) e ∙ opens_so (is_there l) key
 
--- ---- Lemmas about the checks in the code
+-- ---- Lemmas about the Boolean tests in the Rust code
 
 ends : (a b c : Bool) → a ≡ true → b ≡ true → (not a || (not b || c)) ≡ true → c ≡ true
 ends true true c e f h = h

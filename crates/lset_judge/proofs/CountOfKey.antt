@@ -473,7 +473,7 @@ count_refutes h keys k there left was since til counted history opens leaves c o
     (subst (λ b. TakeTurns (has_key k keys) b acts) opens r.take_turns) r.pairs r.acts
     (stands h.opening.threads h.calls history last upto k h.opening.quota (opening_set h.opening) order ex.linearizes) was since til counted c
 
--- ---- Lemmas about the checks in the code
+-- ---- Lemmas about the tests in the Rust code
 
 pub one_more : {X : Type 0} (P : X → Type 0) (xs : List X) (n : ℕ) (e : X) → ((i : ℕ) (d : X) → i < n → P (get_or xs i d)) → n < length xs
     → P (get_or xs n e) → (i : ℕ) (d : X) → i < n + 1 → P (get_or xs i d)

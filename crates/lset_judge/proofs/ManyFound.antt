@@ -1,5 +1,5 @@
--- Proofs about how a pending call is found by its thread, or by the moment when it ends. The calls are in a hash table
--- whose keys are the moments when they end.
+-- Proofs about how a pending call is found by its thread, or by the moment when it ends. The calls are in a hash table,
+-- indexed by the moments when the calls end.
 use Rattle.std.proofs.Common.{◌≡◌, ◌≢◌, ℕ, ◌<◌, ◌≤◌, Bool, true, false, List, [], ◌∷◌, refl, sym, ap, ◌∙◌, arith, subst, inl, inr, length, get_or, map, cond}
 use Rattle.std.specs.Prelude.{◌==◌, nat_lt, if◌then◌else◌, All, Contains, Option, Some, None, IfSome, MatchOption, is_some, not}
 use Rattle.std.specs.Bool.{nat_eq}

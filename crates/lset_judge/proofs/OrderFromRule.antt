@@ -85,7 +85,7 @@ module _ (threads : ℕ) (calls : List CallRecord) (history : IsHistory threads 
   set_put : (o : List Placed) (n : ℕ) (r : Reply) → set (o ++ put n r ∷ []) ≡ after_call (set o) (x_ n).thread (x_ n).call r
   set_put o n r = ap (set_left start) (map_push (answered calls) o (put n r)) ∙ left_push start (map (answered calls) o) (answered calls (put n r))
 
-  -- ---- The invariant between a key's state and the order built so far
+  -- ---- The invariant that relates a key's state to the order built so far
   pub record OpenList (w : Bool) (k m : ℕ) (xs : List ℕ) (o : List Placed) : Type 0 where
     pub open_call : (u : ℕ) → has_key u xs ≡ true → (n : ℕ) × (n < length calls) × (key n ≡ k) × (kind (x_ n) ≡ changes w)
         × (until last (x_ n) ≡ u) × ((x_ n).begun ≤ m) × (IsPlaced n o → ⊥)

@@ -121,13 +121,14 @@ abbrev pub ComesFirst : Option CallRecord → Option CallRecord → Type 0
 ComesFirst first None = Unit {0}
 ComesFirst first (Some y) = EndsBefore first y.begun
 
--- Holds if no two calls on the key contradict each other when the first ends before the second starts. The key's
--- opening state can replace the first call, and the key's final state can replace the second.
+-- Holds if no call on the key contradicts an earlier call (one that ended before the later call started). The key's
+-- opening state can replace the earlier call, and the key's final state can replace the later call.
 abbrev pub HasNoClash : List CallRecord → ℕ → Presence → Option Presence → Type 0
 HasNoClash calls key there left = (was : Presence) (first second : Option CallRecord) → ComesFirst first second
     → IsClash calls key there left was first second → ⊥
 
--- If two calls on a key contradict each other, no order explains the history h and leaves the final keys `keys`.
+-- If two calls of the history h contradict each other, so that no order can contain both, no order explains h and
+-- leaves the final keys `keys`.
 abbrev pub ClashesExcludeOrders : Type 0
 ClashesExcludeOrders = (h : HistoryValue) (keys : List ℕ) (key : ℕ) (there : Presence) (left : Option Presence) (was : Presence)
     (first second : Option CallRecord) → IsHistory h.opening.threads h.calls → has_key key h.opening.keys ≡ is_there there

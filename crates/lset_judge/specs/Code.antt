@@ -9,8 +9,9 @@ use Rattle.lset_judge.specs.declared.event.Event.{Event as MomentEvent}
 use Rattle.lset_judge.specs.declared.event.Event.TheVariants.{Begins, Ends, Looks, Idle}
 use Rattle.lset_judge.specs.Rule.{State, Event, begins, ends, looks, idle}
 
--- `puts_held` returns the moments when those pending `add`s end that have not taken effect yet. `takes_held` returns
--- the moments for `remove`s. If no heap is used, at most one change is pending, and it ends at `until`.
+-- `puts_held` returns the moments when the pending `add`s that have not taken effect will end. `takes_held` returns the
+-- moments when the pending `remove`s that have not taken effect will end. If no heap is used, at most one change is
+-- pending, and it ends at `until`.
 abbrev pub puts_held : ℕ → Held → List ℕ
 puts_held until Nothing = []
 puts_held until Put = until ∷ []

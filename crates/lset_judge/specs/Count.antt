@@ -87,8 +87,8 @@ pub record IsCountOf (calls : List CallRecord) (key : ℕ) (there : Presence) (l
   pub turns : AllPairs (NeedTurn was) counted
   pub fewer : length (turning_in key (other was) since until calls) < turns_of (length counted) since until
 
--- If a history contains a count (so many calls on a key that no order can contain all of them), no order explains the
--- history h and leaves the final keys `keys`.
+-- If the history h contains a count (so many calls on a key that no order can contain all of them), no order explains h
+-- and leaves the final keys `keys`.
 abbrev pub CountsExcludeOrders : Type 0
 CountsExcludeOrders = (h : HistoryValue) (keys : List ℕ) (key : ℕ) (there : Presence) (left : Option Presence) (was : Presence)
     (since until : Option ℕ) (counted : List CallRecord) → IsHistory h.opening.threads h.calls → has_key key h.opening.keys ≡ is_there there

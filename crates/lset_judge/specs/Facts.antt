@@ -83,8 +83,8 @@ is_call Change = true
 is_call Refused = true
 is_call Look = true
 
--- Returns the completed call that the facts `f` about a key contain, and which left the key in the state `f.was`.
--- Returns None if `f` contains no call: the set then opened with the key in the state `f.was`.
+-- Returns the completed call in the facts `f` about a key, which left the key in the state `f.was`. Returns None if `f`
+-- contains no call: the set then opened with the key in the state `f.was`.
 abbrev pub first_of : ℕ → Facts → Option StreamCall
 first_of key f = if is_call f.kept then Some (call_kept key f) else None
 
@@ -155,8 +155,8 @@ AreOverBy calls key there moment = All (λ (x : CallRecord). (key_of x.call).0 �
     → until_if behind_all x.begun x.ended ≤ moment) calls
 
 -- Holds if the facts f about a key are correct. If f contains a call, the call is one of `calls` and left the key in
--- the state `f.was`. If f contains no call, the set opened with the key in the state `f.was`. `f.puts_until` and
--- `f.takes_until` are no earlier than the ends of the changes to their states.
+-- the state `f.was`. If f contains no call, the set opened with the key in the state `f.was`. All changes that make the
+-- key present end by `f.puts_until`, and all changes that make the key absent end by `f.takes_until`.
 pub record AreFacts (opening : List ℕ) (calls : List CallRecord) (key : ℕ) (f : Facts) : Type 0 where
   pub was : WasSo calls key (presence (has_key key opening)) f.was (record_if (first_of key f))
   pub over : (there : Presence) → AreOverBy calls key there (until_of there f)
@@ -188,8 +188,8 @@ IsPast moment (Some x) = IfSome x.ended (λ (e : ℕ × Reply). e.0 ≤ moment)
 
 -- Holds if the call that the facts f store is at least as useful as `first` for finding a clash (two calls that
 -- contradict each other). The stored call left the key in the state p, as `first` did. All changes to the opposite
--- state had ended when the stored call started. If `first` ended before a moment, the stored call ended before this
--- moment too.
+-- state had ended when the stored call started. If `first` had ended before a moment, the stored call had ended before
+-- this moment too.
 pub record IsAsGood (key : ℕ) (f : Facts) (p : Presence) (first : Option CallRecord) : Type 0 where
   pub was : f.was ≡ p
   pub standing : until_of (other p) f ≤ f.begun
@@ -273,8 +273,9 @@ pub record IsFoundLeft (key : ℕ) (f : Facts) (left : Presence) (c : Clash) : T
   pub standing : IsStanding key f
 
 -- Holds if the start of a call changes the facts about the keys correctly: as `begun_by` describes for the key of the
--- call, and not at all for other keys. After the judge has found a key with calls that no order explains, the condition
--- applies only to this key. After the judge has found a clash (two calls that contradict each other), it always holds.
+-- call, and not at all for other keys. After the judge has found a key with calls that no order explains, only the
+-- facts about this key must be correct. After the judge has found a clash (two calls that contradict each other),
+-- nothing is required.
 abbrev pub BeginIsKnown : States → ℕ → Event → States → Option Failed → Option Clash → Type 0
 BeginIsKnown before key event after None clash = (facts_for after key ≡ begun_by event (facts_for before key))
     × ((k : ℕ) → k ≢ key → facts_for after k ≡ facts_for before k)

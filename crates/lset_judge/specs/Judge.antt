@@ -31,8 +31,8 @@ abbrev pub ClashesIn : List ℕ → List CallRecord → ℕ → Option Presence 
 ClashesIn opening calls key left c =
     IsClash calls key (presence (has_key key opening)) left c.was (record_if c.first) (record_if c.second)
 
--- Holds if no two calls on the key contradict each other when the first ends before the second starts. The key's
--- opening state can replace the first call, and the key's final state can replace the second.
+-- Holds if no call on the key contradicts an earlier call (one that ended before the later call started). The key's
+-- opening state can replace the earlier call, and the key's final state can replace the later call.
 abbrev pub HasNoClashIn : List ℕ → List CallRecord → ℕ → Option Presence → Type 0
 HasNoClashIn opening calls key left = HasNoClash calls key (presence (has_key key opening)) left
 

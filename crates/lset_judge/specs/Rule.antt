@@ -15,8 +15,8 @@ pub data Event : Type 0 where
   idle : Event
 
 -- The state of a key in the judge's test. `there`: whether the key is present. `turned`: the moment of the key's last
--- change. `puts`: the moments when those pending `add`s end that have not taken effect. `takes`: these moments for the
--- `remove`s.
+-- change. `puts`: the moments when the pending `add`s that have not taken effect will end. `takes`: the moments when
+-- the pending `remove`s that have not taken effect will end.
 pub record State : Type 0 where
   pub there : Bool
   pub turned : ℕ
@@ -34,8 +34,8 @@ same false b = not b
 abbrev pub changes_to : Bool → State → List ℕ
 changes_to w s = if w then s.puts else s.takes
 
--- Returns the moments when those pending calls end that would change the key's current state: the `remove`s if the key
--- is present, the `add`s if it is absent.
+-- Returns the moments when the pending changes that would change the key's current state will end: the `remove`s if the
+-- key is present, the `add`s if it is absent.
 abbrev pub options : State → List ℕ
 options s = changes_to (not s.there) s
 
@@ -46,7 +46,7 @@ not_before d (x ∷ xs) = (if nat_lt x d then 0 else 1) + not_before d xs
 
 -- Returns whether the event at moment m is possible for a key in state s. The end of a change is possible if each
 -- change to the same state that ends by moment m has taken effect. The end of a read is possible if the key is in the
--- state that the read saw, or has changed since the read started. The final state is possible if the key is in this
+-- state that the read saw, or has changed since the read started. A final state is possible if the key is in the final
 -- state.
 abbrev pub fits : ℕ → Event → State → Bool
 fits m (begins w end) s = true
@@ -60,8 +60,7 @@ abbrev pub put_in : ℕ → List ℕ → List ℕ
 put_in e [] = e ∷ []
 put_in e (x ∷ xs) = if nat_lt e x then e ∷ x ∷ xs else x ∷ put_in e xs
 
--- Returns the moments when the pending changes to the state w end, after an event. The argument xs contains the moments
--- when they end, before the event.
+-- Updates xs, the moments when the pending changes to the state w end, for an event of the key. Returns the result.
 abbrev pub entering : Bool → Event → List ℕ → List ℕ
 entering w (begins v end) xs = if same w v then put_in end xs else xs
 entering w (ends v) xs = xs

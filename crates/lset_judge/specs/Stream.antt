@@ -189,9 +189,9 @@ abbrev pub verdict_of_key : Option ℕ → StreamVerdict
 verdict_of_key None = Linearizable
 verdict_of_key (Some k) = NotLinearizable (record { key = record { 0 = k }; moment = None })
 
--- Holds if the verdict agrees with the judge's test. If the test shows that no order explains the calls on a key (Some
--- f), the verdict names the key and the moment of the test. Otherwise, the reason of a verdict NotLinearizable has no
--- moment.
+-- Holds if the verdict agrees with the judge's test. If the test shows that no order explains the calls on a key, the
+-- verdict names the key and the moment when the test failed. If the test shows this for no key, the reason of a verdict
+-- NotLinearizable has no moment.
 abbrev pub IsToldBy : Option Failed → StreamVerdict → Type 0
 IsToldBy None Linearizable = Unit {0}
 IsToldBy None (NotLinearizable refusal) = refusal.moment ≡ None

@@ -281,8 +281,9 @@ fn last_clash(calls: &[StreamCall], asked: Asked) -> Option<Clash>
     None
 }
 
-/// Searches `calls`, all calls on `key`, for two calls that contradict each other. `there` is the key's opening state;
-/// `left` is the key's final state, if known. If the function returns a clash, no order explains `calls`.
+/// Searches `calls` for two calls on `key` that contradict each other. `there` is the key's opening state; `left` is
+/// the key's final state, if known. If the function returns a clash, no order explains `calls` and leads from the state
+/// `there` to the state `left`.
 pub fn find_clash(
     calls: &[StreamCall],
     key: Key,

@@ -76,7 +76,7 @@ impl KeyState {
     }
 
     /// Returns the stored call on `key`: a completed call that left the key in the state `was`. Returns `None` if no
-    /// call is stored, because the set opened with the key in the state `was`.
+    /// call is stored: the set then opened with the key in the state `was`.
     fn first(&self, key: Key) -> Option<StreamCall>
         ensures { result ≡ first_of key.0 (facts_of self.now) }
     {

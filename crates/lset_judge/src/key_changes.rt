@@ -37,20 +37,20 @@ pub(crate) enum Held {
 }
 
 /// The changes of a key that have started: the last moments when an `add` and a `remove` end, and the moment when each
-/// change ends that has not taken effect. A change that never ends counts as ending after all moments.
+/// change that has not taken effect ends. A change that never ends counts as ending after all moments.
 #[derive(Drop)]
 pub(crate) struct KeyChanges {
-    /// The last moment when an `add` of the key ends that has started, and that returned true or is pending. 0 if the
-    /// key has no such `add`.
+    /// The last moment when a started `add` of the key ends. Only `add`s that returned true or are pending count. 0 if
+    /// the key has no such `add`.
     pub(crate) puts_until: u64,
-    /// The last moment when a `remove` of the key ends that has started, and that returned true or is pending. 0 if the
-    /// key has no such `remove`.
+    /// The last moment when a started `remove` of the key ends. Only `remove`s that returned true or are pending count.
+    /// 0 if the key has no such `remove`.
     pub(crate) takes_until: u64,
     held: Held,
 }
 
 impl KeyChanges {
-    /// Returns the changes of a key that has no changes. Does not allocate.
+    /// Returns the `KeyChanges` of a key without changes. Does not allocate.
     pub(crate) fn none() -> KeyChanges
         ensures puts { puts_in result ≡ [] }
         ensures takes { takes_in result ≡ [] }
@@ -108,8 +108,8 @@ impl KeyChanges {
         }
     }
 
-    /// Removes the earliest end of a pending `add` that has not taken effect, and returns this moment. Returns `None`
-    /// if there is no such `add`.
+    /// Of the pending `add`s that have not taken effect, removes the `add` that ends first. Returns the moment when it
+    /// ends, or `None` if there is no such `add`.
     pub(crate) fn pop_put(&mut self) -> Option<u64>
         ensures popped { MatchOption result (puts_in self.old ≡ [])
             (λ end. (puts_in self.old ≡ end ∷ puts_in self.new) × (nearest end (puts_in self.new) ≡ end)) }
@@ -127,8 +127,8 @@ impl KeyChanges {
         }
     }
 
-    /// Removes the earliest end of a pending `remove` that has not taken effect, and returns this moment. Returns
-    /// `None` if there is no such `remove`.
+    /// Of the pending `remove`s that have not taken effect, removes the `remove` that ends first. Returns the moment
+    /// when it ends, or `None` if there is no such `remove`.
     pub(crate) fn pop_take(&mut self) -> Option<u64>
         ensures popped { MatchOption result (takes_in self.old ≡ [])
             (λ end. (takes_in self.old ≡ end ∷ takes_in self.new) × (nearest end (takes_in self.new) ≡ end)) }

@@ -37,10 +37,9 @@ pub use set_judge::{Judge, Verdict};
 pub use stream::{LAST_MOMENT, Refusal, StreamCall, StreamFault};
 
 /// Lemma (locality): the keys of a recording can be judged in parts. A part consists of some keys, the calls on these
-/// keys, the opening keys among them and the final keys among them. If each key belongs to one part, some order
-/// explains the recording if and only if some order explains each part. Therefore, if `judge` finds every part
-/// linearizable, the recording is linearizable. If `judge` finds one part not linearizable, the recording is not
-/// linearizable.
+/// keys, and the opening and final states of these keys. If each key belongs to exactly one part, some order explains
+/// the recording if and only if some order explains each part. Therefore, if `judge` finds every part linearizable, the
+/// recording is linearizable. If `judge` finds one part not linearizable, the recording is not linearizable.
 ///
 /// The lemma holds for the histories that the judge decides (see `is_judged`). It does not hold with a `ceiling` (the
 /// smallest key not less than the argument), which reads many keys. It does not hold either with a quota that is too

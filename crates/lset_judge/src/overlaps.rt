@@ -30,7 +30,7 @@ impl Changes {
         }
     }
 
-    /// Counts a change that starts now and ends at `until`. A change with `until` of at least `BEHIND_ALL` never ends,
+    /// Counts a change that starts now and ends at `until`. If `until` is at least `BEHIND_ALL`, the change never ends
     /// and is not counted.
     pub(crate) fn begin(&mut self, until: u64) {
         if until < BEHIND_ALL {

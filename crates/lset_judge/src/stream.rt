@@ -675,7 +675,7 @@ impl Stream {
             .saturating_add(self.pending.overlapping(&self.states, self.moment))
     }
 
-    /// Processes the ends of all pending calls that end. Calls that never end remain pending.
+    /// Processes the ends of all pending calls, except the calls that never end, which remain pending.
     pub(crate) fn come_to_end(&mut self) -> Result<(), AllocError>
         ensures kept { OnOk result ((threads : ℕ) (opening : List ℕ) (calls : List RecordedCall) → IsStreamKept threads opening calls self.old
             → IsStreamKept threads opening calls self.new) }

@@ -103,7 +103,7 @@ abbrev Found : Type 0
 Found = Header × List (List ℕ)
 
 -- `after_quota` continues reading a header after the quota line. `after_threads`, `after_kind` and `after_title`
--- continue after the threads line, the kind line and the title.
+-- continue after the threads line, the kind line and the title line, respectively.
 abbrev after_quota : Kind → ℕ → ℕ × List (List ℕ) → Result Found LineFault
 after_quota kind threads quota = Ok (record { kind = kind; threads = threads; quota = quota.0 }, quota.1)
 

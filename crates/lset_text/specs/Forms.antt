@@ -60,7 +60,7 @@ has_form v kind x = is_some (kind_of x)
 has_form v call x = is_some (call_word_in v x)
 has_form v reply x = is_reply_in v x
 
--- Returns the value of a field that the text `x` spells, or `None`.
+-- Returns the value that the text `x` spells in a field, or `None` if `x` spells no value.
 abbrev pub told : Version → (p : Piece) → List ℕ → Option (Tells p)
 told v (word w) x = if bytes_eq x w then Some tt else None
 told v (number low high) x = number_in low high x

@@ -33,7 +33,8 @@ abbrev pub header_lines : List ℕ → Header → List (List ℕ)
 header_lines title h =
     title ∷ kind_line h.kind ∷ number_line (codes "threads") h.threads ∷ number_line (codes "quota") h.quota ∷ []
 
--- Holds if the header has 1 to 64 threads and a quota from 0 to 16,384.
+-- Holds if the header has 1 to 64 threads, and a quota (the number of successful adds that each thread can make) from 0
+-- to 16,384.
 abbrev pub IsHeader : Header → Type 0
 IsHeader h = IsWithin (record { threads = h.threads; quota = h.quota; opening = 0 })
 

@@ -34,7 +34,7 @@ IsFaultlessTo line (Ok x) = Unit {0}
 IsFaultlessTo line (Err e) = line < e.line
 
 -- Holds if `line` is the number of a complete line, and the result is a value or an error in a later line. `first` is
--- the number of the first line. The last part is the text after the last newline.
+-- the number of the first line. The last item of `parts` is the text after the last newline.
 abbrev pub IsGoodLine : {X : Type 0} → ℕ → List (List ℕ) → Result X LineFault → ℕ → Type 0
 IsGoodLine first parts read line = (first ≤ line) × (line + 1 < first + length parts) × IsFaultlessTo line read
 

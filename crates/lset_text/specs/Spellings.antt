@@ -102,8 +102,8 @@ begins_at piece = bytes_eq (take 3 piece) (codes "at-")
 abbrev pub at_number : List ℕ → Option Reply
 at_number piece = if begins_at piece then option_map at_key (number_in 0 max_number (drop 3 piece)) else None
 
--- Returns the reply that a field spells in the given version, or `None`. (`is_reply_in` is weaker: it accepts any field
--- that begins like a reply with a number.)
+-- Returns the reply that a field spells in the given version, or `None`. (In version 2, `is_reply_in` also accepts a
+-- field that begins with `at-` but spells no reply.)
 abbrev pub reply_in : Version → List ℕ → Option Reply
 reply_in One piece = reply_of (plain_in One) piece
 reply_in Two piece = option_or (reply_of (plain_in Two) piece) (at_number piece)

@@ -8,8 +8,7 @@ use Rattle.lset_text.specs.Headers.{header_of, version_in}
 use Rattle.lset_text.specs.Lines.{Grammar, lines_from}
 use Rattle.lset_text.specs.Results.{◌>>=◌}
 
--- The grammar of a file: the title, the state in which the lines after the header start, and the grammar of these
--- lines.
+-- The grammar of a file: the title, the state after the header, and the grammar of the lines that follow the header.
 pub record TextGrammar (S : Type 0) : Type 0 where
   pub title : List ℕ
   pub start : Header → S

@@ -19,7 +19,7 @@ returns-in_err-push-clause-unchanged c = MatchResult-from_err _ _ _ c.from_resid
     ∙ same_items (is_at (nat_cmp c.args.key)) c.args.moments.now.entries
     c.in-Some.moments.now c.push.new.self (sym c.in-Some.ensures.value) c.in_err-push.ensures.items))
 
--- If no moment is recorded for the key yet, the new moment is recorded as its first.
+-- If no moment is recorded for the key yet, the new moment becomes the key's first moment.
 pub returns-clause-noted : goal.returns-clause-noted
 returns-clause-noted c = noted_map c.args.moments.now c.insert.new.self c.args.key c.args.at c.push-2.new.self
     (subst (λ m. UpdatesBy nat_cmp (nat_cmp c.args.key) m c.insert.new.self (Some c.push-2.new.self))
