@@ -80,7 +80,7 @@ pub record Stood (r : Run) (last : ℕ) (calls : List TracedCall) (places : List
   pub trace : Traced r last s.traced
   pub stands : StandsAt r.quota r.contents r.counts s.traced (Some s.moment)
 
--- Holds if the linearization point of the call is the step that changes the set.
+-- Holds if the linearization point of the call `s` is the step in which the call changes the set.
 pub record Changing (r : Run) (s : Standing) : Type 0 where
   pub is : s.traced.changed ≡ Some s.moment
   pub change : ChangeAt r s.traced.thread s.traced.call s.traced.begun s.moment

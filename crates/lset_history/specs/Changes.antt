@@ -72,7 +72,7 @@ abbrev pub is_same : Bool → Bool → Bool
 is_same true b = b
 is_same false b = not b
 
--- Returns the first `m` from `first` to `first + n` such that `f m` is `asked`, or `None` if there is no such `m`.
+-- Returns the first `m` from `first` to `first + n` such that `f m` equals `asked`, or `None` if there is no such `m`.
 abbrev pub first_passing : Bool → (ℕ → Bool) → ℕ → ℕ → Option ℕ
 first_passing asked f first zero = if is_same asked (f first) then Some first else None
 first_passing asked f first (suc n) = if is_same asked (f first) then Some first else first_passing asked f (suc first) n

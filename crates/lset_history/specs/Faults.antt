@@ -67,7 +67,7 @@ pub record IsMissing (calls : List CallRecord) (order : List Placed) (number : �
 abbrev pub Passes : (ℕ → Type 0) → List Placed → Type 0
 Passes Refuses order = (place : ℕ) → place < length order → Refuses place → ⊥
 
--- Holds if `number` is the first call of the order that fails a check.
+-- Holds if `number` is the number of the first call in the order that fails a check.
 pub record RefusesFirst (Refuses : ℕ → Type 0) (order : List Placed) (number : ℕ) : Type 0 where
   pub place : ℕ
   pub inside : place < length order

@@ -1,5 +1,5 @@
 -- A clash: two calls on a key that contradict each other, so that no order can contain both. The key's opening state
--- can replace the first call, and its final state can replace the second.
+-- can take the place of the first call, and its final state can take the place of the second.
 use Rattle.std.specs.Prelude.{◌≡◌, ◌≢◌, ◌<◌, ℕ, ◌⊎◌, ◌||◌, not, nat_lt, Bool, true, List, Option, Some, None, map, All, IfSome, IsSomeAnd, Contains as Has}
 use Rattle.lset_words.specs.declared.Call.{Call}
 use Rattle.lset_words.specs.declared.Reply.{Reply}
@@ -62,9 +62,9 @@ abbrev pub HasToBe : List CallRecord → ℕ → Option Presence → Presence �
 HasToBe calls key left need None = left ≡ Some need
 HasToBe calls key left need (Some y) = IsOf calls key y × (needs_if y.call y.ended ≡ Some need)
 
--- `since_of` returns the start of the first call of a clash, or 0 if the key's opening state replaces this call. A
--- clash is a pair of calls on a key that contradict each other. No call can change the key to the state that the second
--- call needs between the start of the first call and the end of the second.
+-- `since_of` returns the start of the first call of a clash, or 0 if the key's opening state takes the place of this
+-- call. A clash is a pair of calls on a key that contradict each other. No call can change the key to the state that
+-- the second call needs between the start of the first call and the end of the second.
 abbrev pub since_of : Option CallRecord → ℕ
 since_of None = 0
 since_of (Some x) = x.begun
@@ -96,8 +96,8 @@ pub record Clashes (calls : List CallRecord) (key : ℕ) (there : Presence) (lef
   pub nothing : NothingTurns calls key (other was) (since_of first) second
 
 -- Holds if the second call starts after the first has ended, or if the two calls also contradict each other in the
--- opposite order. Always holds if the key's opening state replaces the first call, or the key's final state replaces
--- the second.
+-- opposite order. Always holds if the key's opening state takes the place of the first call, or the key's final state
+-- takes the place of the second.
 abbrev pub InOrder : List CallRecord → ℕ → Presence → Option Presence → Option CallRecord → Option CallRecord → Type 0
 InOrder calls key there left (Some x) (Some y) =
     Precedes x y ⊎ ((x.begun ≢ y.begun) × ((v : Presence) × Clashes calls key there left v (Some y) (Some x)))
@@ -105,14 +105,14 @@ InOrder calls key there left None second = Unit {0}
 InOrder calls key there left (Some x) None = Unit {0}
 
 -- Holds if the calls `first` and `second` on a key contradict each other, so that no order can contain both. If `first`
--- is None, the key's opening state replaces it. If `second` is None, the key's final state replaces it.
+-- is None, the key's opening state takes its place. If `second` is None, the key's final state takes its place.
 abbrev pub IsClash : List CallRecord → ℕ → Presence → Option Presence → Presence → Option CallRecord → Option CallRecord → Type 0
 IsClash calls key there left was first second =
     Clashes calls key there left was first second × InOrder calls key there left first second
 
 -- `EndsBefore`: the call ends before `moment`. `ComesFirst`: the first call ends before the second call starts. Both
--- hold if the key's opening state replaces the first call. `ComesFirst` also holds if the key's final state replaces
--- the second call.
+-- hold if the key's opening state takes the place of the first call. `ComesFirst` also holds if the key's final state
+-- takes the place of the second call.
 abbrev pub EndsBefore : Option CallRecord → ℕ → Type 0
 EndsBefore None moment = Unit {0}
 EndsBefore (Some x) moment = IsSomeAnd x.ended (λ (e : ℕ × Reply). e.0 < moment)
@@ -122,7 +122,7 @@ ComesFirst first None = Unit {0}
 ComesFirst first (Some y) = EndsBefore first y.begun
 
 -- Holds if no call on the key contradicts an earlier call (one that ended before the later call started). The key's
--- opening state can replace the earlier call, and the key's final state can replace the later call.
+-- opening state can take the place of the earlier call, and the key's final state can take the place of the later call.
 abbrev pub HasNoClash : List CallRecord → ℕ → Presence → Option Presence → Type 0
 HasNoClash calls key there left = (was : Presence) (first second : Option CallRecord) → ComesFirst first second
     → IsClash calls key there left was first second → ⊥

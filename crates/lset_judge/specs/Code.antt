@@ -1,4 +1,4 @@
--- Converts the state and the events of a key from the types of the judge's code to the types in Rule.antt.
+-- Converts the state and the events of a key from the types in the judge's code to the types in Rule.antt.
 use Rattle.std.specs.Prelude.{◌≡◌, ℕ, Bool, true, false, List, [], ◌∷◌}
 use Rattle.lset_words.specs.Effects.{is_there}
 use Rattle.lset_judge.specs.declared.key_changes.Held.{Held}

@@ -1,4 +1,4 @@
--- The events of one key in a history: the start and the end of each of its calls. At most one event happens at each
+-- The events of one key in a history: the starts and ends of the calls on the key. At most one event happens at each
 -- moment.
 use Rattle.std.specs.Prelude.{◌≡◌, ℕ, ◌+◌, ◌==◌, Bool, true, false, if◌then◌else◌, List, [], ◌∷◌, Option, Some, None}
 use Rattle.lset_words.specs.declared.Call.{Call}

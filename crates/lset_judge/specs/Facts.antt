@@ -136,7 +136,7 @@ ServesAsWell call f = IfSome call.ended (λ (e : ℕ × Reply). is_plain call.ca
     → until_of (other p) f ≤ call.begun → (f.was ≡ p) × (until_of (other p) f ≤ f.begun)
 
 -- Holds if the end of `call` does not change the facts about the key, because the call that the facts already contain
--- is at least as useful.
+-- is at least as useful as `call` for finding a clash (two calls that contradict each other).
 pub record IsUnchanged (call : StreamCall) (old new : Facts) : Type 0 where
   pub same : new ≡ old
   pub serves : ServesAsWell call old
@@ -227,7 +227,7 @@ pub record IsStreamKept (threads : ℕ) (opening : List ℕ) (calls : List CallR
 -- ---- Definitions that only one contract uses
 
 -- Holds if all changes of the key away from the state `f.was` had ended when the call that the facts f store started.
--- If f stores no call, holds if no such change has started.
+-- If f stores no call, holds if no change away from the state `f.was` has started.
 abbrev pub IsStanding : ℕ → Facts → Type 0
 IsStanding key f = until_of (other f.was) f ≤ since_of (record_if (first_of key f))
 
@@ -249,8 +249,8 @@ abbrev pub ComesAfter : Facts → Option StreamCall → StreamCall → Type 0
 ComesAfter f None second = Unit {0}
 ComesAfter f (Some x) second = Precedes (record_of x) (record_of second) ⊎ ClashTurned f x second
 
--- Holds if the facts f about a key show that no order can contain both `call` and the call that f stores. If f stores
--- no call, the key's opening state replaces it.
+-- Holds if the facts f about a key show that `call` contradicts the call that f stores, so that no order can contain
+-- both. If f stores no call, holds if f shows that `call` contradicts the key's opening state.
 pub record IsClashing (f : Facts) (call : StreamCall) : Type 0 where
   pub needs : needs_if call.call call.ended ≡ Some (other f.was)
   pub standing : IsStanding (key_of call.call).0 f
@@ -266,7 +266,8 @@ pub record IsFound (f : Facts) (call : StreamCall) (c : Clash) : Type 0 where
   pub clashing : IsClashing f call
 
 -- Holds if the facts f about a key show that c is a clash with the key's final state `left`: no order can contain the
--- call that f stores and leave the key in the state `left`. If f stores no call, the key's opening state replaces it.
+-- call that f stores and leave the key in the state `left`. If f stores no call, the clash is between the key's opening
+-- state and `left`.
 pub record IsFoundLeft (key : ℕ) (f : Facts) (left : Presence) (c : Clash) : Type 0 where
   pub is : c ≡ clash_with key f None
   pub is_other : left ≡ other f.was

@@ -25,21 +25,21 @@ abbrev pub left_by : List ℕ → ℕ → Option ℕ → Option Presence
 left_by keys key (Some moment) = None
 left_by keys key None = Some (presence (has_key key keys))
 
--- Holds if c is a clash: two calls on the key `key` that contradict each other. The key's opening state can replace the
--- first call, and its final state `left` can replace the second.
+-- Holds if c is a clash: two calls on the key `key` that contradict each other. The key's opening state can take the
+-- place of the first call, and its final state `left` can take the place of the second.
 abbrev pub ClashesIn : List ℕ → List CallRecord → ℕ → Option Presence → Clash → Type 0
 ClashesIn opening calls key left c =
     IsClash calls key (presence (has_key key opening)) left c.was (record_if c.first) (record_if c.second)
 
 -- Holds if no call on the key contradicts an earlier call (one that ended before the later call started). The key's
--- opening state can replace the earlier call, and the key's final state can replace the later call.
+-- opening state can take the place of the earlier call, and the key's final state can take the place of the later call.
 abbrev pub HasNoClashIn : List ℕ → List CallRecord → ℕ → Option Presence → Type 0
 HasNoClashIn opening calls key left = HasNoClash calls key (presence (has_key key opening)) left
 
 -- Holds if a verdict is correct. If the verdict includes a clash (two calls that contradict each other), both calls are
--- on the key that the reason `refusal` names. The key's final state can replace the second call only if the reason is
--- about the final keys. If the verdict includes no clash, no call on the key contradicts a later call, the key's
--- opening state, or the key's final state.
+-- on the key that the reason `refusal` names. The key's final state can take the place of the second call only if the
+-- reason is about the final keys. If the verdict includes no clash, no call on the key contradicts a later call, the
+-- key's opening state, or the key's final state.
 abbrev pub IsVerdict : ℕ → List ℕ → List CallRecord → List ℕ → Verdict → Type 0
 IsVerdict threads opening calls keys verdict.Linearizable = IsStreamVerdict (stream_history threads opening calls) keys Linearizable
 IsVerdict threads opening calls keys (verdict.NotLinearizable refusal clash) =

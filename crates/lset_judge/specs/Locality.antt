@@ -15,7 +15,8 @@ keys_in part i keys = filter (λ (k : ℕ). part k == i) keys
 abbrev pub calls_in : (ℕ → ℕ) → ℕ → List CallRecord → List CallRecord
 calls_in part i calls = filter (λ (x : CallRecord). part (key_of x.call).0 == i) calls
 
--- Returns part i of a history: its calls and its opening keys.
+-- Returns part i of the history h: the calls on the keys that belong to part i, and the opening keys that belong to
+-- part i.
 abbrev pub part_of : (ℕ → ℕ) → ℕ → HistoryValue → HistoryValue
 part_of part i h = record {
   opening = record { threads = h.opening.threads; quota = h.opening.quota; keys = keys_in part i h.opening.keys };

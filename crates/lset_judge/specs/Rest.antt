@@ -9,7 +9,7 @@ use Rattle.lset_history.specs.History.{HistoryValue}
 use Rattle.lset_judge.specs.Events.{Kind, changes, sees, nothing}
 use Rattle.lset_judge.specs.Rule.{same}
 
--- Returns whether a call of this kind changes its key to the state `there`, or is pending and can still do so.
+-- Returns whether a call of the given kind changed its key to the state `there`, or is pending and can still do so.
 abbrev pub turns_to : Presence → Kind → Bool
 turns_to there (changes w) = same w (is_there there)
 turns_to there (sees w) = false

@@ -18,11 +18,11 @@ use lset_words::{Effect, Key, Presence};
 pub struct Clash {
     /// The key's state (present or absent) after the first call.
     pub was: Presence,
-    /// The first of the two calls. `None` if the set opened with the key in the state `was`: the opening state replaces
-    /// the first call.
+    /// The first of the two calls. `None` if the set opened with the key in the state `was`: the opening state takes
+    /// the place of the first call.
     pub first: Option<StreamCall>,
-    /// The second of the two calls. `None` if the key's final state is not `was`: the final state replaces the second
-    /// call.
+    /// The second of the two calls. `None` if the key's final state is not `was`: the final state takes the place of
+    /// the second call.
     pub second: Option<StreamCall>,
 }
 

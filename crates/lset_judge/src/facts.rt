@@ -104,7 +104,7 @@ impl KeyState {
     }
 
     /// Returns whether all changes of the key away from the state `was` had ended when the stored call `first` started.
-    /// If `first` is `None`, returns whether no such change has started.
+    /// If `first` is `None`, returns whether no change away from the state `was` has started.
     fn is_standing(&self, first: Option<StreamCall>, key: Key) -> bool
         requires { first ≡ first_of key.0 (facts_of self.now) }
         ensures { IsTrue result ↔ IsStanding key.0 (facts_of self.now) }
@@ -139,8 +139,8 @@ impl KeyState {
     }
 
     /// Returns the clash between the stored call on the key and `second`, which ends now: no order can contain both
-    /// calls. If no call is stored, the key's opening state replaces it. Returns `None` if and only if the stored facts
-    /// show no clash.
+    /// calls. If no call is stored, returns the clash between the key's opening state and `second`. Returns `None` if
+    /// and only if the stored facts show no clash.
     pub(crate) fn clash_of(&self, second: StreamCall) -> Option<Clash>
         ensures { MatchOption result (IsClashing (facts_of self.now) second → ⊥) (IsFound (facts_of self.now) second) }
     {
@@ -168,8 +168,8 @@ impl KeyState {
     }
 
     /// Returns the clash between the stored call on the key and the key's final state `left`: no order can contain the
-    /// call and leave the key in the state `left`. If no call is stored, the key's opening state replaces it. Returns
-    /// `None` if and only if the stored facts show no clash.
+    /// call and leave the key in the state `left`. If no call is stored, returns the clash between the key's opening
+    /// state and `left`. Returns `None` if and only if the stored facts show no clash.
     pub(crate) fn clash_left(&self, key: Key, left: Presence) -> Option<Clash>
         ensures { MatchOption result (left ≡ other self.now.was → IsStanding key.0 (facts_of self.now) → ⊥) (IsFoundLeft key.0 (facts_of self.now) left) }
     {

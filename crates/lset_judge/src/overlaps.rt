@@ -1,5 +1,5 @@
-//! Counts the calls that overlap a change of their key. If only few calls do, the verdict `Linearizable` is weak
-//! evidence.
+//! Counts the calls that overlap a change of their key. If there are only a few such calls, the verdict `Linearizable`
+//! is weak evidence.
 
 use crate::stream::BEHIND_ALL;
 

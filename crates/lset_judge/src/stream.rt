@@ -626,8 +626,8 @@ impl Stream {
         Ok(())
     }
 
-    /// Returns the smallest key that has a stored state but cannot be in its final state, or `None` if there is no such
-    /// key. `keys` are the final keys.
+    /// Returns the smallest key with a stored state whose final state, according to `keys` (the final keys), is
+    /// impossible. Returns `None` if there is no such key.
     fn wrongly_left(&self, keys: &[u32]) -> Option<u32>
         requires { IsStrictlyIncreasing keys.now }
         ensures { MatchOption result
