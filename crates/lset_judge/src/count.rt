@@ -277,8 +277,8 @@ fn since_first(counted: &[StreamCall], since: Option<u64>) -> Option<u64> {
 /// found. `calls` must be ordered by start. `there` is the key's opening state; `left` is the key's final state, if
 /// known.
 ///
-/// If the function returns a count, no order explains `calls`. The search takes time quadratic in the number of calls.
-/// It fails only if an allocation fails.
+/// If the function returns a count, no order explains `calls` and leads from the state `there` to the state `left`. The
+/// search takes time quadratic in the number of calls. It fails only if an allocation fails.
 pub fn find_count(
     alloc: Global,
     calls: &[StreamCall],
