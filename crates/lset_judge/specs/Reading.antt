@@ -1,8 +1,8 @@
--- Converts each completed call to a call that returns true or false, because the judge decides only such calls. A
--- `ceiling` (the smallest key not less than the argument) that returned a key becomes a `contains` of the key with the
--- reply true. A `ceiling` that found no key, or an `add` that returned full, becomes a `contains` of its argument with
--- the reply false. A pending call is unchanged. If no order explains the converted calls, no order explains the
--- recorded calls.
+-- Converts each completed call to a call that returns true or false, because the judge decides only such calls.
+-- `ceiling` returns the smallest key not less than its argument. A `ceiling` that returned a key becomes a `contains`
+-- of the key with the reply true. A `ceiling` that found no key, or an `add` that returned full, becomes a `contains`
+-- of its argument with the reply false. A pending call is unchanged. If no order explains the converted calls, no order
+-- explains the recorded calls.
 use Rattle.std.specs.Prelude.{ℕ, List, map, Option, Some, None}
 use Rattle.lset_words.specs.declared.Call.{Call}
 use Rattle.lset_words.specs.declared.Call.TheVariants.{Add, Contains, Ceiling}

@@ -26,7 +26,7 @@ fn ends_by(first: StreamCall, second: StreamCall) -> bool
 }
 
 /// Returns the state in which a completed call left its key, and the kind of the call. Returns `None` for a `ceiling`
-/// (the smallest key not less than the argument), and for a reply that is neither true nor false.
+/// (a call that returns the smallest key not less than its argument), or if the reply is neither true nor false.
 fn kept_as(call: Call, reply: Reply) -> Option<(Presence, Kept)>
     ensures { MatchOption result (is_plain call reply ≡ false) (λ p. (left_so (effect_of call reply) ≡ Some p.0) × (word_kept p.1 p.0 (key_of call) ≡ call)
         × (reply_kept p.1 p.0 ≡ reply) × IsTrue (is_call p.1)) }

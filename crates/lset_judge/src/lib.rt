@@ -4,9 +4,10 @@
 //! pass over their moments (the numbers of the starts and ends). A change (an `add` or `remove` that returned true or
 //! is pending) takes effect only when the end of a call requires it; of several pending changes, the one that ends
 //! first takes effect. If the end of a call or the key's final state is impossible even then, no order explains the
-//! calls. If this happens for no key, some order explains the calls, in every history without `ceiling` (the smallest
-//! key not less than the argument) and without the reply `full`. The judge does not search, and does not need to know
-//! when calls take effect. (Linearizability is due to Herlihy and Wing; the judge's test is this project's own.)
+//! calls. If this happens for no key, some order explains the calls, in every history without `ceiling` (a call that
+//! returns the smallest key not less than its argument) and without the reply `full`. The judge does not search, and
+//! does not need to know when calls take effect. (Linearizability is due to Herlihy and Wing; the judge's test is this
+//! project's own.)
 #![tactic(auto)]
 
 ghost use Rattle.lset_judge.specs.Locality.{KeysAreApart, QuotasDoNotMatter};
@@ -41,10 +42,10 @@ pub use stream::{LAST_MOMENT, Refusal, StreamCall, StreamFault};
 /// the recording if and only if some order explains each part. Therefore, if `judge` finds every part linearizable, the
 /// recording is linearizable. If `judge` finds one part not linearizable, the recording is not linearizable.
 ///
-/// The lemma holds for the histories that the judge decides (see `is_judged`). It does not hold with a `ceiling` (the
-/// smallest key not less than the argument), which reads many keys. It does not hold either with a quota that is too
-/// small for all `add`s, since a thread's quota counts the thread's `add`s of all keys. (Locality is due to Herlihy and
-/// Wing: each key is an object in their sense.)
+/// The lemma holds for the histories that the judge decides (see `is_judged`). It does not hold with a `ceiling`, a
+/// call that reads many keys: it returns the smallest key not less than its argument. It does not hold either with a
+/// quota that is too small for all `add`s, since a thread's quota counts the thread's `add`s of all keys. (Locality is
+/// due to Herlihy and Wing: each key is an object in their sense.)
 pub fn keys_are_apart()
     ensures { KeysAreApart }
 {}

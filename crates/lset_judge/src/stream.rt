@@ -59,8 +59,8 @@ pub enum StreamFault {
     /// The call ends no later than it starts.
     #[error("the call does not end after its begin")]
     Ends,
-    /// The call is a completed `ceiling` (the smallest key not less than the argument), or its reply is neither true
-    /// nor false.
+    /// The call is a completed `ceiling` (a call that returns the smallest key not less than its argument), or its
+    /// reply is neither true nor false.
     #[error("the call is a completed ceiling, or its reply is neither true nor false")]
     NotPlain,
     /// An earlier call ends at the same moment at which the call starts or ends.

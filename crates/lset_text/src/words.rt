@@ -22,7 +22,7 @@ use lset_words::{Call, Key, Kind, Reply};
 use std::fmt;
 
 /// The version of a file format. Only version 2 has opening keys (keys that the set contains at the start), the call
-/// `ceiling` (the smallest key not less than the argument), and the replies of `ceiling`.
+/// `ceiling` (which returns the smallest key not less than its argument), and the replies of `ceiling`.
 #[derive(Clone, Copy, Debug, PartialEq, Eq)]
 pub enum Version {
     One,
