@@ -1,5 +1,5 @@
 -- Lemmas about the checker's loop over an order from the last call to the first. The loop keeps the earliest moment
--- when a call ended. A call that begins after this moment is too early in the order.
+-- when a call ended, because a call that begins after the end of a later call is too early in the order.
 use Rattle.std.proofs.Common.{rules, ◌≡◌, ℕ, ◌<◌, ◌≤◌, List, length, Option, Some, None, refl, subst, inl, inr, ◌⊎◌}
 use Rattle.std.proofs.Common.{suc, arith}
 use Rattle.std.proofs.lemmas.Bool.{cases_order, cases_lt}

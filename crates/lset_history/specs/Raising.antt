@@ -26,8 +26,8 @@ is_against changes key (Some x) j moment =
 
 -- Holds if `moment` is a correct intermediate result of the search for the first moment when `found` is the smallest
 -- present key at or above `key`. The search has read the changes up to `last`. At each moment from `from` to just
--- before `moment`, some key refutes the claim that `found` is this key (see `is_against`). A key that refutes the claim
--- at `moment` also refutes it at all later moments up to `last`.
+-- before `moment`, some key refutes the claim that `found` is the smallest (see `is_against`). A key that refutes the
+-- claim at `moment` also refutes it at all later moments up to `last`.
 pub record IsCandidateUpTo (changes : ℕ → List ℕ) (key : ℕ) (found : Option ℕ) (from moment last : ℕ) : Type 0 where
   pub low : from ≤ moment
   pub before : (m : ℕ) → from ≤ m → m < moment → (j : ℕ) × (is_against changes key found j m ≡ true)

@@ -255,8 +255,8 @@ impl Changes {
     }
 
     /// Returns the only moment, from `from` on, that can be the first moment when `found` is the smallest key of the
-    /// set at or above `key`. At each earlier moment from `from` on, some key refutes the claim that `found` is this
-    /// key (see `is_against`). A key that refutes the claim at the returned moment also refutes it at all later
+    /// set at or above `key`. At each earlier moment from `from` on, some key refutes the claim that `found` is the
+    /// smallest (see `is_against`). A key that refutes the claim at the returned moment also refutes it at all later
     /// moments.
     fn candidate(&self, key: u32, found: Option<u32>, from: u32) -> u32
         ensures { IsCandidate (moments_of self.now) key found from result }

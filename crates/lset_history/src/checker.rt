@@ -145,8 +145,8 @@ fn first_too_early(calls: &[CallRecord], order: &[Placed]) -> Option<u32>
 ///
 /// `Ok` means that the order linearizes the history (as defined by Herlihy and Wing, with completion of pending calls)
 /// for the sequential set with the history's threads, quota and opening keys, and that `keys` are the keys of the
-/// sequential set after all calls, in strictly increasing order. The command `check` calls this function
-/// (`src/check_command.rt` of `tool_replay`).
+/// sequential set after all calls, in strictly increasing order. The command `check` calls `check_order` (in
+/// `src/check_command.rt` of `tool_replay`).
 ///
 /// # Errors
 ///

@@ -1,5 +1,5 @@
 -- Proof: the facts that the judge stores about the calls on each key are correct when the set opens, and stay correct
--- when a call starts or ends. From these facts, the judge finds a clash (two calls that contradict each other).
+-- when a call starts or ends. The judge uses the facts to find a clash (two calls that contradict each other).
 use Rattle.std.proofs.Common.{inl, inr, ◌≡◌, ◌≢◌, ℕ, suc, ◌-◌, ◌<◌, ◌≤◌, true, false, List, [], ◌∷◌, ◌++◌, refl, sym, ap, ◌∙◌, arith, subst, length, get_or}
 use Rattle.std.proofs.Common.{append_assoc, append-nil}
 use Rattle.std.specs.Prelude.{Option, Some, None, IfSome, IsSomeAnd, All, Contains, is_some, nat_lt}

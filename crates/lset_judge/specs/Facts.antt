@@ -1,4 +1,4 @@
--- The facts that the judge stores about the calls on each key. From these facts, the judge finds a clash: two calls on
+-- The facts that the judge stores about the calls on each key. The judge uses the facts to find a clash: two calls on
 -- the key that contradict each other.
 use Rattle.std.specs.Prelude.{◌≡◌, ◌≢◌, ℕ, ◌<◌, ◌≤◌, ◌⊎◌, max, if◌then◌else◌, Bool, true, false, List, ◌++◌, All, Option, Some, None, IfSome, IsSomeAnd}
 use Rattle.std.specs.Bool.{nat_eq}
@@ -88,8 +88,8 @@ is_call Look = true
 abbrev pub first_of : ℕ → Facts → Option StreamCall
 first_of key f = if is_call f.kept then Some (call_kept key f) else None
 
--- Returns the moment that the facts `f` store for the state `there`. All calls that change the key to the state `there`
--- have ended by this moment.
+-- Returns the moment that the facts `f` store for the state `there`: the moment by which all calls that change the key
+-- to this state have ended.
 abbrev pub until_of : Presence → Facts → ℕ
 until_of Present f = f.puts_until
 until_of Absent f = f.takes_until
@@ -206,7 +206,8 @@ pub record AreComplete (opening : List ℕ) (calls : List CallRecord) (moment ke
       → until_of (other p) f ≤ since_of first → IsAsGood key f p first
 
 -- Holds if the judge has missed no clash (two calls that contradict each other) among the calls on the key that have
--- ended by `moment`. No such call contradicts the key's opening state, or a call that had ended before it started.
+-- ended by `moment`. No call that has ended by `moment` contradicts the key's opening state, or a call that had ended
+-- before it started.
 abbrev pub NoneMissed : List ℕ → List CallRecord → ℕ → ℕ → Type 0
 NoneMissed opening calls moment key = (p : Presence) (first : Option CallRecord) (y : CallRecord) → EndsBefore first y.begun
     → Clashes calls key (presence (has_key key opening)) None p first (Some y) → IsPast moment (Some y) → ⊥

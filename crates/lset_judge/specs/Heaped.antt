@@ -1,4 +1,4 @@
--- The heap of the moments when calls end. In contracts, a heap is the list of these moments in increasing order.
+-- The heap of the moments when calls end. In contracts, a heap is the list of its moments in increasing order.
 use Rattle.std.specs.Prelude.{ℕ, List, [], ◌∷◌}
 use Rattle.std.specs.Ordering.{nat_cmp}
 use Rattle.std.specs.declared.cmp.Ordering.{Ordering}

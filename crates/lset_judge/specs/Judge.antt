@@ -19,8 +19,8 @@ IsJudgeOf threads opening calls j = IsStreamKept threads opening calls j.stream
 
 -- ---- The meaning of a verdict
 
--- Returns the final state of a key if the reason of a verdict is about the final keys. Returns None if the reason has a
--- moment: the reason is then about the calls up to this moment.
+-- Returns the final state of a key if the reason of a verdict is about the final keys. Returns None if the reason is
+-- about the calls up to a moment.
 abbrev pub left_by : List ℕ → ℕ → Option ℕ → Option Presence
 left_by keys key (Some moment) = None
 left_by keys key None = Some (presence (has_key key keys))

@@ -90,9 +90,9 @@ pub record ArePending (calls : List CallRecord) (moment : ℕ) (pending : List P
   pub apart : AllPairs (λ (p q : Pending). p.end ≢ q.end) pending
   pub later : All (λ (p : Pending). moment < p.end) pending
 
--- Holds if the stored states of the keys after a moment are the states that the judge's test computes. `Some f` means
--- that no order explains the calls on the key `f.key`, that the test showed this at the moment `f.moment`, and that it
--- showed this for no key earlier.
+-- `None`: holds if the stored states of the keys after `moment` are the states that the judge's test computes, and no
+-- key has failed the test. `Some f`: holds if the key `f.key` failed the test at `f.moment`, and no key failed the test
+-- earlier. (A key fails if the test shows that no order explains the key's calls.)
 abbrev pub IsJudgedTo : List ℕ → List CallRecord → ℕ → States → Option Failed → Type 0
 IsJudgedTo opening calls moment states None =
     (k : ℕ) → state_after (event_at behind_all k calls) (has_key k opening) moment ≡ Some (state_for states k)
@@ -138,17 +138,17 @@ pub record MayCome (pending : List Pending) (moment : ℕ) (x : CallRecord) : Ty
 abbrev pub HasFailed : HistoryValue → ℕ → ℕ → Type 0
 HasFailed h k moment = state_after (event_at behind_all k h.calls) (has_key k h.opening.keys) moment ≡ None
 
--- Holds if `key` is the first key for which the judge's test shows that no order explains the key's calls, and the test
--- shows this at `moment`. If `moment` is None, holds if the test shows this for no key. (Then only the final state of
--- `key` is wrong: see `IsRefusedBy`.)
+-- Holds if `key` is the first key to fail the judge's test, and fails at `moment`. (A key fails if the test shows that
+-- no order explains the key's calls.) If `moment` is None, holds if no key fails the test: then only the final state of
+-- `key` is wrong (see `IsRefusedBy`).
 abbrev pub FailsFirst : HistoryValue → ℕ → Option ℕ → Type 0
 FailsFirst h key None = (k m : ℕ) → HasFailed h k m → ⊥
 FailsFirst h key (Some moment) = HasFailed h key moment × ((k m : ℕ) → HasFailed h k m → moment ≤ m)
 
 -- Holds if a verdict is correct. Linearizable: some order explains the calls and leaves the final keys.
--- NotLinearizable: no order does, with any quota, and the calls on the key that `refusal` (the reason) names suffice to
--- show this (`IsRefusedBy`). If the reason has a moment, the judge's test fails for this key at this moment, and for no
--- key earlier. Otherwise the test fails for no key, and only the key's final state is wrong.
+-- NotLinearizable: no order does, with any quota, and the calls on the key that `refusal` (the reason) names are
+-- sufficient proof (`IsRefusedBy`). If the reason has a moment, the key fails the judge's test at this moment, and no
+-- key fails the test earlier. Otherwise no key fails the test, and only the key's final state is wrong.
 abbrev pub IsStreamVerdict : HistoryValue → List ℕ → StreamVerdict → Type 0
 IsStreamVerdict h keys Linearizable = IsExplained h keys
 IsStreamVerdict h keys (NotLinearizable refusal) =
@@ -190,8 +190,8 @@ verdict_of_key None = Linearizable
 verdict_of_key (Some k) = NotLinearizable (record { key = record { 0 = k }; moment = None })
 
 -- Holds if the verdict agrees with the judge's test. If the test shows that no order explains the calls on a key, the
--- verdict names the key and the moment when the test failed. If the test shows this for no key, the reason of a verdict
--- NotLinearizable has no moment.
+-- verdict names the key and the moment when the test failed. Otherwise, the reason of a verdict NotLinearizable has no
+-- moment.
 abbrev pub IsToldBy : Option Failed → StreamVerdict → Type 0
 IsToldBy None Linearizable = Unit {0}
 IsToldBy None (NotLinearizable refusal) = refusal.moment ≡ None

@@ -28,10 +28,10 @@ pub struct Count {
     /// All calls that can change the key back between the calls in `calls`. Each call in `backs` returned true or is
     /// pending, and overlaps the time from `since` to `until`.
     pub backs: Vec<StreamCall>,
-    /// No call in `calls` starts before this moment. `None` if the set opened with the key in the state `was`: the
+    /// A moment before which no call in `calls` starts. `None` if the set opened with the key in the state `was`: the
     /// opening state then counts as the first call.
     pub since: Option<u64>,
-    /// All calls in `calls` have ended by this moment. `None` if the key's final state is not `was`: the final state
+    /// A moment by which all calls in `calls` have ended. `None` if the key's final state is not `was`: the final state
     /// then counts as the last call.
     pub until: Option<u64>,
 }

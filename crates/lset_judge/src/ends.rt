@@ -9,7 +9,7 @@ use std::cmp::Reverse;
 use std::collections::BinaryHeap;
 use std::marker::Model;
 
-/// The moments when calls end. In contracts, the value is the list of these moments in increasing order.
+/// A heap of the moments when calls end. In contracts, the heap is the list of its moments in increasing order.
 #[derive(Drop)]
 pub(crate) struct Ends {
     heap: BinaryHeap<Reverse<u64>>,

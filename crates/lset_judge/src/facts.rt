@@ -1,4 +1,4 @@
-//! The facts that the judge stores about the calls on each key. From these facts, the judge finds a clash: two calls on
+//! The facts that the judge stores about the calls on each key. The judge uses the facts to find a clash: two calls on
 //! the key that contradict each other.
 
 ghost use Rattle.std.specs.Prelude.{◌≡◌, ◌↔◌, ◌≤◌, false, IsTrue, MatchOption, Some};

@@ -69,8 +69,8 @@ fn has_room(history: &History) -> bool
 /// Returns whether each completed call of the history is an `add`, a `remove` or a `contains` that returned true or
 /// false. Does not allocate.
 ///
-/// The judge decides such a history if the quota (the number of successful `add`s that one thread can make) covers all
-/// `add`s of each thread that returned true or are pending.
+/// The judge decides the history if, in addition, the quota (the number of successful `add`s that one thread can make)
+/// covers all `add`s of each thread that returned true or are pending.
 pub fn is_plain(history: &History) -> bool
     ensures { IsTrue result ↔ IsPlain history.now.calls }
 {

@@ -248,9 +248,9 @@ impl KeyChanges {
         }
     }
 
-    /// Raises `puts_until` to `end` if `puts_until` is smaller. If the changes are not in heaps, `puts_until` is also
-    /// the moment when a pending `add` ends, and this moment changes too. Call this function only if the changes are in
-    /// heaps, or after the judge has found that no order explains the calls.
+    /// Raises `puts_until` to `end` if `puts_until` is smaller. If the changes are not in heaps, a pending `add` then
+    /// ends at `end` too, because `puts_until` stores the moment when it ends. Must be called only if the changes are
+    /// in heaps, or after the judge has found that no order explains the calls.
     pub(crate) fn raise_puts(&mut self, end: u64)
         ensures puts { is_many self.old.held ≡ true → puts_in self.new ≡ puts_in self.old }
         ensures takes { takes_in self.new ≡ takes_in self.old }
@@ -260,9 +260,9 @@ impl KeyChanges {
         self.puts_until = self.puts_until.max(end);
     }
 
-    /// Raises `takes_until` to `end` if `takes_until` is smaller. If the changes are not in heaps, `takes_until` is
-    /// also the moment when a pending `remove` ends, and this moment changes too. Call this function only if the
-    /// changes are in heaps, or after the judge has found that no order explains the calls.
+    /// Raises `takes_until` to `end` if `takes_until` is smaller. If the changes are not in heaps, a pending `remove`
+    /// then ends at `end` too, because `takes_until` stores the moment when it ends. Must be called only if the changes
+    /// are in heaps, or after the judge has found that no order explains the calls.
     pub(crate) fn raise_takes(&mut self, end: u64)
         ensures puts { puts_in self.new ≡ puts_in self.old }
         ensures takes { is_many self.old.held ≡ true → takes_in self.new ≡ takes_in self.old }

@@ -3,8 +3,8 @@
 //! A key has only two states, present and absent. The judge therefore examines the calls on each key separately, in one
 //! pass over their moments (the numbers of the starts and ends). A change (an `add` or `remove` that returned true or
 //! is pending) takes effect only when the end of a call requires it; of several pending changes, the one that ends
-//! first takes effect. If the end of a call or the key's final state is impossible even then, no order explains the
-//! calls. If this happens for no key, some order explains the calls, in every history without `ceiling` (a call that
+//! first takes effect. If the end of a call or a key's final state is impossible even then, no order explains the
+//! calls. If all of them are possible, some order explains the calls, in every history without `ceiling` (a call that
 //! returns the smallest key not less than its argument) and without the reply `full`. The judge does not search, and
 //! does not need to know when calls take effect. (Linearizability is due to Herlihy and Wing; the judge's test is this
 //! project's own.)

@@ -167,8 +167,8 @@ impl KeyState {
         Ok(true)
     }
 
-    /// Processes the end of `call` on the key, at moment `before` + 1. Returns `false` if the end of `call` shows that
-    /// no order explains the calls on the key. In this case, also searches for an earlier call that contradicts `call`.
+    /// Processes the end of `call` on the key, at moment `before` + 1. If the end of `call` shows that no order
+    /// explains the calls on the key, returns `false` and searches for an earlier call that contradicts `call`.
     pub(crate) fn meet_end(
         &mut self,
         alloc: Global,

@@ -116,8 +116,8 @@ impl Judge {
         }
     }
 
-    /// Decides whether some order linearizes all calls, whatever the final keys are. Use this function for a recording
-    /// that was cut off and therefore does not contain the final keys. The function fails only if an allocation fails.
+    /// Decides whether some order linearizes all calls, whatever the final keys are. For a recording that was cut off
+    /// and therefore does not contain the final keys. The function fails only if an allocation fails.
     pub fn close_cut_off(self) -> Result<Verdict, AllocError>
         ensures { IfOk result (λ verdict. (threads : ℕ) (opening : List ℕ) (calls : List RecordedCall) → IsJudgeOf threads opening calls self
             → IsVerdictCutOff threads opening calls verdict) }

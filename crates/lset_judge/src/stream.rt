@@ -98,13 +98,13 @@ pub(crate) enum StreamVerdict {
 pub struct Refusal {
     /// The key. No order explains the calls on the key and leaves the key in its final state.
     pub key: Key,
-    /// No order explains the calls on `key` that start at this moment or earlier, with all their replies, whatever the
-    /// final keys are. The moment is the first at which the judge's test fails for any key. `None` if the test fails
-    /// for no key, but no order explains all calls on `key` and leaves the key in its final state.
+    /// A moment such that no order explains the calls on `key` that start at the moment or earlier, with all their
+    /// replies, whatever the final keys are. It is the first moment at which the judge's test fails for any key. `None`
+    /// if the test fails for no key, but no order explains all calls on `key` and leaves `key` in its final state.
     pub moment: Option<u64>,
 }
 
-/// The first key for which the judge found that no order explains the key's calls, and the moment of this event.
+/// The first key with calls that no order explains, and the moment when the judge found the key.
 #[derive(Clone, Copy)]
 pub(crate) struct Failed {
     pub(crate) key: Key,

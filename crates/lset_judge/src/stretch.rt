@@ -12,9 +12,9 @@ use std::alloc::{AllocError, Global};
 pub(crate) struct Stretch {
     /// The key's state (present or absent) after each change in the stretch.
     pub(crate) was: Presence,
-    /// Changes that start before this moment are not in the stretch.
+    /// The earliest moment at which a change in the stretch can start.
     from: u64,
-    /// Changes that end after this moment are not in the stretch.
+    /// The latest moment at which a change in the stretch can end.
     upto: u64,
     /// A call that saw the key in the state `was`. It counts as an additional call before the changes of the stretch.
     pub(crate) first: Option<StreamCall>,
@@ -29,7 +29,7 @@ pub(crate) struct Stretch {
 }
 
 /// The smallest stretch found so far, if any. A stretch is a period with so many calls that no order can contain all of
-/// them. `size` is the number of these calls plus the number of calls that can change the key back.
+/// them. `size` is the number of calls in the stretch plus the number of calls that can change the key back.
 #[derive(Clone, Copy)]
 struct Best {
     found: Option<Stretch>,
