@@ -1,4 +1,4 @@
--- A write to one word of the list leaves all other words unchanged.
+-- Lemmas: a write to one word of the list leaves all other words unchanged.
 use Rattle.std.specs.Prelude.{◌≡◌, ◌≢◌, ℕ, ◌<◌, List, slice_index, slice_set, length}
 use Rattle.std.proofs.Common.{arith, inl, inr, get_or-set_other, get_or-set_same}
 use Rattle.lset_words.specs.Words.{key_index, link_index, lock_index}

@@ -10,8 +10,8 @@ use Rattle.lset_steps.specs.Chain.{View, Segment, InChain, IsChain, InContent, I
 use Rattle.lset_steps.specs.Worlds.{keys_in}
 use Rattle.lset_steps.proofs.Segments.{segment_increases}
 
--- From every node that has been in the chain, links lead to the tail. Proof by induction on the difference between the
--- tail's key and the node's key, since keys increase along links.
+-- Lemma: from every node that has been in the chain, links lead to the tail. Proof by induction on the difference
+-- between the tail's key and the node's key, because keys increase along links.
 reaches-by : (v : View) → IsOrdered v → (d i : ℕ) → v.published i → v.key 1 ≤ v.key i + d → (ns : List ℕ) × Segment v i ns 1
 reaches-by v ord zero i m le = elim (same_or_not i 1) [
   | inl e ↦ ([], e)

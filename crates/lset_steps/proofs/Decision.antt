@@ -1,6 +1,5 @@
--- Lemmas about the end of a walk along the chain at two neighboring nodes: pred has a smaller key than the call's, and
--- curr, the next node, does not. The call now has a reply or will change the set. The proofs of all lists with such
--- walks use these lemmas.
+-- Lemmas about a call whose walk along the chain has ended at two neighboring nodes: `pred`, whose key is smaller than
+-- the call's key, and `curr`, whose key is not. The call then has a reply, or will change the set.
 use Rattle.std.specs.Prelude.{◌≡◌, ◌≢◌, ℕ, ◌*◌, ◌/◌, ◌%◌, ◌<◌, ◌≤◌, ◌⊎◌, Bool, true, false, Some, None, List, [], ◌==◌, nat_lt, refl}
 use Rattle.std.proofs.Common.{arith, inl, inr, sym, ◌∙◌, ap}
 use Rattle.lset_words.proofs.Numbers.{same_number, other_number, lower_number, not_lower_number}
@@ -14,8 +13,8 @@ use Rattle.lset_steps.proofs.Memory.{Memory}
 use Rattle.lset_steps.proofs.QuietMove.{chain_on}
 use Rattle.lset_steps.proofs.Replies.{Adding, Removing, decided_cases, absent_between, ceiling_fits}
 
--- At the end of its walk, a call either has a reply that is correct now, or will add or remove its key. In the second
--- case, `Adding` or `Removing` holds.
+-- Lemma: when its walk ends, a call either has a correct reply, or will add or remove its key. If it will add or remove
+-- its key, `Adding` or `Removing` holds.
 pub decides : {marks : Bool} {sz : Sizes} {ws : List ℕ} {used : ℕ → ℕ} (m : Memory marks sz ws used) (t : ℕ) {pred curr : ℕ}
     (rows : Targets) (c : ℕ) (l : Local) → InChain (view sz ws used) pred → pred ≢ 1 → node_link ws pred ≡ 2 * curr
     → node_key ws pred < target l.call → node_link ws curr % 2 ≡ 0 → c ≡ node_key ws curr → target l.call ≤ c

@@ -1,5 +1,5 @@
--- Proof that a machine (a list algorithm as a table of steps) satisfies its law in every run, if each of its steps is
--- one of a few allowed changes of the words. Moment k of a run is the state after the first k events.
+-- Proof that a machine (a list algorithm as a table of steps) satisfies its law in every run if each step of the
+-- machine makes only an allowed change to the words. Moment k of a run is the state after the first k events.
 use Rattle.std.specs.Prelude.{◌≡◌, ◌≢◌, ℕ, ◌+◌, ◌%◌, ◌<◌, ◌≤◌, ◌⊎◌, ◌-◌, Bool, true, false, Option, Some, None, List}
 use Rattle.std.specs.Prelude.{slice_set, slice_index_or, length, refl, if◌then◌else◌, ◌==◌, ◌||◌}
 use Rattle.std.proofs.Common.{arith, inl, inr, sym, ◌∙◌, ap, subst, zero, suc, get_or-set_other, get_or-set_same, length-set}
@@ -28,20 +28,20 @@ use Rattle.lset_steps.proofs.MoveLaws.{move-changed, marked_stays, later_same, l
 use Rattle.lset_steps.proofs.Hindsight.{hindsight}
 use Rattle.lset_steps.proofs.Openings.{opening_local, none_used, opening_ordered, opening_memory}
 
--- A proof outline: an assertion for each row of a thread's step table (Owicki and Gries). The arguments are the quota,
--- the thread, the views (the list's nodes and locks) at all moments up to now, the moment when the call began, the
--- current moment, the current view, whether the call has changed the set, and the thread's private state.
+-- The type of a proof outline, which has an assertion for each row of a thread's step table (Owicki and Gries). The
+-- arguments are the quota, the thread, the views (nodes and locks) at all moments so far, the moment when the call
+-- began, the current moment, the current view, whether the call has changed the set, and the thread's private state.
 abbrev pub Outline : Type 1
 Outline = ℕ → ℕ → (ℕ → View) → ℕ → ℕ → View → Bool → Local → Type 0
 
--- The facts about the list's words at moment `now` that the proof of any thread's step can use.
+-- The facts about the list's words at moment `now`, for use in the proof of a thread's step.
 pub record Here (marks : Bool) (sz : Sizes) (vs : ℕ → View) (now : ℕ) (ws : List ℕ) (used : ℕ → ℕ) : Type 1 where
   pub limits : IsWithin sz
   pub memory : Memory marks sz ws used
   pub course : Course vs now
   pub present : vs now ≡ view sz ws used
 
--- The facts about thread `t` and its private state `l` at moment `now`, with the assertion of the proof outline at the
+-- The facts about thread `t` and its private state `l` at moment `now`, including the proof outline's assertion for the
 -- thread's next row of the step table.
 pub record Thread (At : Outline) (sz : Sizes) (t : ℕ) (vs : ℕ → View) (first now : ℕ) (ws : List ℕ) (used : ℕ → ℕ)
     (done : Bool) (l : Local) : Type 0 where
@@ -50,7 +50,7 @@ pub record Thread (At : Outline) (sz : Sizes) (t : ℕ) (vs : ℕ → View) (fir
   pub begun : first ≤ now
   pub at : At sz.quota t vs first now (view sz ws used) done l
 
--- A step of thread `t`, with proofs that the step preserves the invariant of a run.
+-- A step of thread `t`, with proofs that the step preserves the invariant of the run.
 pub record StepOf (T : Table) (marks : Bool) (At : Outline) (sz : Sizes) (t : ℕ) (vs : ℕ → View) (first : ℕ → ℕ) (now : ℕ)
     (ws : List ℕ) (used : ℕ → ℕ) (done : ℕ → Bool) (locals : ℕ → Local) : Type 0 where
   pub action : Action
@@ -71,13 +71,13 @@ pub record StepOf (T : Table) (marks : Bool) (At : Outline) (sz : Sizes) (t : �
   pub own : At sz.quota t vs (first t) (suc now) (view sz words' used') (done t || is_change effect) local'
   pub others : (u : ℕ) → u < sz.threads → u ≢ t → At sz.quota u vs (first u) (suc now) (view sz words' used') (done u) (locals u)
 
--- Holds if, for some `first`, `now` and `done`, the assertion of the proof outline at the thread's row of the step
--- table is true in view `v` (the list's nodes and locks).
+-- Holds if, for some `first`, `now`, and `done`, the proof outline's assertion for the thread's row of the step table
+-- is true in view `v` (nodes and locks).
 abbrev pub Before : Outline → ℕ → ℕ → (ℕ → View) → View → Local → Type 0
 Before At q t vs v l = (first : ℕ) × (now : ℕ) × (done : Bool) × At q t vs first now v done l
 
--- The proof obligations for a list's proof outline: the assertion of each thread holds when the list opens, and each
--- event preserves it.
+-- The proof obligations for a list's proof outline: each thread's assertion holds when the list opens, and each event
+-- preserves each thread's assertion.
 pub record Discipline (T : Table) (marks : Bool) (At : Outline) : Type 1 where
   pub idle_at : (op : Opening) → Opens op → (t : ℕ) (vs : ℕ → View)
       → At op.quota t vs 0 0 (view_of (sizes op) (opening op)) false (idle op.quota t)
@@ -150,8 +150,8 @@ put_same s t l h = get_or-set_same s.locals t l (idle 0 0) h
 pub put_other : (s : State) (t u : ℕ) (l : Local) → u ≢ t → slice_index_or (slice_set s.locals t l) u (idle 0 0) ≡ local_of s u
 put_other s t u l h = get_or-set_other s.locals t u l (idle 0 0) h
 
--- The invariant of a run at moment `k`: properties of the words and, for each thread, the assertion of the proof
--- outline at the thread's next row of the step table.
+-- The invariant of a run at moment `k`: properties of the words and, for each thread, the proof outline's assertion for
+-- the thread's next row of the step table.
 pub record Inv (marks : Bool) (At : Outline) (sz : Sizes) (vs : ℕ → View) (k : ℕ) (s : State) (calls : ℕ → LastCall) :
     Type 1 where
   pub memory : Memory marks sz s.words (used_in s)

@@ -1,5 +1,5 @@
--- Assertions about nodes that a thread has locked, and the steps that can change these nodes. They apply to every list
--- with this rule: a thread writes links only while it holds node locks.
+-- Assertions about nodes that a thread has locked, and the steps that can change locked nodes. They apply to every list
+-- in which a thread writes links only while it holds node locks.
 use Rattle.std.specs.Prelude.{◌≡◌, ◌≢◌, ℕ, ◌+◌, ◌*◌, ◌/◌, ◌%◌, ◌<◌, Bool, true, false, Option, Some, None, List, [], slice_set, refl}
 use Rattle.std.proofs.Common.{arith, inl, inr, sym, ◌∙◌, ap}
 use Rattle.lset_words.specs.Words.{key_index, link_index, lock_index, tail_word, node_count, word_count, slot_node, target, key_of, Sizes}
@@ -57,7 +57,7 @@ in_chain {v} {t} {key} {pred} {curr} b =
     chain_on v pred curr curr [] b.held.at b.inner half refl
 
 -- The properties that a step preserves for thread `t`. The step is taken by another thread, or by `t` itself without
--- writing a link of the chain and without releasing a lock.
+-- writing a link of the chain or releasing a lock.
 pub record Leaves (v w : View) (t : ℕ) : Type 0 where
   pub used : w.used t ≡ v.used t
   pub grows : (a : ℕ) → v.published a → w.published a
@@ -117,7 +117,7 @@ module _ {v w : View} {q t : ℕ} (r : Rely v w q t) where
   pub own_link_on : (x : ℕ) → v.used t < q → v.link (slot_node q t (v.used t)) ≡ x → w.link (slot_node q t (w.used t)) ≡ x
   own_link_on x room e = rw r.used (r.own_link room ∙ e)
 
--- Holds if a step is allowed, and it writes the link of a node in the chain only if its thread holds the node's lock.
+-- Holds if a step is allowed, and writes the link of a node in the chain only if its thread holds the node's lock.
 abbrev pub LockedStep : (marks : Bool) (sz : Sizes) (t : ℕ) (ws : List ℕ) (used : ℕ → ℕ) (a : Action) (ws' : List ℕ) (used' : ℕ →
     ℕ)
     (change : Option (Key × Bool)) → Type 0
@@ -220,7 +220,7 @@ module _ {marks : Bool} {sz : Sizes} {ws : List ℕ} {used : ℕ → ℕ} (m : M
     (b.walk.held.mine, b.mine),
   )
 
-  -- ---- Lemmas for lists that mark nodes: the step that marks curr, and the step that then unlinks curr
+  -- ---- Lemmas about marking `curr` and then unlinking it
   pub marks_between : {pred curr : ℕ} {op : Call} (x : ℕ) → marks ≡ true → Between (view sz ws used) t (target op) pred curr
       → Removing (view sz ws used) curr op → node_link ws curr % 2 ≡ 0 → x ≡ node_link ws curr + 1 → target op < tail_word
       → LockedStep marks sz t ws used (Store (link_index curr) x) (slice_set ws (link_index curr) x) used

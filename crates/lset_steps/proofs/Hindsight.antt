@@ -1,6 +1,6 @@
--- Hindsight (after O'Hearn and others): suppose that a node was in the chain at some moment of a call. Then it was in
--- the chain with its present link at some moment of the call. Therefore the result of a walk without locks was true at
--- some moment of the call.
+-- Hindsight (after O'Hearn and others): if a node was in the chain at some moment of a call, then at some moment of the
+-- call, the node was in the chain with the link that it has now. Therefore the result of a walk without locks was
+-- correct at some moment of the call.
 use Rattle.std.proofs.Common.{◌≡◌, ◌≢◌, ℕ, zero, suc, ◌+◌, ◌-◌, ◌/◌, ◌%◌, ◌<◌, ◌≤◌, ◌⊎◌, inl, inr, [], sym, refl, ap, subst, ◌∙◌, arith}
 use Rattle.lset_steps.specs.Chain.{View, InChain, IsOrdered, Seen}
 use Rattle.lset_steps.proofs.Moves.{KeepsNodes, Course, InPast, Had, Lacked}
@@ -41,9 +41,9 @@ unmarked_before vs n b m t r l h p even = elim (even_or_not ((vs m).link b)) [
     even_or_not : (x : ℕ) → (x % 2 ≡ 0) ⊎ (x % 2 ≡ 1)
     even_or_not x = grind arith
 
--- Hindsight: suppose that a node was in the chain at moment `m`. Then at some moment from `m` to a later moment `t`,
--- it was in the chain with the link that it has at `t`. Proof by induction on the moments: a link changes only while
--- its node is in the chain.
+-- Lemma (hindsight): if a node was in the chain at moment `m`, then at some moment from `m` to a later moment `t`, the
+-- node was in the chain with the link that it has at `t`. Proof by induction on the moments, because a link changes
+-- only while its node is in the chain.
 hindsight-by : (vs : ℕ → View) (n b d m t : ℕ) → Course vs n → t ≡ m + d → t ≤ n → InChain (vs m) b
     → Seen vs m t b ((vs t).link b)
 hindsight-by vs n b zero m t r e l i =
@@ -90,8 +90,8 @@ abbrev pub seen_on : (vs : ℕ → View) (first now later b l : ℕ) → now ≤
 seen_on vs first now later b k l s =
     record { at = s.at; from = s.from; upto = (let u : s.at ≤ now = s.upto in omega arith); in_chain = s.in_chain; link = s.link }
 
--- Suppose that the key `k` is between the keys of two nodes, and that the walk saw a link from the first node to the
--- second. Then the set lacked `k` at some moment of the call.
+-- Lemma: if the walk saw a link from node `a` to another node, and the key `k` is between the keys of the two nodes,
+-- then `k` was absent from the set at some moment of the call.
 pub lacked_between : (vs : ℕ → View) (n first now a l k : ℕ) → Course vs n → now ≤ n → a ≢ 1 → Seen vs first now a l
     → (vs now).key a < k + 1 → k + 1 < (vs now).key (l / 2) → Lacked vs first now k
 lacked_between vs n first now a l k r le na s lo hi =

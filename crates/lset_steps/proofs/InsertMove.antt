@@ -1,12 +1,13 @@
--- The effect of inserting a node after a node of the chain: on the order of keys, on the chain, and on the keys of the
--- set.
+-- Lemmas about the insertion of a node after a node of the chain: its effect on the order of keys, on the chain, and on
+-- the keys of the set.
 use Rattle.std.proofs.Common.{◌≡◌, ◌≢◌, ℕ, ◌+◌, ◌*◌, ◌/◌, ◌%◌, ◌<◌, ◌≤◌, ◌⊎◌, inl, inr, List, [], ◌∷◌, sym, refl, ap, subst, ◌∙◌, arith}
 use Rattle.lset_steps.specs.Chain.{View, Segment, InChain, InContent, IsOrdered}
 use Rattle.lset_steps.proofs.Moves.{Inserts, KeepsNodes}
 use Rattle.lset_steps.proofs.Segments.{sides, gap}
 use Rattle.lset_steps.proofs.QuietMove.{in_chain_published, chain_before, chain_on, segment_after, apart, apart'}
 
--- The keys and links of three neighboring nodes if the middle one is inserted: `pred`, the new node `own`, and `curr`.
+-- The keys and links of three neighboring nodes when the middle one is inserted: `pred`, the new node `own`, and
+-- `curr`.
 pub record Facts (v w : View) (pred own curr k : ℕ) : Type 0 where
   pub curr_is : v.link pred / 2 ≡ curr
   pub own_is : w.link pred / 2 ≡ own

@@ -1,5 +1,5 @@
--- Proof that a lock word is t + 1 while thread t holds the lock, and 0 at all other times. A thread holds a lock from
--- the step that takes it until the store of 0 that releases it.
+-- Proof that a lock word is t + 1 while thread t holds the lock, and 0 while the lock is free. A thread holds a lock
+-- from the step that takes the lock until the store of 0 that releases the lock.
 use Rattle.std.specs.Prelude.{◌≡◌, ◌≢◌, ℕ, ◌+◌, ◌<◌, ◌≤◌, ◌⊎◌, if◌then◌else◌, ◌==◌, List, slice_index, slice_set, length, refl}
 use Rattle.std.proofs.Common.{arith, inl, inr, sym, ◌∙◌, ap, subst, zero, suc, get_or-set_other, get_or-set_same}
 use Rattle.std.proofs.lemmas.List.FromFn.{get_or-map-range_with_len}

@@ -1,4 +1,4 @@
--- The effect of marking a node of the chain: its key leaves the set, but the chain and the order of keys do not
+-- Lemmas about marking a node of the chain: the node's key leaves the set, but the chain and the order of keys do not
 -- change.
 use Rattle.std.proofs.Common.{◌≡◌, ◌≢◌, ℕ, ◌+◌, ◌/◌, ◌%◌, ◌<◌, ◌≤◌, inl, inr, sym, ap, subst, ◌∙◌, arith}
 use Rattle.lset_words.proofs.Numbers.{same_or_not}

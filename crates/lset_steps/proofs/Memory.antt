@@ -20,8 +20,8 @@ use Rattle.lset_steps.proofs.MoveLaws.{move-ordered, move-goes, tail_stays, mark
 use Rattle.lset_steps.proofs.AfterWrite.{key_after_key, key_after_link, key_after_lock, link_after_key, link_after_link}
 use Rattle.lset_steps.proofs.AfterWrite.{link_after_lock, not_key, not_link, set_same}
 
--- Two slots (nodes that successful adds use up) have the same number only if their threads and their indices are
--- equal: quotient and remainder are unique.
+-- Lemma: two slots (nodes reserved for adds) have the same number only if their threads and their indices are equal,
+-- because quotient and remainder are unique.
 pub row_once : (q t u i j : ℕ) → i < q → j < q → t * q + i ≡ u * q + j → (t ≡ u) × (i ≡ j)
 row_once q t u i j a b e =
     let r : t ≡ u = grind arith in
@@ -31,7 +31,7 @@ row_once q t u i j a b e =
 slot_in : (sz : Sizes) (t j : ℕ) → t < sz.threads → j < sz.quota → slot_node sz.quota t j < opening_node sz 0
 slot_in sz t j h k = let z : t * sz.quota + j < sz.threads * sz.quota = grind arith in omega arith
 
--- Returns the slot that thread t will use next: the node that is reserved for its next successful add.
+-- Returns the slot (a node reserved for one add) that thread t will use for its next successful add.
 abbrev pub own_of : ℕ → ℕ → (ℕ → ℕ) → ℕ
 own_of q t used = slot_node q t (used t)
 
@@ -44,12 +44,12 @@ one_more_same used t = grind (arith, nat_tests)
 pub one_more_other : (used : ℕ → ℕ) (t u : ℕ) → u ≢ t → one_more used t u ≡ used u
 one_more_other used t u d = grind (arith, nat_tests)
 
--- Holds if the action writes `x` to word `i`: it is a store, or an exchange that succeeds.
+-- Holds if the action writes `x` to word `i`, either by a store or by a successful exchange.
 abbrev pub Writes : List ℕ → Action → ℕ → ℕ → Type 0
 Writes ws a i x = (a ≡ Store i x) ⊎ (a ≡ Exchange i (slice_index ws i) x)
 
--- The steps that thread `t` may take. Each constructor has the action, the words after it, each thread's number of
--- successful adds after it, and the key that the step adds or removes.
+-- The steps that thread `t` may take. Each constructor states the action, the words after the action, each thread's
+-- number of successful adds after the action, and the key that the step adds or removes.
 pub data WordStep (marks : Bool) (sz : Sizes) (t : ℕ) (ws : List ℕ) (used : ℕ → ℕ) : Action → List ℕ → (ℕ → ℕ)
     → Option (Key × Bool) → Type 0 where
   reads : (x : ℕ) → x < word_count sz → WordStep marks sz t ws used (Load x) ws used None
@@ -92,7 +92,7 @@ pub record Memory (marks : Bool) (sz : Sizes) (ws : List ℕ) (used : ℕ → �
   pub tail_key : node_key ws 1 ≡ tail_word
   pub tail_link : node_link ws 1 ≡ 2
   pub marked : UnmarkedInChain marks (view sz ws used)
-  -- In a list that does not mark nodes, no node has a mark, not even before its first use.
+  -- If a list does not mark nodes, no node of the list ever has a mark, not even before its first use.
   pub unmarked : marks ≡ false → (i : ℕ) → i < node_count sz → node_link ws i % 2 ≡ 0
 
 module _ (marks : Bool) (sz : Sizes) (ws : List ℕ) (used : ℕ → ℕ) (m : Memory marks sz ws used) where
@@ -322,8 +322,8 @@ module _ (marks : Bool) (sz : Sizes) (ws : List ℕ) (used : ℕ → ℕ) (m : M
   even_at c e at = let z : UnmarkedInChain false (view sz ws used) =
       subst (λ b. UnmarkedInChain b (view sz ws used)) e m.marked in z c (chain_published c at)
 
-  -- Each step of `WordStep` is one of the moves in `Moves`. A move describes the change of the list's nodes instead of
-  -- its words.
+  -- Lemma: each step of `WordStep`, which describes changes of words, is one of the moves in `Moves`, which describe
+  -- changes of nodes.
   pub moved : (a : Action) (ws' : List ℕ) (used' : ℕ → ℕ) (ch : Option (Key × Bool)) → WordStep marks sz t ws used a ws' used' ch
       → Move marks (view sz ws used) (view sz ws' used') ch
   moved a ws' used' ch (reads x i) = quiet

@@ -1,4 +1,4 @@
--- Lemmas about a run with a list of events, and about the run after an additional event.
+-- Lemmas about a run given by a list of events, and about the run after one more event.
 use Rattle.std.specs.Prelude.{◌≡◌, ℕ, zero, suc, ◌<◌, ◌≤◌, List, [], ◌∷◌, ◌++◌, length, refl, ◌⊎◌}
 use Rattle.std.proofs.Common.{arith, ◌∙◌, sym, ap, subst, inl, inr, length-set}
 use Rattle.std.proofs.lemmas.List.FromFn.{length-map-range_with_len}
@@ -14,7 +14,7 @@ state_agree T op es fs (suc k) h =
     ap (λ e. after T (state_at T op fs k) e) (h k (omega arith))
     ∙ ap (λ s. after T s (es k)) (state_agree T op es fs k (λ j l. h j (omega arith)))
 
--- Holds if the events `es` are a run from the opening state to state `s`.
+-- Holds if the events `es` form a run from the opening state to state `s`.
 pub record RunsTo (T : Table) (op : Opening) (es : List Event) (s : State) : Type 0 where
   pub run : Run T op (event_at es) (length es)
   pub is : s ≡ state_at T op (event_at es) (length es)

@@ -1,5 +1,4 @@
--- Properties that every move (change of a list's nodes in one step) preserves: the order of keys, unlinked nodes, and
--- marks.
+-- Lemmas: every move (a change of a list's nodes in one step) preserves the order of keys, unlinked nodes, and marks.
 use Rattle.std.proofs.Common.{◌≡◌, ℕ, ◌%◌, ◌<◌, Bool, true, false, inl, inr, sym, refl, ap, subst, ◌∙◌, arith, Option, ◌*◌, ◌/◌}
 use Rattle.lset_words.proofs.Numbers.{same_or_not}
 use Rattle.lset_words.specs.declared.Key.{Key}
@@ -28,8 +27,8 @@ module _ (marks : Bool) (v w : View) (ord : IsOrdered v) where
   move-goes ch (clears pred curr q m) = unlink-goes v w ord pred curr q
   move-goes ch (removes pred curr k y q m u e) = unlink-goes v w ord pred curr q
 
-  -- A move (a change of the list's nodes in one step) changes the keys of the set exactly by the change `ch` that it
-  -- declares.
+  -- Lemma: a move (a change of a list's nodes in one step) changes the keys of the set exactly by its declared change
+  -- `ch`.
   pub move-changed : (ch : Option (Key × Bool)) → Move marks v w ch → Changed ch v w
   move-changed ch (quiet q) = λ j. (quiet_content v w ord q j, quiet_content w v (quiet-ordered v w ord q) (quiet_back v w q) j)
   move-changed ch (inserts pred own k q) = (
@@ -113,8 +112,8 @@ pub marked_after : (marks : Bool) (v w : View) → IsOrdered v → (ch : Option 
 marked_after true v w ord ch m h = live_stays v w ord ch m h
 marked_after false v w ord ch m h = plain_stays v w ord ch m h
 
--- `UnlinkedStays` (an unlinked node stays out of the chain) holds between a moment and itself. If it holds from one
--- moment to another, it also holds after one more move. Therefore it holds after any number of moves.
+-- Lemmas: `UnlinkedStays` (an unlinked node stays out of the chain) is reflexive, and is preserved by each move.
+-- Therefore it holds after any number of moves.
 pub later_same : (marks : Bool) (v : View) (i : ℕ) → v.published i → UnlinkedStays marks v v i
 later_same marks v i m = record { published = m; key = refl; unlinked = λ c. (refl, c); marked = λ e o. refl }
 

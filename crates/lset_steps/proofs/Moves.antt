@@ -1,12 +1,12 @@
--- Moves: the changes that one step can make to the nodes of a list. This file also defines assertions about earlier
--- moments. Only proofs use these definitions.
+-- Moves (the changes that one step can make to the nodes of a list), and assertions about earlier moments. Only proofs
+-- use these definitions.
 use Rattle.std.specs.Prelude.{◌≡◌, ◌≢◌, ℕ, ◌+◌, ◌*◌, ◌/◌, ◌%◌, ◌<◌, ◌≤◌, ◌⊎◌, Bool, true, false, Option, Some, None}
 use Rattle.lset_words.specs.declared.Key.{Key}
 use Rattle.lset_steps.specs.Chain.{View, InChain, InContent, IsOrdered, Seen}
 
--- The properties of every step. Published nodes (those that have been in the chain) stay published and keep their
--- keys. An unlinked node does not return to the chain. The link of a node changes only if the node is in the chain
--- before and after the step.
+-- The properties of every step. Published nodes (those that have been in the chain) stay published and keep their keys.
+-- An unlinked node does not return to the chain. The link of a node changes only if the node is in the chain before and
+-- after the step.
 pub record KeepsNodes (v w : View) : Type 0 where
   pub keys : (i : ℕ) → v.published i → w.key i ≡ v.key i
   pub grows : (i : ℕ) → v.published i → w.published i
@@ -51,7 +51,8 @@ pub record Marks (v w : View) (b k : ℕ) : Type 0 where
   pub grows : (i : ℕ) → v.published i → w.published i
   pub published_from : (i : ℕ) → w.published i → v.published i
 
--- An unlinking: removes `curr`, the node after `pred`, from the chain by linking `pred` to the node after `curr`.
+-- A step that unlinks `curr`: it removes `curr`, the node after `pred`, from the chain by linking `pred` to the node
+-- after `curr`.
 pub record Unlinks (v w : View) (pred curr : ℕ) : Type 0 where
   pub keys : (i : ℕ) → v.published i → w.key i ≡ v.key i
   pub links : (i : ℕ) → v.published i → i ≢ pred → w.link i ≡ v.link i
@@ -64,8 +65,8 @@ pub record Unlinks (v w : View) (pred curr : ℕ) : Type 0 where
   pub grows : (i : ℕ) → v.published i → w.published i
   pub published_from : (i : ℕ) → w.published i → v.published i
 
--- The moves of a list, each with the key that it adds to the set or removes, if any. `marks` is true if the list marks
--- nodes before it unlinks them. In any other list, the unlinking removes the key.
+-- A move of a list, with the key that the move adds or removes, if any. If `marks` is true, the list marks nodes before
+-- it unlinks them. If `marks` is false, the unlinking removes the key.
 pub data Move (marks : Bool) (v w : View) : Option (Key × Bool) → Type 0 where
   quiet : Quiet v w → Move marks v w None
   inserts : (pred own : ℕ) (k : Key) → Inserts v w pred own k.0 → Move marks v w (Some (k, true))
@@ -74,12 +75,12 @@ pub data Move (marks : Bool) (v w : View) : Option (Key × Bool) → Type 0 wher
   removes : (pred curr : ℕ) (k : Key) → marks ≡ false → Unlinks v w pred curr → v.link curr % 2 ≡ 0 → 1 < curr
       → v.key curr ≡ k.0 + 1 → Move marks v w (Some (k, false))
 
--- Holds if each marked node keeps its link in a step.
+-- Holds if each marked node has the same link before and after a step.
 abbrev pub KeepsMarked : View → View → Type 0
 KeepsMarked v w = (b : ℕ) → v.published b → v.link b % 2 ≡ 1 → w.link b ≡ v.link b
 
--- Holds if the views (the list's nodes and locks) at moments 0 to `n` can be those of a run: keys are in order at each
--- moment, and each step satisfies `KeepsNodes` and `KeepsMarked`.
+-- Holds if the views (nodes and locks) at moments 0 to `n` can be those of a run: keys are in order at each moment, and
+-- each step satisfies `KeepsNodes` and `KeepsMarked`.
 pub record Course (vs : ℕ → View) (n : ℕ) : Type 0 where
   pub ordered : (t : ℕ) → t ≤ n → IsOrdered (vs t)
   pub goes : (t : ℕ) → t < n → KeepsNodes (vs t) (vs (t + 1))
@@ -106,15 +107,15 @@ pub record Lacked (vs : ℕ → View) (first now k : ℕ) : Type 0 where
   pub upto : at ≤ now
   pub lacks : InContent (vs at) k → ⊥
 
--- The assertion of a `contains` of key `k` at row 20 of the step table, before it loads the link of `curr`. The node
--- `curr` was in the chain at some moment since the call began at `first`, and its key is smaller than `k`.
+-- The assertion for a `contains` of key `k` at row 20 of the step table, before the call loads the link of `curr`: the
+-- key of `curr` is smaller than `k`, and `curr` was in the chain at some moment since the call began at `first`.
 pub record At20 (vs : ℕ → View) (first now k curr : ℕ) : Type 0 where
   pub past : InPast vs first now curr
   pub low : (vs past.at).key curr < k + 1
 
--- The assertion of a `contains` of key `k` at row 21 of the step table, before it loads the key of `curr`. The call
--- has read a link to `curr` from a node with a smaller key than `k`. At some moment of the call, this node was in the
--- chain with this link.
+-- The assertion for a `contains` of key `k` at row 21 of the step table, before the call loads the key of `curr`: at
+-- some moment of the call, a node with a key smaller than `k` was in the chain and had the link to `curr` that the call
+-- followed.
 pub record At21 (vs : ℕ → View) (first now k curr : ℕ) : Type 0 where
   pub from : ℕ
   pub word : ℕ
@@ -122,15 +123,15 @@ pub record At21 (vs : ℕ → View) (first now k curr : ℕ) : Type 0 where
   pub next : word / 2 ≡ curr
   pub low : (vs seen.at).key from < k + 1
 
--- The assertion of a `contains` of key `k` at row 22 of the step table, before it loads the mark of `curr`. The node
+-- The assertion for a `contains` of key `k` at row 22 of the step table, before the call loads the mark of `curr`:
 -- `curr` has the key `k`, and was in the chain at some moment since the call began at `first`.
 pub record At22 (vs : ℕ → View) (first now k curr : ℕ) : Type 0 where
   pub past : InPast vs first now curr
   pub found : (vs past.at).key curr ≡ k + 1
 
--- The assertion of a `ceiling` of key `k` at row 25 of the step table, before it loads the mark of `curr`. The node
--- `curr` was in the chain at some moment since the call began. Its key word is `ckey`, which is not smaller than the
--- key word of `k`.
+-- The assertion for a `ceiling` of key `k` at row 25 of the step table, before the call loads the mark of `curr`:
+-- `curr` was in the chain at some moment since the call began, and its key word `ckey` is not smaller than the key word
+-- of `k`.
 pub record At25 (vs : ℕ → View) (first now k curr ckey : ℕ) : Type 0 where
   pub past : InPast vs first now curr
   pub walk : At21 vs first now k curr

@@ -1,5 +1,5 @@
--- The opening state of a list: its chain consists of the head, the nodes of the opening keys and the tail, and the keys
--- of the set are the opening keys.
+-- Proof about the opening state of a list: the chain consists of the head, the nodes of the opening keys, and the tail,
+-- and the keys of the set are the opening keys.
 use Rattle.std.specs.Prelude.{◌≡◌, ℕ, zero, suc, ◌+◌, ◌*◌, ◌-◌, ◌/◌, ◌%◌, ◌^◌, ◌<◌, ◌≤◌, ◌⊎◌, Bool, true, false, List, []}
 use Rattle.std.specs.Prelude.{◌∷◌, length, slice_index, refl, Contains}
 use Rattle.std.specs.List.{range_with_len}
@@ -26,7 +26,7 @@ opening_local op t h = get_or-map-range_with_len (idle op.quota) 0 op.threads t 
 pub none_used : (op : Opening) (t : ℕ) → t < op.threads → used_in (opening op) t ≡ 0
 none_used op t h = ap (λ (l : Local). l.used) (opening_local op t h)
 
--- ---- Lemmas about the words of a list when it opens, node by node
+-- ---- Lemmas about the words of a list when it opens
 key_word : (op : Opening) (a : ℕ) → opening_word op (key_index a) ≡ opening_key op a
 key_word op a =
     let e : key_index a / 3 - 1 ≡ a = omega arith in
@@ -139,8 +139,7 @@ module _ (op : Opening) where
       ∙ sym (map-range_with_len_more (opening_word op) 0 (9 + n) (9 + n) (omega arith))
       ∙ ap (λ k. map (opening_word op) (range_with_len 0 k)) next
 
-  -- Holds if node `a` is one of the nodes in the chain when the list opens: the head, the tail, or the node of an
-  -- opening key.
+  -- Holds if node `a` is in the chain when the list opens: `a` is the head, the tail, or the node of an opening key.
   abbrev OneOf : ℕ → Type 0
   OneOf a = (a ≡ 0) ⊎ (a ≡ 1) ⊎ ((i : ℕ) × (i < length op.keys) × (a ≡ opening_node (sizes op) i))
 

@@ -1,5 +1,4 @@
--- Proof that a machine (a list algorithm as a table of steps) that satisfies its law has all the properties of
--- `Promises`.
+-- Proof that `Promises` holds for every machine (a list algorithm as a table of steps) that satisfies its law.
 use Rattle.std.specs.Prelude.{◌≡◌, ◌≢◌, ℕ, suc, ◌+◌, ◌/◌, ◌<◌, ◌≤◌, ◌⊎◌, Bool, true, false, if◌then◌else◌, ◌==◌, List, [], ◌∷◌}
 use Rattle.std.specs.Prelude.{◌++◌, map, Some, length, refl}
 use Rattle.std.proofs.Common.{arith, inl, inr, sym, ap, subst}
@@ -27,8 +26,8 @@ use Rattle.lset_steps.specs.Promises.{FrozenNodes, NoLinkIsMarked, InRange, Thre
 use Rattle.lset_steps.specs.Promises.{UnlinkedNodesStay, SeenInThePast, UnmarkedNodesInChain, ChangeIsNamed, NamedChange, RepliesFit}
 use Rattle.lset_steps.specs.Promises.{IsContains, TrueMeansChange, HasAccount, ContentIsListed, ListedContent}
 
--- Lemmas about a second run. Up to moment `k` it agrees with the given run, and its next event is a step of thread
--- `t`. The laws of steps apply to this step, even if the given run continues with another event.
+-- Lemmas about a second run, which agrees with the given run up to moment `k`, and whose next event is a step of thread
+-- `t`.
 module _ (T : Table) (law : Lawful T) (op : Opening) (last k t : ℕ) (es : ℕ → Event) (r : Run T op es last) (l : k ≤ last)
     (below : t < op.threads) where
   abbrev more : ℕ → Event

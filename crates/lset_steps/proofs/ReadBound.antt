@@ -72,8 +72,8 @@ true_or_false : (b : Bool) → (b ≡ true) ⊎ (b ≡ false)
 true_or_false true = inl refl
 true_or_false false = inr refl
 
--- The nodes that a call has visited: `amount` nodes, with numbers below `size` and key words below `below`. All are
--- published, which means that they have been in the chain.
+-- The nodes that a call has visited: `amount` published nodes (nodes that have been in the chain), with numbers below
+-- `size` and key words below `below`.
 record Tally (v : View) (size below amount : ℕ) : Type 0 where
   met : ℕ → Bool
   are : (i : ℕ) → met i ≡ true → v.published i × (v.key i < below)
@@ -112,8 +112,8 @@ tally_few {v} {size} {below} {amount} p l le a =
     let e : count b.met size ≡ suc amount = b.amount_is in
     omega arith
 
--- Holds if published nodes (those that have been in the chain) stay published and keep their keys from one moment to a
--- later one.
+-- Holds if every node that is published (has been in the chain) at one moment is still published at a later moment,
+-- with the same key.
 abbrev Later : View → View → Type 0
 Later v w = (i : ℕ) → v.published i → w.published i × (w.key i ≡ v.key i)
 
@@ -126,12 +126,12 @@ tally_on {v} {w} {size} {below} g a = record {
   amount_is = a.amount_is;
 }
 
--- Holds if this is one of the rows of the step table for a `ceiling` that takes no lock.
+-- Holds if `pc` is one of the rows of the step table for a `ceiling` that takes no lock.
 abbrev IsCeilingRow : ℕ → Type 0
 IsCeilingRow pc = (pc ≡ 23) ⊎ (pc ≡ 24) ⊎ (pc ≡ 25)
 
--- The progress of a thread's call after `steps` steps. At rows 20 to 22 of the step table, which execute a `contains`,
--- the number of visited nodes determines the number of steps.
+-- The progress of a thread's call after `steps` steps. At rows 20 to 22 of the step table (the rows of `contains`), the
+-- number of visited nodes determines the number of steps.
 data Walked (v : View) (size steps : ℕ) (l : Local) : Type 0 where
   resting : l.pc ≡ 0 → Walked v size steps l
   writing : (IsRead l.call → ⊥) → Walked v size steps l
@@ -294,8 +294,8 @@ module _ (T : Table) (law : Lawful T) (rows : HasReadRows T) (op : Opening) wher
     opening_local : local_of (state_at T op es 0) t ≡ idle op.quota t
     opening_local = get_or-map-range_with_len (idle op.quota) 0 op.threads t t (idle 0 0) th (omega arith)
 
-    -- Each event preserves `Walked`, the progress of the thread's call. Proof by cases: the event is the start of the
-    -- thread's own call, the thread's own step, or an event of another thread.
+    -- Lemma: each event preserves `Walked`, the progress of the thread's call. Proof by cases: the event is the start
+    -- of the thread's own call, the thread's own step, or an event of another thread.
     walked_after : (k : ℕ) → k < last → (e : Event) → es k ≡ e → Enabled (state_at T op es k) e
         → Walked (views T op es k) size (steps_since es t k) (local_of (state_at T op es k) t)
         → Walked (views T op es k) size (steps_after e t (steps_since es t k)) (local_of (after T (state_at T op es k) e) t)

@@ -1,6 +1,6 @@
--- The proof outline of a `contains` or a `ceiling` without locks: an assertion for each row of the step table. This
--- file proves that each row preserves these assertions, and that the reply is correct at some moment of the call. That
--- moment can be a step of another thread (after O'Hearn and others).
+-- The proof outline for a `contains` or a `ceiling` without locks: an assertion for each row of the step table, and the
+-- proofs that each row preserves the assertions and that the reply is correct at some moment of the call. The moment
+-- can be a step of another thread (after O'Hearn and others).
 use Rattle.std.specs.Prelude.{◌≡◌, ◌≢◌, ℕ, suc, ◌-◌, ◌==◌, if◌then◌else◌, ◌/◌, ◌%◌, ◌<◌, ◌≤◌, ◌⊎◌, Bool, false, None, List, [], refl}
 use Rattle.std.proofs.Common.{arith, inl, inr, sym, ◌∙◌, ap, subst}
 use Rattle.lset_words.proofs.Numbers.{same_or_not, below_or_not, if_below, if_not_below, if_same, if_other}
@@ -44,7 +44,7 @@ pub data Reading (vs : ℕ → View) (first now : ℕ) (done : Bool) (l : Local)
   reads25 : l.pc ≡ 25 → done ≡ false → l.call ≡ Ceiling (key_of l.call) → At25 vs first now (key_of l.call).0 l.curr l.ckey
       → Reading vs first now done l
 
--- The assertions of a `contains` or a `ceiling` are about the past, so they still hold at the next moment.
+-- Lemma: the assertions for a `contains` or a `ceiling` are about the past, so they still hold at the next moment.
 pub reading_on : {vs : ℕ → View} {first now : ℕ} {done : Bool} {l : Local} → Reading vs first now done l
     → Reading vs first (suc now) done l
 reading_on {vs} {first} {now} {done} {l} (reads20 e d c a) =
@@ -69,7 +69,7 @@ at_head vs first now v k from present head =
     let low : (vs now).key 0 ≡ 0 = ap (λ x. x.key 0) present ∙ head in
     record { past = record { at = now; from = from; upto = omega arith; in_chain = ([], refl) }; low = omega arith }
 
--- An `add` or a `remove` begins at row 1 of the step table, a `contains` or a `ceiling` at the first of its own rows.
+-- Lemma: an `add` or a `remove` begins at row 1 of the step table, a `contains` at row 20, and a `ceiling` at row 23.
 pub call_begins : (At : Outline) (q t : ℕ) (vs : ℕ → View) (now : ℕ) (v : View) (call : Call) (l : Local) → vs now ≡ v →
     v.key 0 ≡ 0
     → ((l' : Local) → l'.pc ≡ 1 → At q t vs now now v false l')
@@ -105,8 +105,8 @@ fits_lacked q vs first now t call c a = record {
 pub even_or_odd : (x : ℕ) → (x % 2 ≡ 0) ⊎ (x % 2 ≡ 1)
 even_or_odd x = grind arith
 
--- Lemmas about rows 20 to 25 of the step table, the rows of `contains` and `ceiling`. They hold for every protocol that
--- threads use to share the words.
+-- Lemmas about rows 20 to 25 of the step table (the rows of `contains` and `ceiling`), for every protocol by which
+-- threads share the words.
 module _ (T : Table) (P : Protocol T.marks) (At : Outline) (sz : Sizes) (t : ℕ) (vs : ℕ → View) (first now : ℕ) (ws : List ℕ)
     (used : ℕ → ℕ) (done : Bool) (l : Local)
     (h : Here T.marks sz vs now ws used) (th : Thread At sz t vs first now ws used done l)

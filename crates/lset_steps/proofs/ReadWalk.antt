@@ -1,4 +1,4 @@
--- Proof that each node that a `contains` or a `ceiling` without locks passes was in the chain at some moment of the
+-- Proof that each node that a `contains` or a `ceiling` without locks visits was in the chain at some moment of the
 -- call.
 use Rattle.std.specs.Prelude.{◌≡◌, ◌≢◌, ℕ, zero, suc, ◌<◌, ◌≤◌, Bool, refl}
 use Rattle.std.proofs.Common.{arith, inl, inr, sym, ◌∙◌, ap, subst}
@@ -50,14 +50,14 @@ module _ (T : Table) (rows : HasReadRows T) (vs : ℕ → View) (first now : ℕ
   seen_now (reads25 e d c x) =
       at_curr (inr (inr (inr (inr (inr e))))) (rows.acts l (inr (inr (inr (inr (inr e))))) ∙ (rw e refl)) x.past
 
--- Holds if, at rows 20 to 25 of the step table, a list's proof outline implies the assertions of a `contains` or a
--- `ceiling` (`Reading`).
+-- Holds if, at rows 20 to 25 of the step table, a list's proof outline implies `Reading`, the assertions for a
+-- `contains` or a `ceiling`.
 abbrev pub ShowsReading : Outline → Type 1
 ShowsReading At = (q t : ℕ) (vs : ℕ → View) (first now : ℕ) (v : View) (done : Bool) (l : Local) → IsReadRow l.pc
     → At q t vs first now v done l → Reading vs first now done l
 
--- If a `contains` or a `ceiling` loads the link of a node, the node was in the chain with this link at some moment of
--- the call.
+-- Lemma: if a `contains` or a `ceiling` loads the link of a node, then at some moment of the call, the node was in the
+-- chain with the loaded link.
 loads_seen : (T : Table) (At : Outline) → Discipline T T.marks At → HasReadRows T → ShowsReading At
     → (op : Opening) (last k t a : ℕ) (es : ℕ → Event) → Run T op es last → k ≤ last → t < op.threads
     → (local_of (state_at T op es k) t).pc ≢ 0 → IsRead (local_of (state_at T op es k) t).call
@@ -72,7 +72,7 @@ loads_seen T At d rows shows op last k t a es r l th busy reads next =
     (local_of (state_at T op es k) t)
     (read_row T (lawful_of T At d) rows op last k t es r l th busy reads) (i.threads t th).at)
 
--- Holds if the last call of thread `t`, and the moment when this call began, are the same at the moments `at` and `k`.
+-- Holds if thread `t` has the same last call at the moments `at` and `k`, with the same moment of beginning.
 record SameCall (log : Log) (t at k : ℕ) : Type 0 where
   begun : begun_at log t k ≡ begun_at log t at
   call : last_call log t k ≡ last_call log t at

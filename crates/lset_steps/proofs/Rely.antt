@@ -19,10 +19,10 @@ use Rattle.lset_steps.proofs.Memory.{at_lock, at_own_key, at_own_link}
 use Rattle.lset_steps.proofs.AfterWrite.{set_other, key_after_link, link_after_link, lock_after_link, list_lock_after_link, link_after_key}
 use Rattle.lset_steps.proofs.AfterWrite.{key_after_key, lock_after_key, list_lock_after_key, key_after_lock, link_after_lock}
 
--- The properties that a step of another thread preserves for thread `u` with quota `q`. The step leads from view `v`
--- (the list before) to view `w` (the list after). It preserves keys, the locks that `u` holds, the number of
--- successful adds of `u`, and the node for its next add. For each node that `u` has locked, it preserves the link and
--- whether the node is in the chain.
+-- The properties that a step of another thread preserves for thread `u` with quota `q` (the number of successful adds
+-- that a thread may make). The step leads from view `v` (the list before) to view `w` (the list after). It preserves
+-- keys, the locks that `u` holds, the number of successful adds by `u`, and the node for the next add by `u`. For each
+-- node that `u` has locked, it preserves the link and whether the node is in the chain.
 pub record Rely (v w : View) (q u : ℕ) : Type 0 where
   pub goes : KeepsNodes v w
   pub used : w.used u ≡ v.used u
@@ -34,7 +34,7 @@ pub record Rely (v w : View) (q u : ℕ) : Type 0 where
   pub own_link : v.used u < q → w.link (slot_node q u (v.used u)) ≡ v.link (slot_node q u (v.used u))
 
 -- Holds if a step writes the link of a published node (one that has been in the chain) only if the thread holds the
--- node's lock. To unlink a node, the thread must also hold the lock of the unlinked node.
+-- node's lock, and unlinks a node only if the thread also holds the lock of the unlinked node.
 abbrev pub Guarded : (marks : Bool) (sz : Sizes) (t : ℕ) (ws : List ℕ) (used : ℕ → ℕ) (a : Action) (ws' : List ℕ)
     (used' : ℕ → ℕ) (ch : Option (Key × Bool))
     → WordStep marks sz t ws used a ws' used' ch → Type 0
@@ -93,9 +93,9 @@ module _ (marks : Bool) (sz : Sizes) (ws : List ℕ) (used : ℕ → ℕ) (m : M
   alien : (c a : ℕ) → node_lock ws c ≡ t + 1 → node_lock ws a ≡ u + 1 → a ≢ c
   alien c a x y e = d (let f : node_lock ws a ≡ node_lock ws c = ap (node_lock ws) e in omega arith)
 
-  -- A step of `t` that respects the node locks preserves everything that `u` relies on. Proof by cases: `at_word` for
-  -- lock words, `at_link` for links of published nodes (nodes that have been in the chain). A node that `t` writes or
-  -- unlinks is locked by `t` and therefore not by `u` (`alien`).
+  -- Lemma: a step of `t` that respects the node locks preserves everything that `u` relies on. Proof by cases:
+  -- `at_word` for lock words, and `at_link` for links of published nodes (nodes that have been in the chain). A node
+  -- that `t` writes or unlinks is locked by `t`, and therefore not by `u` (`alien`).
   pub rely_of : (a : Action) (ws' : List ℕ) (used' : ℕ → ℕ) (ch : Option (Key × Bool))
       (c : WordStep marks sz t ws used a ws' used' ch)
       → Guarded marks sz t ws used a ws' used' ch c

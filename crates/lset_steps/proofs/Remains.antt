@@ -13,9 +13,10 @@ use Rattle.lset_steps.proofs.Memory.{WordStep, Memory, reads, fails, takes, give
 use Rattle.lset_steps.proofs.Memory.{drops, own_of, row_once, no_own, moved, goes_on, others_counted}
 use Rattle.lset_steps.proofs.AfterWrite.{key_after_link, link_after_link, link_after_key, key_after_key, key_after_lock, link_after_lock}
 
--- The properties that a step of another thread preserves for thread `u` with quota `q`, even without locks. The step
--- leads from view `v` (the list before) to view `w` (the list after). It preserves keys, the links of marked nodes, the
--- number of successful adds of `u`, and the node for its next add.
+-- The properties that a step of another thread preserves for thread `u` with quota `q` (the number of successful adds
+-- that a thread may make), even without locks. The step leads from view `v` (the list before) to view `w` (the list
+-- after). It preserves keys, the links of marked nodes, the number of successful adds by `u`, and the node for the next
+-- add by `u`.
 pub record Remains (v w : View) (q u : ℕ) : Type 0 where
   pub goes : KeepsNodes v w
   pub marked : (a : ℕ) → v.published a → v.link a % 2 ≡ 1 → w.link a ≡ v.link a

@@ -1,4 +1,4 @@
--- The replies that are correct at the end of a walk, and lemmas that the proofs of all step tables use.
+-- Lemmas, used by the proofs of all step tables, about the correct replies at the end of a walk along the chain.
 use Rattle.std.specs.Prelude.{◌≡◌, ◌≢◌, ℕ, ◌+◌, ◌-◌, ◌/◌, ◌%◌, ◌<◌, ◌≤◌, ◌⊎◌, Bool, true, false, Option, Some, None, [], ◌||◌, refl}
 use Rattle.std.proofs.Common.{arith, inl, inr, sym, ap, subst, ◌∙◌}
 use Rattle.lset_words.specs.declared.Call.{Call}
@@ -18,8 +18,8 @@ use Rattle.lset_steps.proofs.QuietMove.{in_chain_published, chain_on}
 use Rattle.lset_words.proofs.Numbers.{below_or_not, if_below, if_not_below}
 use Rattle.lset_words.specs.declared.Key.{Key}
 
--- The assertion about a call that will add its key: the call is an `add`, its thread has not used up its quota, and
--- the key is smaller than curr's. `Removing` is the assertion about a call that will remove its key.
+-- The assertion about a call that will add its key: the call is an `add`, its thread has not used up its quota of adds,
+-- and the key is smaller than curr's key. `Removing` is the assertion about a call that will remove its key.
 pub record Adding (v : View) (t q curr : ℕ) (op : Call) : Type 0 where
   pub call : op ≡ Add (key_of op)
   pub room : v.used t < q
@@ -29,7 +29,7 @@ pub record Removing (v : View) (curr : ℕ) (op : Call) : Type 0 where
   pub call : op ≡ Remove (key_of op)
   pub found : v.key curr ≡ target op
 
--- Every step preserves `Adding` and `Removing`, the assertions about a call that will add or remove its key.
+-- Lemmas: every step preserves `Adding` and `Removing`, the assertions about a call that will add or remove its key.
 module _ {v w : View} (g : KeepsNodes v w) where
   pub removing_kept : {curr : ℕ} {op : Call} → v.published curr → Removing v curr op → Removing w curr op
   removing_kept {curr} p a = record { call = a.call; found = g.keys curr p ∙ a.found }

@@ -1,5 +1,5 @@
--- Proof: if a machine (a list algorithm as a table of steps) satisfies its law, each of its runs has an account, a
--- record of the effect of each event on the set.
+-- Proof that each run of a machine (a list algorithm as a table of steps) that satisfies its law has an account, which
+-- records the effect of each event on the set.
 use Rattle.std.specs.Prelude.{◌≡◌, ◌≢◌, ℕ, ◌<◌, ◌≤◌, Bool, true, false, ◌==◌, if◌then◌else◌, Option, Some, None, length, refl}
 use Rattle.std.proofs.Common.{arith, inl, inr, sym, ◌∙◌, ap, subst, zero, suc}
 use Rattle.std.proofs.lemmas.List.FromFn.{get_or-map-range_with_len}
@@ -21,7 +21,7 @@ use Rattle.lset_words.specs.Words.{Opening, sizes}
 use Rattle.lset_steps.proofs.Openings.{content_opens}
 use Rattle.lset_steps.proofs.Discipline.{pick_yes, pick_not, put_same, put_other}
 
--- Returns the keys of the set at each moment of a run. `counts_at` returns the number of successful adds of each
+-- Returns the keys of the set at each moment of a run. `counts_at` returns the number of successful adds by each
 -- thread.
 abbrev pub contents_at : Table → Opening → (ℕ → Event) → Contents
 contents_at T op es = contents_of (views T op es)
@@ -29,8 +29,7 @@ contents_at T op es = contents_of (views T op es)
 abbrev pub counts_at : Table → Opening → (ℕ → Event) → Counts
 counts_at T op es = counts_of (views T op es)
 
--- Holds if the log and the thread's private state agree about the thread's last call: whether the call is pending, and
--- which call it is.
+-- Holds if the log and the thread's private state agree on the thread's last call, and on whether the call is pending.
 pub record Tied (x : LastCall) (l : Local) : Type 0 where
   pub closed : l.pc ≡ 0 → x.pending ≡ false
   pub opened : l.pc ≢ 0 → (x.pending ≡ true) × (l.call ≡ x.call)

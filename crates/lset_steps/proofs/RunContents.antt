@@ -1,4 +1,4 @@
--- Proof that at each moment of a run, the keys of the set form one increasing list of numbers below 2^32.
+-- Proof that at each moment of a run, a strictly increasing list of numbers below 2^32 has exactly the keys of the set.
 use Rattle.std.proofs.Common.{◌≡◌, ◌≢◌, ℕ, ◌+◌, ◌/◌, ◌<◌, ◌≤◌, List, arith}
 use Rattle.std.specs.Prelude.{Contains}
 use Rattle.lset_words.specs.Words.{tail_word, Opening, sizes}

@@ -1,7 +1,7 @@
--- A second walk from the head decides whether a locked node is in the chain (Herlihy and Shavit's validation). The walk
--- can pass nodes that are being unlinked. But each node that the walk reaches was in the chain at some moment since the
--- lock was taken. A node is unlinked only by a thread that holds the node's lock. Therefore, if the walk reaches the
--- locked node, this node is in the chain.
+-- Proof that a second walk from the head decides whether a locked node is in the chain (Herlihy and Shavit's
+-- validation). The walk can pass through nodes that are being unlinked, but each node that the walk reaches was in the
+-- chain at some moment since the lock was taken. Because a node is unlinked only by the thread that holds its lock, a
+-- locked node that the walk reaches is still in the chain.
 use Rattle.std.specs.Prelude.{◌≡◌, ◌≢◌, ℕ, suc, ◌+◌, ◌/◌, ◌<◌, ◌≤◌, ◌⊎◌, [], refl}
 use Rattle.std.proofs.Common.{arith, inl, inr, subst, sym}
 use Rattle.lset_steps.specs.Chain.{View, InChain, IsOrdered}
@@ -9,9 +9,9 @@ use Rattle.lset_steps.proofs.Moves.{Course, InPast}
 use Rattle.lset_steps.proofs.Hindsight.{hindsight, next_in_past, in_past_on}
 use Rattle.lset_steps.proofs.Held.{Leaves}
 
--- The assertion during the second walk of thread `t`. The thread has held the lock of `pred` since the moment `start`.
--- The node that the walk has reached was in the chain at some moment since then. `v` is the current view (the list's
--- nodes and locks).
+-- The assertion during the second walk of thread `t`: `t` has held the lock of `pred` since the moment `start`, and the
+-- node that the walk has reached was in the chain at some moment since `start`. `v` is the current view (nodes and
+-- locks).
 pub record SecondWalk (vs : ℕ → View) (start now : ℕ) (v : View) (t pred node : ℕ) : Type 0 where
   pub seen : InPast vs start now node
   pub kept : (s : ℕ) → start ≤ s → s < now → (vs s).lock pred ≡ t + 1

@@ -1,5 +1,4 @@
--- Proof that the numbers in a thread's private state are small in every run, so that arithmetic with them cannot
--- overflow.
+-- Proof that the numbers in a thread's private state are small in every run, so arithmetic with them cannot overflow.
 use Rattle.std.specs.Prelude.{◌≡◌, ℕ, ◌+◌, ◌*◌, ◌<◌, ◌≤◌}
 use Rattle.std.proofs.Common.{arith, subst}
 use Rattle.lset_words.specs.declared.TheConstants.{MOST_THREADS, MOST_QUOTA, MOST_NODES}

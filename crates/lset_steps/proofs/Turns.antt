@@ -1,6 +1,5 @@
 -- Proof that a list satisfies the law of a machine (a list algorithm as a table of steps) if its threads follow a
--- protocol for sharing the words. This file states the proof obligation for each row of the step table, and proves that
--- these obligations are enough.
+-- protocol for sharing the words. `Turn` states the proof obligation for each row of the step table.
 use Rattle.std.specs.Prelude.{◌≡◌, ◌≢◌, ℕ, suc, ◌+◌, ◌<◌, ◌≤◌, Bool, true, false, Option, Some, None, List, ◌||◌, if◌then◌else◌}
 use Rattle.std.specs.Prelude.{◌==◌, slice_set, refl}
 use Rattle.std.proofs.Common.{arith, inl, inr, sym, ◌∙◌, ap, subst}
@@ -42,8 +41,8 @@ pub due_on : (done : Bool) (q : ℕ) (vs : ℕ → View) (first now t : ℕ) (ca
 due_on true q vs first now t call r d = d
 due_on false q vs first now t call r d = fitted_on q vs first now (suc now) t call r (omega arith) d
 
--- Holds for a call that is about to release its locks in two cases: its reply is correct, or it has no reply yet
--- (`None`), has changed nothing, and will start again.
+-- Holds for a call that is about to release its locks if its reply is correct, or if it has no reply yet (`None`), has
+-- changed nothing, and will start again.
 abbrev pub Outcome : Bool → ℕ → (ℕ → View) → ℕ → ℕ → ℕ → Call → Option Reply → Type 0
 Outcome done q vs first now t call None = done ≡ false
 Outcome done q vs first now t call (Some reply) = Due done q vs first now t call reply
@@ -53,8 +52,8 @@ pub outcome_on : (done : Bool) (q : ℕ) (vs : ℕ → View) (first now t : ℕ)
 outcome_on done q vs first now t call None o = o
 outcome_on done q vs first now t call (Some reply) o = due_on done q vs first now t call reply o
 
--- A protocol for sharing the words of a list: the steps that a thread may take (loads are always allowed), and the
--- properties that such a step preserves for another thread (`rely`).
+-- A protocol for sharing the words of a list: the steps that a thread may take (loads are always allowed), and `rely`,
+-- the properties that a thread's step preserves for all other threads.
 pub record Protocol (marks : Bool) : Type 1 where
   pub step : (sz : Sizes) (t : ℕ) (ws : List ℕ) (used : ℕ → ℕ) → Action → List ℕ → (ℕ → ℕ) → Option (Key × Bool) → Type 0
   pub rely : View → View → ℕ → ℕ → Type 0
@@ -93,20 +92,20 @@ no_locks marks = record {
   still = remains_same;
 }
 
--- Holds if steps of other threads preserve a thread's assertion (from the proof outline, at its row of the step
--- table).
+-- Holds if steps of other threads preserve a thread's assertion (the one that the proof outline has for the thread's
+-- row of the step table).
 abbrev pub Stands : {marks : Bool} → Protocol marks → Outline → Type 1
 Stands P At = (q t : ℕ) (vs : ℕ → View) (first now : ℕ) (v w : View) (done : Bool) (l : Local) → vs now ≡ v → P.rely v w q t
     → At q t vs first now v done l → At q t vs first (suc now) w done l
 
--- Holds if a thread keeps its call and its number of successful adds in a step from state `l` to `l'`. The call does
--- not end, and the registers (nodes and key words) stay in range.
+-- Holds if a step from state `l` to `l'` keeps the thread's call and its number of successful adds, does not end the
+-- call, and keeps the registers (nodes and key words) in range.
 abbrev pub Onward : Sizes → ℕ → Local → Local → Type 0
 Onward sz t l l' = Registers sz t l' × (l'.call ≡ l.call) × (l'.used ≡ l.used) × (l'.pc ≢ 0)
 
--- The proof obligation for one row of the step table: thread `t`, in private state `l`, takes its next step. The step
--- continues the call, changes the set, ends the call, or changes the set and ends the call. Each case has the row's
--- action, its effect on the words, the thread's next private state, and the assertion of the outline after the step.
+-- The proof obligation for one row of the step table, when thread `t` in private state `l` takes its next step. The
+-- step continues the call, changes the set, ends the call, or changes the set and ends the call. Each case has the
+-- row's action, its effect on the words, the thread's next private state, and the outline's assertion after the step.
 pub data Turn (T : Table) (P : Protocol T.marks) (At : Outline) (sz : Sizes) (t : ℕ) (vs : ℕ → View) (first now : ℕ) (ws : List ℕ)
     (used : ℕ → ℕ) (done : Bool) (l : Local) : Type 0 where
   passes : (a : Action) (ws' : List ℕ) (l' : Local)
@@ -129,7 +128,7 @@ pub data Turn (T : Table) (P : Protocol T.marks) (At : Outline) (sz : Sizes) (t 
       → Registers sz t l' → l'.call ≡ l.call → l'.used ≡ used' t → l'.pc ≡ 0
       → At sz.quota t vs first (suc now) (view sz ws' used') true l' → Turn T P At sz t vs first now ws used done l
 
--- Holds if the protocol (the steps that a thread may take) allows each thread to try to take the lock of any node.
+-- Holds if the protocol (the steps that a thread may take) lets each thread try to take the lock of any node.
 abbrev pub Locks : {marks : Bool} → Protocol marks → Type 0
 Locks P = (sz : Sizes) (t : ℕ) (ws : List ℕ) (used : ℕ → ℕ) (a : ℕ) → a < node_count sz
     → (node_lock ws a ≡ 0 → P.step sz t ws used (Exchange (lock_index a) 0 (t + 1)) (slice_set ws (lock_index a) (t + 1)) used None)
@@ -138,7 +137,7 @@ Locks P = (sz : Sizes) (t : ℕ) (ws : List ℕ) (used : ℕ → ℕ) (a : ℕ) 
 pub locks_nodes : (marks : Bool) → Locks (node_locks marks)
 locks_nodes marks sz t ws used a inn = (λ free. locks_free a inn free, λ taken. finds_locked a inn taken)
 
--- An attempt to take the lock of node `a` is a step of the protocol, whether the attempt succeeds or fails.
+-- Lemma: the protocol allows an attempt to take the lock of node `a`, whether the attempt succeeds or fails.
 pub tries : {T : Table} {P : Protocol T.marks} {At : Outline} {sz : Sizes} {t : ℕ} {vs : ℕ → View} {first now : ℕ} {ws : List ℕ}
     {used : ℕ → ℕ} {done : Bool} {l : Local}
     → Locks P → (a : ℕ) (on same : Local) → a < node_count sz → T.next l ≡ Exchange (lock_index a) 0 (t + 1)
@@ -155,9 +154,9 @@ tries {P = P} {sz = sz} {t = t} {ws = ws} {used = used} locks a on same inn acts
       ((locks sz t ws used a inn).1 other) again stays
 ]
 
--- The proof obligations for a list and its protocol. A thread's assertion (from the proof outline, at its row of the
--- step table) holds when a call begins. Each row is a step of the protocol, and preserves the assertion of its own
--- thread. Steps of other threads preserve it as well.
+-- The proof obligations for a list and its protocol. A thread's assertion (the one that the proof outline has for the
+-- thread's row of the step table) holds when a call begins. Each row is a step of the protocol, and preserves its own
+-- thread's assertion. Steps of other threads also preserve the assertion.
 pub record Follows (T : Table) (P : Protocol T.marks) (At : Outline) : Type 1 where
   pub idle_at : (op : Opening) → Opens op → (t : ℕ) (vs : ℕ → View)
       → At op.quota t vs 0 0 (view_of (sizes op) (opening op)) false (idle op.quota t)
@@ -171,8 +170,8 @@ pub record Follows (T : Table) (P : Protocol T.marks) (At : Outline) : Type 1 wh
       → Here T.marks sz vs now ws used → Thread At sz t vs first now ws used done l → t < sz.threads → l.pc ≢ 0
       → Turn T P At sz t vs first now ws used done l
 
--- Adds an invariant of the shared words to each assertion of the proof outline. Each step of the protocol must preserve
--- the invariant. Then the proof of each row of the step table can use the invariant without proving it again.
+-- Adds an invariant of the shared words to each assertion of a proof outline. Each step of the protocol must preserve
+-- the invariant. The proof of each row of the step table can then use the invariant without proving it again.
 abbrev pub Keeping : (View → Type 0) → Outline → Outline
 Keeping Always At q t vs first now v done l = At q t vs first now v done l × Always v
 

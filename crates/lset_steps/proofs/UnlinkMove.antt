@@ -1,5 +1,5 @@
--- The effect of unlinking a node that follows a node of the chain. Three things can change: the order of keys, the
--- chain, and the keys of the set.
+-- Lemmas about unlinking a node that follows a node of the chain: the effect on the order of keys, on the chain, and on
+-- the keys of the set.
 use Rattle.std.proofs.Common.{◌≡◌, ◌≢◌, ℕ, ◌+◌, ◌*◌, ◌/◌, ◌%◌, ◌<◌, ◌≤◌, ◌⊎◌, inl, inr, List, [], ◌∷◌, sym, refl, ap, subst, ◌∙◌, arith}
 use Rattle.lset_words.proofs.Numbers.{same_or_not}
 use Rattle.lset_steps.specs.Chain.{View, Segment, InChain, InContent, IsOrdered}
@@ -7,7 +7,7 @@ use Rattle.lset_steps.proofs.Moves.{Unlinks, KeepsNodes}
 use Rattle.lset_steps.proofs.Segments.{segment_increases, sides, one_key}
 use Rattle.lset_steps.proofs.QuietMove.{in_chain_published, chain_before, chain_on, segment_after, apart, apart'}
 
--- The keys and links of three neighboring nodes if the middle one is unlinked: `pred`, the unlinked node `curr`, and
+-- The keys and links of three neighboring nodes when the middle one is unlinked: `pred`, the unlinked node `curr`, and
 -- `s`.
 pub record Facts (v w : View) (pred curr s : ℕ) : Type 0 where
   pub curr_is : v.link pred / 2 ≡ curr
@@ -150,7 +150,7 @@ unlink_mark v w pred curr q b m = elim (same_or_not b pred) [
   | inr d ↦ ap (λ x. x % 2) (q.links b m d)
 ]
 
--- ---- Lemmas about the effect of an unlinking on the keys of the set
+-- ---- Lemmas about the effect of unlinking on the keys of the set
 
 pub unlink_only : (v w : View) → IsOrdered v → (pred curr : ℕ) → Unlinks v w pred curr → (j : ℕ) → InContent w j → InContent v j
 unlink_only v w ord pred curr q j c =

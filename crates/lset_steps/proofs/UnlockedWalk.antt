@@ -1,5 +1,5 @@
--- Assertions about the two nodes that a walk without locks has reached: they are published (have been in the chain),
--- and the first has a smaller key than the call's. Both nodes could have left the chain since.
+-- Assertions about the two nodes that a walk without locks has reached: both are published (have been in the chain, but
+-- can have left it), and the first has a smaller key than the call's key.
 use Rattle.std.specs.Prelude.{◌≡◌, ◌≢◌, ℕ, ◌+◌, ◌*◌, ◌/◌, ◌<◌, ◌≤◌, Bool, true, None, List, slice_set}
 use Rattle.std.proofs.Common.{arith, ◌∙◌, ap}
 use Rattle.lset_words.specs.Words.{lock_index, tail_word, node_count, Sizes}
@@ -9,13 +9,13 @@ use Rattle.lset_steps.proofs.Moves.{KeepsNodes}
 use Rattle.lset_steps.proofs.Memory.{Memory, inner, inside, next_published, goes_on}
 use Rattle.lset_steps.proofs.Held.{Behind, locks_free}
 
--- Holds if pred has a smaller key than the call's, and pred and curr have been in the chain (are published).
+-- Holds if the key of `pred` is smaller than `key`, and `pred` and `curr` are published (have been in the chain).
 pub record Spot (v : View) (key pred curr : ℕ) : Type 0 where
   pub pred_published : v.published pred
   pub below : v.key pred < key
   pub curr_published : v.published curr
 
--- Extends `Spot`: `ckey` is the key word of `curr` that the walk read, and it is not smaller than the call's key word.
+-- Extends `Spot`: `ckey`, the key word of `curr` that the walk read, is not smaller than the call's key word.
 pub record Found (v : View) (key pred curr ckey : ℕ) : Type 0 where
   pub spot : Spot v key pred curr
   pub is : v.key curr ≡ ckey

@@ -1,12 +1,12 @@
--- Lemmas about the assertions of a walk along the chain without locks, one for each row of the step table. They prove
--- that the result of the walk was true at some moment of the call (after O'Hearn and others).
+-- Lemmas about a walk along the chain without locks, one for each row of the step table. They prove that the result of
+-- the walk was correct at some moment of the call (after O'Hearn and others).
 use Rattle.std.proofs.Common.{◌≡◌, ◌≢◌, ℕ, ◌+◌, ◌/◌, ◌%◌, ◌<◌, ◌≤◌, sym, refl, ap, subst, ◌∙◌, arith}
 use Rattle.lset_steps.specs.Chain.{View, IsOrdered, Seen}
 use Rattle.lset_steps.proofs.Moves.{Course, InPast, Had, Lacked, At20, At21, At22, At25}
 use Rattle.lset_steps.proofs.QuietMove.{in_chain_published}
 use Rattle.lset_steps.proofs.Hindsight.{hindsight, next_in_past, key_stays, in_past_on, seen_on, lacked_between, had_at, lacked_at}
 
--- The assertions of a walk are about the past, so they still hold at later moments.
+-- Lemmas: the assertions about a walk are about the past, so they still hold at later moments.
 pub at20_on : (vs : ℕ → View) (first now later k curr : ℕ) → now ≤ later → At20 vs first now k curr → At20 vs first later k curr
 at20_on vs first now later k curr l a = record { past = in_past_on vs first now later curr l a.past; low = a.low }
 
@@ -30,7 +30,7 @@ at25_on vs first now later k curr ckey l a = record {
 pub no_tail : (v : View) → IsOrdered v → (b k : ℕ) → k + 1 < v.key 1 → v.key b < k + 1 → b ≢ 1
 no_tail v ord b k t l e = let f : v.key b ≡ v.key 1 = ap v.key e in omega arith
 
--- Row 20 of the step table: the walk loads the link of `curr`, and continues with the next node.
+-- Lemma about row 20 of the step table: the walk loads the link of `curr`, and continues with the next node.
 pub from20 : (vs : ℕ → View) (n first now k curr : ℕ) → Course vs n → now ≤ n → At20 vs first now k curr
     → At21 vs first now k ((vs now).link curr / 2)
 from20 vs n first now k curr r l a =
@@ -45,7 +45,7 @@ from20 vs n first now k curr r l a =
     key_stays vs n curr s.at now r ls l (in_chain_published (vs s.at) (r.ordered s.at (omega arith)) curr s.in_chain) in
     record { from = curr; word = (vs now).link curr; seen = s; next = refl; low = omega arith }
 
--- Row 21 of the step table: the walk loads the key of `curr`, and compares this key with the call's.
+-- Lemmas about row 21 of the step table: the walk loads the key of `curr`, and compares it with the call's key.
 pub from21_on : (vs : ℕ → View) (n first now k curr : ℕ) → Course vs n → now ≤ n → At21 vs first now k curr
     → ((t : ℕ) → t ≤ n → k + 1 < (vs t).key 1)
     → InPast vs first now curr
@@ -86,8 +86,8 @@ from21_more vs n first now k curr r l a top s =
     (no_tail (vs a.seen.at) (r.ordered a.seen.at (omega arith)) a.from k (top a.seen.at (omega arith)) a.low) a.seen
     (omega arith) (subst (λ x. k + 1 < (vs now).key x) (sym a.next) s)
 
--- Row 24 of the step table: a `ceiling` loads the key of `curr`. The node was published (had been in the chain) when
--- the link of the previous node led to it.
+-- Lemmas about row 24 of the step table: a `ceiling` loads the key of `curr`, a node that was published (had been in
+-- the chain) when the walk read a link to it.
 pub behind_published : (vs : ℕ → View) (n first now k curr : ℕ) → Course vs n → now ≤ n → (a : At21 vs first now k curr)
     → ((t : ℕ) → t ≤ n → k + 1 < (vs t).key 1) → (vs a.seen.at).published curr
 behind_published vs n first now k curr r l a top =
@@ -108,7 +108,8 @@ from24_more vs n first now k curr r l a top above =
       above = above;
     }
 
--- Row 22 of the step table: a `contains` loads the mark of `curr`, the node with the call's key, and replies.
+-- Lemmas about row 22 of the step table: a `contains` loads the mark of `curr`, the node with the call's key, and
+-- replies.
 pub from22_true : (vs : ℕ → View) (n first now k curr : ℕ) → Course vs n → now ≤ n → At22 vs first now k curr
     → 1 < curr → (vs now).link curr % 2 ≡ 0 → Had vs first now k
 from22_true vs n first now k curr r l a u e =

@@ -1,4 +1,5 @@
--- The invariant of a loop that walks along the chain. `World::walk` and `Closed::keys` of `lset_live` have such loops.
+-- The invariant of a loop that walks along the chain, such as the loops in `World::walk` and in `Closed::keys` of
+-- `lset_live`.
 use Rattle.std.proofs.Common.{◌≡◌, ◌≢◌, ℕ, ◌-◌, ◌/◌, ◌%◌, ◌<◌, ◌≤◌, Bool, true, false, inl, inr, List, [], ◌∷◌, ◌++◌, sym, refl}
 use Rattle.std.proofs.Common.{ap, subst, arith, rules, ◌∙◌, append-nil}
 use Rattle.std.specs.Prelude.{nat_lt, ◌==◌, IsTrue, ◌↔◌, Option, Some, None, option_to_list, filter_map, if◌then◌else◌}
@@ -14,7 +15,7 @@ use Rattle.lset_steps.proofs.ContentLists.{content_increases}
 use Rattle.lset_steps.proofs.Segments.{segment-append}
 use Rattle.lset_steps.proofs.QuietMove.{not_one}
 
--- The loop invariant: the walk has reached node `curr`, and has collected `items` from the nodes before it.
+-- Holds if the walk has reached node `curr`, and has collected `items` from the nodes before `curr`.
 pub record HasPicked {A : Type 0} (answers : ChainKey → Option A → Type 0) (v : View) (items : List A) (curr : ℕ) : Type 0 where
   pub nodes : List ℕ
   pub seg : Segment v 0 nodes curr
@@ -73,7 +74,7 @@ module _ {A : Type 0} (answers : ChainKey → Option A → Type 0) (v : View) (o
       listed None = refl
       listed (Some x) = refl
 
-  -- The difference between the tail's key and the current key decreases in each round, so the loop ends.
+  -- Lemma: the difference between the tail's key and the current node's key decreases in each round, so the loop ends.
   pub falls : (items : List A) (curr next : ℕ) → curr ≢ 1 → next ≡ v.link curr / 2 → HasPicked answers v items curr
       → v.key 1 - v.key next < v.key 1 - v.key curr
   falls items curr next n e w =
@@ -106,7 +107,7 @@ mark_of_word word false same = let e : word % 2 ≢ 1 = λ p. not_true (same.1 p
     not_true : IsTrue false → ⊥
     not_true t = absurd (cc)
 
--- ---- Lemmas about a walk that collects the keys of the set: it skips marked nodes
+-- ---- Lemmas about a walk that collects the keys of unmarked nodes
 abbrev pub unmarked_key : ChainKey → Option ℕ
 unmarked_key met = if met.marked then None else Some met.key
 
@@ -133,7 +134,7 @@ content_picked answers v items same w =
     ∙ unmarked_picked (chain_keys v w.nodes) ∙ sym (unmarked v w.nodes) in
     ((w.nodes, w.is_chain, keys), subst IsStrictlyIncreasing (sym keys) w.increasing)
 
--- ---- Lemmas about a walk that collects all keys of the chain: it skips no node
+-- ---- Lemmas about a walk that collects all keys of the chain
 picked_whole : (keys : List ChainKey) → filter_map (λ met. Some met) keys ≡ keys
 picked_whole [] = refl
 picked_whole (k ∷ ks) = ap (λ xs. k ∷ xs) (picked_whole ks)
@@ -151,7 +152,7 @@ module _ (answers : ChainKey → Option ChainKey → Type 0) (v : View) (items :
       let keys : unmarked_keys items ≡ keys_in v w.nodes = ap (λ ks. unmarked_keys ks) keys_are ∙ sym (unmarked v w.nodes) in
       ((w.nodes, w.is_chain, keys), subst IsStrictlyIncreasing (sym keys) w.increasing)
 
--- Holds if the walk has reached node curr, and has collected the keys of the unmarked nodes before curr.
+-- Holds if the walk has reached node `curr`, and has collected the keys of the unmarked nodes before `curr`.
 abbrev pub WalkedTo : View → List ℕ → ℕ → Type 0
 WalkedTo v items curr = HasPicked (λ met answer. answer ≡ unmarked_key met) v items curr
 

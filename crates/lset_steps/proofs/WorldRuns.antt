@@ -1,5 +1,5 @@
--- Proof that the state of a world (a list with its threads) is always the last state of a run: when the world opens,
--- and after each event.
+-- Proof that the state of a world (a list with its threads) is the last state of a run, both when the world opens and
+-- after each event.
 use Rattle.std.specs.Prelude.{◌≡◌, ℕ, ◌<◌, List, [], ◌∷◌, ◌++◌, length, refl, All, ◌^◌, Bool, true, false, if◌then◌else◌}
 use Rattle.std.specs.Prelude.{◌==◌, slice_index, slice_set, suc}
 use Rattle.std.specs.List.Sorted.{IsStrictlyIncreasing}

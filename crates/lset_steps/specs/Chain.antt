@@ -1,5 +1,6 @@
 -- The chain of a list (the nodes reachable from the head) and its content (the keys of the set). Both are computed from
--- the words of the list and from the number of slots (nodes for adds) that each thread has used (Herlihy and Shavit).
+-- the words of the list and from the number of slots (nodes reserved for adds) that each thread has used (Herlihy and
+-- Shavit).
 use Rattle.std.specs.Prelude.{◌≡◌, ◌≢◌, ℕ, ◌+◌, ◌/◌, ◌%◌, ◌<◌, ◌≤◌, ◌⊎◌, Bool, true, false, List, [], ◌∷◌, Option, slice_index}
 use Rattle.lset_words.specs.Words.{key_index, link_index, lock_index, slot_node, opening_node, Sizes}
 use Rattle.lset_words.specs.declared.Key.{Key}
@@ -16,9 +17,8 @@ node_link ws a = slice_index ws (link_index a)
 abbrev pub node_lock : List ℕ → ℕ → ℕ
 node_lock ws a = slice_index ws (lock_index a)
 
--- The parts of a list that the laws mention, at one moment: the key, link and lock word of each node, the lock of the
--- whole list, each thread's number of successful adds, and which nodes are published. A published node has been in the
--- chain at some time.
+-- The parts of a list that the laws mention, at one moment: the key, link, and lock word of each node, the lock of the
+-- whole list, each thread's number of successful adds, and which nodes are published (have been in the chain).
 pub record View : Type 1 where
   pub key : ℕ → ℕ
   pub link : ℕ → ℕ
@@ -27,9 +27,9 @@ pub record View : Type 1 where
   pub used : ℕ → ℕ
   pub published : ℕ → Type 0
 
--- Holds if a node is published, which means that it has been in the chain at some time. The published nodes are the
--- head, the tail, the nodes of the opening keys, and the slots (nodes for adds) that the threads have used. A thread
--- with n successful adds has used its first n slots.
+-- Holds if a node is published, which means that it has been in the chain. The published nodes are the head, the tail,
+-- the nodes of the opening keys, and the slots (nodes reserved for adds) that the threads have used. A thread with n
+-- successful adds has used its first n slots.
 abbrev pub Published : Sizes → (ℕ → ℕ) → ℕ → Type 0
 Published sz used i = (i < 2) ⊎ ((t : ℕ) × (j : ℕ) × (t < sz.threads) × (j < used t) × (i ≡ slot_node sz.quota t j))
     ⊎ ((j : ℕ) × (j < sz.opening) × (i ≡ opening_node sz j))
@@ -44,8 +44,8 @@ view sz ws used = record {
   published = Published sz used;
 }
 
--- Holds if following links from node i visits exactly the nodes ns in this order, none of them the tail, and then
--- reaches node j. A link word is twice the number of the next node, plus 1 if the node is marked.
+-- Holds if following links from node i visits exactly the nodes `ns` in order, none of them the tail, and then reaches
+-- node j. A link word is twice the number of the next node, plus 1 if the node that has the link is marked.
 abbrev pub Segment : View → ℕ → List ℕ → ℕ → Type 0
 Segment v i [] j = i ≡ j
 Segment v i (a ∷ ns) j = (a ≡ i) × (i ≢ 1) × Segment v (v.link i / 2) ns j
@@ -63,8 +63,8 @@ IsChain v ns = Segment v 0 ns 1
 abbrev pub InContent : View → ℕ → Type 0
 InContent v k = (b : ℕ) × InChain v b × (1 < b) × (v.key b ≡ k + 1) × (v.link b % 2 ≡ 0)
 
--- Holds if the keys are in order: the link of each published node (one that has been in the chain) except the tail
--- leads to a published node with a greater key, and no key is above the tail's.
+-- Holds if the keys are in order: the link of each published node (one that has been in the chain), except the tail,
+-- points to a published node with a greater key, and no key is greater than the tail's.
 pub record IsOrdered (v : View) : Type 0 where
   pub head_published : v.published 0
   pub tail_published : v.published 1
@@ -72,13 +72,13 @@ pub record IsOrdered (v : View) : Type 0 where
   pub next_published : (i : ℕ) → v.published i → i ≢ 1 → v.published (v.link i / 2)
   pub increases : (i : ℕ) → v.published i → i ≢ 1 → v.key i < v.key (v.link i / 2)
 
--- Holds if, in a list that marks nodes before it unlinks them (`true`), each unmarked published node is in the chain.
--- (A published node has been in the chain at some time.) In any other list, holds if no published node has a mark.
+-- For a list that marks nodes before it unlinks them (`true`), holds if each unmarked published node (one that has been
+-- in the chain) is in the chain. For a list that does not mark nodes (`false`), holds if no published node is marked.
 abbrev pub UnmarkedInChain : Bool → View → Type 0
 UnmarkedInChain true v = (b : ℕ) → v.published b → v.link b % 2 ≡ 0 → InChain v b
 UnmarkedInChain false v = (b : ℕ) → v.published b → v.link b % 2 ≡ 0
 
--- [Content] at two moments, `v` and `w`: holds if the set's keys change from `v` to `w` by exactly `change`.
+-- [Content]: holds if `change` is exactly the change of the set's keys from view `v` to view `w`.
 abbrev pub Changed : Option (Key × Bool) → View → View → Type 0
 Changed change v w = Changes change (InContent v) (InContent w)
 
@@ -91,16 +91,16 @@ counts_of vs moment thread = (vs moment).used thread
 abbrev pub FitsIn : ℕ → View → ℕ → Call → Reply → Type 0
 FitsIn quota v thread call reply = Fits quota (InContent v) (v.used thread) call reply
 
--- [Unlinked stays]: compares node i, which has been in the chain (is published), at two moments: `v` and a later `w`.
--- At `w`, the node has the same key and is still published. If it was unlinked, it is still unlinked and has the same
--- link. In a list that marks nodes, a marked node still has the same link.
+-- [Unlinked stays]: compares the published node i (one that has been in the chain) in view `v` and in a later view `w`.
+-- The node is still published in `w` and has the same key. If the node is unlinked in `v`, it is unlinked in `w` and
+-- has the same link. In a list that marks nodes, a node that is marked in `v` has the same link in `w`.
 pub record UnlinkedStays (marks : Bool) (v w : View) (i : ℕ) : Type 0 where
   pub published : w.published i
   pub key : w.key i ≡ v.key i
   pub unlinked : (InChain v i → ⊥) → (w.link i ≡ v.link i) × (InChain w i → ⊥)
   pub marked : marks ≡ true → v.link i % 2 ≡ 1 → w.link i ≡ v.link i
 
--- [Seen]: at some moment from `first` to `now`, node b was in the chain and had the link word l.
+-- [Seen]: holds if at some moment from `first` to `now`, node b was in the chain and had the link word l.
 pub record Seen (vs : ℕ → View) (first now b l : ℕ) : Type 0 where
   pub at : ℕ
   pub from : first ≤ at

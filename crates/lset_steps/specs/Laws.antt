@@ -1,5 +1,5 @@
--- The law of a machine. A machine is the algorithm of a list-based set, as a table of steps. Each list of this project
--- proves that it satisfies the law in every run.
+-- The law of a machine, which is a list algorithm as a table of steps. Each list of this project is proved to satisfy
+-- the law in every run.
 use Rattle.std.specs.Prelude.{◌≡◌, ◌≢◌, ℕ, suc, ◌+◌, ◌<◌, ◌≤◌, ◌⊎◌, ◌%◌, Bool, false, List, Option, Some, None, slice_index, length}
 use Rattle.lset_words.specs.Words.{lock_index, word_count, node_count, tail_word, target, Sizes, Opening, sizes}
 use Rattle.lset_words.specs.declared.Key.{Key}
@@ -15,8 +15,8 @@ use Rattle.lset_steps.specs.declared.Event.TheVariants.{Go}
 use Rattle.lset_steps.specs.Steps.{Table, State, state_at, Run, local_of, seen_next, log_of, idle}
 use Rattle.lset_steps.specs.Chain.{View, view, IsOrdered, InChain, UnmarkedInChain, Changed, UnlinkedStays, Seen, contents_of, counts_of}
 
--- Returns the number of successful adds of thread `t` in state `s`. `view_of` returns the nodes and locks in a state,
--- and `views` those at each moment of a run.
+-- Returns the number of successful adds by thread `t` in state `s`. `view_of` returns the nodes and locks in a state,
+-- and `views` returns the nodes and locks at each moment of a run.
 abbrev pub used_in : State → ℕ → ℕ
 used_in s t = (local_of s t).used
 
@@ -34,8 +34,8 @@ word_named (Exchange w old new) = w
 abbrev pub IsLockWord : ℕ → Type 0
 IsLockWord x = (x ≡ 0) ⊎ ((i : ℕ) × (x ≡ lock_index i))
 
--- Holds if the private state `l` contains the number of thread `t` and the quota of the set, and its registers are in
--- range: each is a node of the list, or a key word that is at most the tail's.
+-- Holds if the private state `l` contains the number of thread `t` and the quota of the set (the successful adds that
+-- each thread may make), and each register is a node of the list or a key word not greater than the tail's.
 pub record Registers (sz : Sizes) (t : ℕ) (l : Local) : Type 0 where
   pub thread : l.thread ≡ t
   pub quota : l.quota ≡ sz.quota
@@ -60,25 +60,25 @@ pub record StateLaws (marks : Bool) (sz : Sizes) (s : State) : Type 0 where
   pub marked : UnmarkedInChain marks (view_of sz s)
   pub unmarked : marks ≡ false → (i : ℕ) → i < node_count sz → (view_of sz s).link i % 2 ≡ 0
 
--- Holds if the action of thread t uses locks properly. The action can take a lock, by an exchange of 0 for t + 1. It
--- can release a lock that t holds, by a store of 0. It does not write a lock word in any other way.
+-- Holds if the action of thread t uses locks properly: it writes a lock word only to take a lock, by an exchange of 0
+-- for t + 1, or to release a lock that t holds, by a store of 0.
 abbrev pub LockUse : List ℕ → ℕ → Action → Type 0
 LockUse ws t (Load w) = Unit {0}
 LockUse ws t (Store w v) = IsLockWord w → (v ≡ 0) × (slice_index ws w ≡ t + 1)
 LockUse ws t (Exchange w old new) = IsLockWord w → (old ≡ 0) × (new ≡ t + 1)
 
--- Holds if the reply r to the call is correct: `True` if the call has changed the set (`done`), else a reply that is
--- correct for the keys of the set at some moment from `first` to `now`.
+-- Holds if the reply r to the call is correct: it is `True` if the call has changed the set (`done`), and otherwise it
+-- is correct for the keys of the set at some moment from `first` to `now`.
 abbrev pub Due : Bool → ℕ → (ℕ → View) → ℕ → ℕ → ℕ → Call → Reply → Type 0
 Due done q vs first now t call r = RightReply done q (contents_of vs) (counts_of vs) first now t call (Some r)
 
--- Holds if the call has ended (pc is 0) exactly if the step has a reply, and any reply is correct.
+-- Holds if the call has ended (`pc` is 0) exactly when the step has a reply, and the reply, if any, is correct.
 abbrev pub Answered : Bool → ℕ → (ℕ → View) → ℕ → ℕ → ℕ → Call → ℕ → Option Reply → Type 0
 Answered done q vs first now t call pc None = pc ≢ 0
 Answered done q vs first now t call pc (Some r) = (pc ≡ 0) × Due done q vs first now t call r
 
--- The laws of event `k` of a run, counted from 0, if it is a step of thread `t` in private state `l`. `change` is the
--- key that the step adds or removes according to the step table.
+-- The laws of event `k` of a run (counted from 0), if event `k` is a step of thread `t` in private state `l`. `change`
+-- is the key that the step adds or removes according to the step table.
 pub record StepLaws (T : Table) (op : Opening) (es : ℕ → Event) (k t : ℕ) (s : State) (l : Local)
     (change : Option (Key × Bool)) : Type 0 where
   -- The step accesses one of the list's words.
@@ -86,12 +86,12 @@ pub record StepLaws (T : Table) (op : Opening) (es : ℕ → Event) (k t : ℕ) 
   -- The step writes a lock word only to take or to release the lock.
   pub lock_use : LockUse s.words t (T.next l)
   pub same_call : (T.feed l (seen_next T s t)).local.call ≡ l.call
-  -- The change of the set's keys in this step is exactly `change`.
+  -- The step changes the set's keys by exactly `change`.
   pub content : Changed change (views T op es k) (views T op es (suc k))
   -- The thread's pending call is allowed to make this change.
   pub by_call : MayChange op.quota l.used l.call (has_changed (log_of T op es) t k) change
   pub counts : (T.feed l (seen_next T s t)).local.used ≡ count_after change l.used
-  -- The call ends if and only if the step has a reply, and any reply is correct.
+  -- The call ends exactly if the step has a reply, and the reply, if any, is correct.
   pub answered : Answered (has_changed (log_of T op es) t (suc k)) op.quota (views T op es)
       (begun_at (log_of T op es) t (suc k)) (suc k) t l.call
       (T.feed l (seen_next T s t)).local.pc (T.feed l (seen_next T s t)).answer
@@ -101,41 +101,41 @@ StepAt T op es k t =
     StepLaws T op es k t (state_at T op es k) (local_of (state_at T op es k) t)
     (T.effect (local_of (state_at T op es k) t) (seen_next T (state_at T op es k) t))
 
--- The laws that hold when a thread in private state `l` begins a call.
+-- The laws for the start of a call by a thread in private state `l`.
 pub record BeginLaws (begin : Call → Local → Local) (call : Call) (l : Local) : Type 0 where
   pub called : (begin call l).call ≡ call
   pub used : (begin call l).used ≡ l.used
   pub opened : (begin call l).pc ≢ 0
-  -- The thread's state after it begins a call depends only on the call and on the thread's number, quota and number of
-  -- successful adds.
+  -- The thread's state after the start of a call depends only on the call and on the thread's number, quota of adds,
+  -- and number of successful adds.
   pub alike : begin call l ≡ begin call (record (idle l.quota l.thread) { used = l.used })
 
 -- The law of a machine (a list algorithm as a table of steps): properties of every start of a call, of every state and
--- step of a run, and of nodes at two moments of a run. `lset_steps::laws` derives the laws that users of a list need.
+-- every step of a run, and of a node at two moments of a run. The laws in `lset_steps::laws` follow from it.
 pub record Lawful (T : Table) : Type 0 where
   pub begins : (call : Call) (l : Local) → BeginLaws T.begin call l
   pub states : (op : Opening) (last k : ℕ) (es : ℕ → Event) → Run T op es last → k ≤ last →
       StateLaws T.marks (sizes op) (state_at T op es k)
   pub steps : (op : Opening) (last k t : ℕ) (es : ℕ → Event) → Run T op es last → k < last → es k ≡ Go t → StepAt T op es k t
-  -- At every later moment, a published node (one that has been in the chain) is still published and has the same key.
-  -- An unlinked node stays unlinked, with the same link. In a list that marks nodes, a marked node keeps its link.
+  -- A published node (one that has been in the chain) is still published at every later moment, with the same key. An
+  -- unlinked node stays unlinked and keeps its link. In a list that marks nodes, a marked node keeps its link.
   pub unlinked_stays : (op : Opening) (last j k i : ℕ) (es : ℕ → Event) → Run T op es last → j ≤ k → k ≤ last
       → (views T op es j).published i
       → UnlinkedStays T.marks (views T op es j) (views T op es k) i
-  -- Suppose that a node is in the chain at moment `j`, and has some link at a later moment `k`. Then at some moment
-  -- from `j` to `k`, the node is in the chain with this link.
+  -- If a node is in the chain at moment `j`, and has a certain link at a later moment `k`, then at some moment from `j`
+  -- to `k`, the node is in the chain with that link.
   pub seen_before : (op : Opening) (last j k b : ℕ) (es : ℕ → Event) → Run T op es last → j ≤ k → k ≤ last
       → InChain (views T op es j) b
       → Seen (views T op es) j k b ((views T op es k).link b)
 
--- Holds if the first `k` events are a run, and thread `t` has a pending call after them.
+-- Holds if the first `k` events are a run, after which thread `t` has a pending call.
 pub record UnderWay (T : Table) (op : Opening) (es : ℕ → Event) (k t : ℕ) : Type 0 where
   pub run : Run T op es k
   pub thread : t < op.threads
   pub open_call : (local_of (state_at T op es k) t).pc ≢ 0
 
--- `Occurs`: `l` is the private state of some thread with a pending call, at some moment of some run. `Sees`: in
--- addition, the thread's next step sees the value `seen`.
+-- `Occurs` holds if, at some moment of some run, `l` is the private state of a thread with a pending call. `Sees` holds
+-- if, in addition, the thread's next step sees the value `seen`.
 abbrev pub Occurs : Table → Local → Type 0
 Occurs T l = (op : Opening) × (es : ℕ → Event) × (k : ℕ) × (t : ℕ) × UnderWay T op es k t
     × (local_of (state_at T op es k) t ≡ l)

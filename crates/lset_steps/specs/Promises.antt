@@ -1,6 +1,6 @@
 -- The consequences of the law of a machine (a list algorithm as a table of steps), each with its own name. In all of
--- them, `op` states the threads, quota and opening keys of the set, the run has the first `last` events of `es`, and
--- `k` is a moment (the state after `k` events).
+-- them, `op` has the threads, quota, and opening keys of the set, the run consists of the first `last` events of `es`,
+-- and `k` is a moment (the state after `k` events).
 use Rattle.std.specs.Prelude.{◌≡◌, ◌≢◌, ℕ, zero, suc, ◌+◌, ◌%◌, ◌^◌, ◌<◌, ◌≤◌, ◌⊎◌, true, false, if◌then◌else◌, ◌==◌, List, []}
 use Rattle.std.specs.Prelude.{◌∷◌, ◌++◌, map, Option, Some, Contains, slice_index}
 use Rattle.std.specs.List.Sorted.{IsStrictlyIncreasing}
@@ -22,8 +22,8 @@ use Rattle.lset_steps.specs.Chain.{View, InContent, IsChain, InChain, UnmarkedIn
 use Rattle.lset_steps.specs.Laws.{Registers, IsLockWord, LockUse, word_named, views}
 use Rattle.lset_steps.specs.Worlds.{IsContent}
 
--- [In range]: the registers of thread `t` (the nodes and key words in its private state) are in range. If the thread
--- has a pending call, its next step accesses one of the list's words.
+-- [In range]: the registers of thread `t` (the nodes and key words in its private state) are in range, and if the
+-- thread has a pending call, its next step accesses one of the list's words.
 pub record ThreadInRange (T : Table) (sz : Sizes) (t : ℕ) (l : Local) : Type 0 where
   pub registers : Registers sz t l
   pub action : l.pc ≢ 0 → word_named (T.next l) < word_count sz
@@ -32,7 +32,8 @@ abbrev pub InRange : Table → Type 0
 InRange T = (op : Opening) (last k t : ℕ) (es : ℕ → Event) → Run T op es last → k ≤ last → t < op.threads
     → ThreadInRange T (sizes op) t (local_of (state_at T op es k) t)
 
--- [Sorted chain]: the chain reaches the tail, and the keys along the chain, including the tail's, increase strictly.
+-- [Sorted chain]: holds if the chain reaches the tail, and the keys along the chain, including the tail's, increase
+-- strictly.
 pub record ChainIsSorted (v : View) : Type 0 where
   pub nodes : List ℕ
   pub chain : IsChain v nodes
@@ -63,20 +64,20 @@ LockWords T = (op : Opening) (last k x : ℕ) (es : ℕ → Event) → Run T op 
     x < word_count (sizes op)
     → slice_index (state_at T op es k).words x ≡ holder T op es x k
 
--- In each step, an exchange on a lock word is an attempt to take the lock. A store to a lock word stores 0, and only
--- the thread that holds the lock makes it.
+-- Holds if in each step, an exchange on a lock word is an attempt to take the lock, and a store to a lock word stores 0
+-- and is made by the thread that holds the lock.
 abbrev pub LockUses : Table → Type 0
 LockUses T = (op : Opening) (last k t : ℕ) (es : ℕ → Event) → Run T op es last → k < last → es k ≡ Go t
     → LockUse (state_at T op es k).words t (T.next (local_of (state_at T op es k) t))
 
--- [Unlinked stays]: compares node i at moment j and at a later moment k, if it is published at j (has been in the
--- chain). At k, it has the same key. If it was unlinked at j, it is unlinked at k and has the same link. In a list
--- that marks nodes, a node that was marked at j has the same link at k.
+-- [Unlinked stays]: compares a node i, which is published at moment j (has been in the chain), at j and at a later
+-- moment k. At k, the node has the same key. If the node is unlinked at j, it is unlinked at k and has the same link.
+-- In a list that marks nodes, a node that is marked at j has the same link at k.
 abbrev pub UnlinkedNodesStay : Table → Type 0
 UnlinkedNodesStay T = (op : Opening) (last j k i : ℕ) (es : ℕ → Event) → Run T op es last → j ≤ k → k ≤ last
     → (views T op es j).published i → UnlinkedStays T.marks (views T op es j) (views T op es k) i
 
--- [Frozen]: the link word of node i does not change from moment k to the end of the run.
+-- [Frozen]: holds if the link word of node i does not change from moment k to the end of the run.
 abbrev pub IsFrozen : Table → Opening → ℕ → (ℕ → Event) → ℕ → ℕ → Type 0
 IsFrozen T op last es k i = (later : ℕ) → k ≤ later → later ≤ last → (views T op es later).link i ≡ (views T op es k).link i
 
@@ -90,26 +91,26 @@ abbrev pub FrozenNodes : Table → Type 0
 FrozenNodes T = (op : Opening) (last k i : ℕ) (es : ℕ → Event) → Run T op es last → k ≤ last → (views T op es k).published i
     → Freezes T op last es k i
 
--- [Seen in the past]: suppose that a node was in the chain at moment j, and has some link word at a later moment k.
--- Then at some moment from j to k, the node was in the chain with this link word.
+-- [Seen in the past]: if a node is in the chain at moment j, and has a certain link word at a later moment k, then at
+-- some moment from j to k, the node is in the chain with that link word.
 abbrev pub SeenInThePast : Table → Type 0
 SeenInThePast T = (op : Opening) (last j k b : ℕ) (es : ℕ → Event) → Run T op es last → j ≤ k → k ≤ last
     → InChain (views T op es j) b → Seen (views T op es) j k b ((views T op es k).link b)
 
 -- [Unmarked in chain]: in a list that marks nodes, every published node (one that has been in the chain) stays in the
--- chain until it is marked. In any other list, no published node has a mark.
+-- chain until it is marked. In a list that does not mark nodes, no published node is marked.
 abbrev pub UnmarkedNodesInChain : Table → Type 0
 UnmarkedNodesInChain T = (op : Opening) (last k : ℕ) (es : ℕ → Event) → Run T op es last → k ≤ last
     → UnmarkedInChain T.marks (views T op es k)
 
--- In a list that does not mark nodes, no node has a mark, not even before its first use.
+-- Holds if, in a list that does not mark nodes, no node ever has a mark, not even before its first use.
 abbrev pub NoLinkIsMarked : Table → Type 0
 NoLinkIsMarked T = (op : Opening) (last k i : ℕ) (es : ℕ → Event) → Run T op es last → k ≤ last → T.marks ≡ false →
     i < node_count (sizes op)
     → (views T op es k).link i % 2 ≡ 0
 
--- [Named change]: how event k of a run, counted from 0, changes the keys of the set and each thread's number of
--- successful adds. Only a step of a pending call can make a change, and each call makes at most one.
+-- [Named change]: states how event k of a run (counted from 0) changes the keys of the set and each thread's number of
+-- successful adds. Only a step of a pending call can make a change, and each call makes at most one change.
 abbrev pub ChangeIsNamed : ℕ → ℕ → Log → Contents → Counts → ℕ → Entry → Type 0
 ChangeIsNamed threads quota log contents counts k (began t call) =
     Same (contents k) (contents (suc k))
@@ -125,8 +126,8 @@ NamedChange T = (op : Opening) (last k : ℕ) (es : ℕ → Event) → Run T op 
     → ChangeIsNamed op.threads op.quota (log_of T op es) (contents_of (views T op es)) (counts_of (views T op es)) k
     (log_of T op es k)
 
--- [Replies fit]: if event k of a run, counted from 0, ends a call, the call's reply is correct: `True` if the call has
--- changed the set, else a reply that is correct for the keys of the set at some moment of the call.
+-- [Replies fit]: if event k of a run (counted from 0) ends a call, the call's reply is correct. The reply is `True` if
+-- the call has changed the set, and otherwise it is correct for the keys of the set at some moment of the call.
 abbrev pub RepliesFit : Table → Type 0
 RepliesFit T = (op : Opening) (last k t : ℕ) (es : ℕ → Event) (change : Option Change) (reply : Reply) → Run T op es last →
     k < last
@@ -144,20 +145,20 @@ IsRead (call.Remove k) = ⊥
 IsRead (call.Contains k) = Unit {0}
 IsRead (call.Ceiling k) = Unit {0}
 
--- Only a `contains` can reply `True` without having changed the set.
+-- Holds if only a `contains` can reply `True` without having changed the set.
 abbrev pub TrueMeansChange : Table → Type 0
 TrueMeansChange T = (op : Opening) (last k t : ℕ) (es : ℕ → Event) (change : Option Change) → Run T op es last → k < last
     → log_of T op es k ≡ stepped t change (Some True)
     → (has_changed (log_of T op es) t (suc k) ≡ true) ⊎ IsContains (last_call (log_of T op es) t k)
 
--- Every run has an account: each event changes the keys of the set as its call allows, and each reply is correct at
--- some moment of its call. An account mentions no nodes and no locks.
+-- Holds if every run has an account, in which each event changes the keys of the set as its call allows, and each reply
+-- is correct at some moment of its call. An account mentions no nodes and no locks.
 abbrev pub HasAccount : Table → Type 0
 HasAccount T = (op : Opening) (last : ℕ) (es : ℕ → Event) → Run T op es last
     → Account op last (log_of T op es) (contents_of (views T op es)) (counts_of (views T op es))
 
--- Holds if some list has exactly the keys of the set, in strictly increasing order: the keys of the unmarked nodes
--- along the chain. All of them are below 2^32.
+-- Holds if the keys of the unmarked nodes along the chain form a strictly increasing list of exactly the keys of the
+-- set, all of them below 2^32.
 pub record ContentIsListed (v : View) : Type 0 where
   pub keys : List ℕ
   pub increasing : IsContent v keys

@@ -1,6 +1,6 @@
 -- The rows of a step table for a `contains` and a `ceiling` that take no lock and write nothing (Herlihy and Shavit's
--- wait-free `contains`). Rows 20 and 23 load the link of a node. Rows 21 and 24 load the key of the next node. Rows 22
--- and 25 load the mark of the last node that the call visits.
+-- wait-free `contains`). Rows 20 and 23 load the link of a node, rows 21 and 24 load the key of the next node, and rows
+-- 22 and 25 load the mark of the last node that the call visits.
 use Rattle.std.specs.Prelude.{ℕ, ◌/◌, ◌%◌, if◌then◌else◌, Some, None, ◌==◌, nat_lt}
 use Rattle.lset_words.specs.declared.Call.{Call}
 use Rattle.lset_words.specs.declared.Call.TheVariants.{Add, Remove, Contains, Ceiling}
@@ -44,8 +44,8 @@ read_key l seen =
 abbrev pub read_mark : Local → ℕ → Fed
 read_mark l seen = if seen % 2 == 0 then leaves_with True l else leaves_with False l
 
--- Returns the next state of a `ceiling` that has read a key word. The call continues with the next node if the key is
--- smaller than its own, replies `Nothing` at the tail, and otherwise loads the node's mark.
+-- Returns the next state of a `ceiling` that has read a key word. If the key is smaller than the call's key, the call
+-- continues with the next node. At the tail, the call replies `Nothing`. Otherwise, the call loads the node's mark.
 abbrev pub ceiling_key : Local → ℕ → Fed
 ceiling_key l seen =
     if nat_lt seen (target l.call) then continued (record l { pc = 23; ckey = seen })

@@ -1,4 +1,4 @@
--- The behavior of single rows of a step table. Proofs use these laws in place of the whole table.
+-- The behavior of single rows of a step table. Proofs use these laws instead of the whole table.
 use Rattle.std.specs.Prelude.{◌≡◌, ℕ, ◌/◌, Bool, Option, None}
 use Rattle.lset_words.specs.declared.Key.{Key}
 use Rattle.lset_words.specs.declared.Call.{Call}
@@ -10,8 +10,8 @@ use Rattle.lset_steps.specs.declared.Fed.{Fed}
 use Rattle.lset_steps.specs.Steps.{Table}
 use Rattle.lset_steps.specs.ReadRows.{begun_reading, continued, read_key, read_mark, ceiling_key, ceiling_mark}
 
--- Describes row `pc` of a step table. Holds if `acts` returns the thread's next action, `feeds` the state and the reply
--- after this action, and `tells` the change of the set.
+-- Holds if row `pc` of a step table is described by three functions: `acts` returns the thread's next action, `feeds`
+-- the state and the reply after the action, and `tells` the change of the set.
 abbrev pub Does : Table → ℕ → (Local → Action) → (Local → ℕ → Fed) → (Local → ℕ → Option (Key × Bool)) → Type 0
 Does T pc acts feeds tells = (l : Local) → l.pc ≡ pc
     → (T.next l ≡ acts l) × ((seen : ℕ) → (T.feed l seen ≡ feeds l seen) × (T.effect l seen ≡ tells l seen))
@@ -20,18 +20,17 @@ Does T pc acts feeds tells = (l : Local) → l.pc ≡ pc
 abbrev pub nothing : Local → ℕ → Option (Key × Bool)
 nothing l seen = None
 
--- Holds if a step table has rows 20 to 25 for a `contains` and a `ceiling` that take no lock, and these calls begin at
--- these rows.
+-- Holds if `contains` and `ceiling` begin at rows 20 to 25 of the step table, which take no lock.
 pub record HasReading (T : Table) : Type 0 where
   pub begins : (call : Call) (l : Local) → T.begin call l ≡ begun_reading call l
   -- Row 20 of the step table: a `contains` loads the link of a node. It starts at the head.
   pub row_20 : Does T 20 (λ l. Load (link_index l.curr)) (λ l seen. continued (record l { pc = 21; curr = seen / 2 })) nothing
-  -- Row 21 of the step table: a `contains` loads the key of the next node, and compares this key with its own.
+  -- Row 21 of the step table: a `contains` loads the key of the next node, and compares it with the call's own key.
   pub row_21 : Does T 21 (λ l. Load (key_index l.curr)) read_key nothing
   -- Row 22 of the step table: a `contains` that has found its key loads the node's mark, and replies.
   pub row_22 : Does T 22 (λ l. Load (link_index l.curr)) read_mark nothing
-  -- Rows 23 to 25 of the step table: a `ceiling` walks and loads a mark, like a `contains` at rows 20 to 22. It also
-  -- stores the key word, and starts again from the head if it stops at a marked node.
+  -- Rows 23 to 25 of the step table: like a `contains` at rows 20 to 22, a `ceiling` walks along the chain and loads a
+  -- mark. It also stores the key word, and starts again from the head if it stops at a marked node.
   pub row_23 : Does T 23 (λ l. Load (link_index l.curr)) (λ l seen. continued (record l { pc = 24; curr = seen / 2 })) nothing
   pub row_24 : Does T 24 (λ l. Load (key_index l.curr)) ceiling_key nothing
   pub row_25 : Does T 25 (λ l. Load (link_index l.curr)) ceiling_mark nothing

@@ -1,5 +1,5 @@
--- [Machine] and [Run]: the algorithms of list-based sets as tables of steps, the states of a list, and runs. In a run,
--- threads take steps one at a time, in any order.
+-- [Machine] and [Run]: list algorithms as tables of steps, the states of a list, and runs. In a run, threads take steps
+-- one at a time, in any order.
 use Rattle.std.specs.Prelude.{◌≡◌, ◌≢◌, ℕ, ◌<◌, ◌*◌, ◌+◌, ◌-◌, ◌/◌, ◌%◌, nat_lt, Bool, if◌then◌else◌, List, map, length, Option}
 use Rattle.std.specs.Prelude.{None, ◌==◌, slice_index, slice_index_or, slice_set, zero, suc}
 use Rattle.std.specs.List.{range_with_len}
@@ -17,10 +17,9 @@ use Rattle.lset_steps.specs.declared.Told.{Told}
 use Rattle.lset_steps.specs.declared.Event.{Event}
 use Rattle.lset_steps.specs.declared.Event.TheVariants.{Begin, Go}
 
--- A machine: the algorithm of a list-based set, as a table of steps. `begin` returns a thread's state at the start of a
--- call. `next` returns the thread's next access to a word. `feed` returns the state and the reply after the access.
--- `effect` returns the key that the step adds or removes. `marks` is true if the list marks nodes before it unlinks
--- them.
+-- A machine: a list algorithm as a table of steps. `begin` returns a thread's state at the start of a call. `next`
+-- returns the thread's next access to a word. `feed` returns the state and the reply after the access. `effect` returns
+-- the key that the step adds or removes. `marks` is true if the list marks nodes before it unlinks them.
 pub record Table : Type 0 where
   pub marks : Bool
   pub begin : Call → Local → Local
@@ -49,8 +48,8 @@ idle q t = record {
   ckey = 0;
 }
 
--- Returns the node of opening key `i`, or the tail if `i` is past the last key. When a list opens, the head links to
--- the node of the first opening key, each such node to the next, and the last one to the tail.
+-- Returns the node of opening key `i`, or the tail if `i` is past the last opening key. When a list opens, its chain
+-- leads from the head through the nodes of the opening keys to the tail.
 abbrev pub opening_next : Sizes → ℕ → ℕ
 opening_next sz i = if nat_lt i sz.opening then opening_node sz i else 1
 
@@ -82,14 +81,14 @@ opening op = record {
   locals = map (idle op.quota) (range_with_len 0 op.threads);
 }
 
--- Returns the parameters of a set that opens with these sizes and these keys.
+-- Returns the parameters of a set that opens with the sizes `sz` and the keys `keys`.
 abbrev pub opening_of : Sizes → List ℕ → Opening
 opening_of sz keys = record { threads = sz.threads; quota = sz.quota; keys = keys }
 
 abbrev pub local_of : State → ℕ → Local
 local_of s t = slice_index_or s.locals t (idle 0 0)
 
--- Returns the value that an action sees: the word loaded, the value stored, or the word before an exchange.
+-- Returns the value that an action sees: the loaded word, the stored value, or the word before an exchange.
 abbrev pub seen_by : List ℕ → Action → ℕ
 seen_by ws (Load w) = slice_index ws w
 seen_by ws (Store w v) = v
@@ -122,7 +121,7 @@ abbrev pub Enabled : State → Event → Type 0
 Enabled s (Begin t call) = (t < length s.locals) × ((local_of s t).pc ≡ 0) × (target call < tail_word)
 Enabled s (Go t) = (t < length s.locals) × ((local_of s t).pc ≢ 0)
 
--- Returns the state of a run after its first k events. `es k` is event number k, counted from 0.
+-- Returns the state of a run after its first k events. Event number k, counted from 0, is `es k`.
 abbrev pub state_at : Table → Opening → (ℕ → Event) → ℕ → State
 state_at T op es zero = opening op
 state_at T op es (suc k) = after T (state_at T op es k) (es k)

@@ -1,5 +1,5 @@
-//! Step machines: the algorithms of list-based sets as tables of atomic steps, one row for each step. A world (a list
-//! with its threads) executes the steps one event at a time.
+//! Step machines: list algorithms as tables of atomic steps, with one row for each step. A world (a list with its
+//! threads) executes the steps one event at a time.
 #![tactic(auto)]
 
 ghost use Rattle.std.specs.Prelude.{◌≡◌, ◌+◌, ◌*◌, ◌<◌};
@@ -17,7 +17,8 @@ use lset_words::{Call, Key, Kind, Layout, Reply};
 pub use world::{ChainKey, StepFault, World, opening_words};
 
 /// The private state of a thread:
-/// - its number, its quota, and the number of slots (nodes for its adds) that it has used;
+/// - its number, its quota (the successful adds that it may make), and the number of slots (nodes reserved for adds)
+///   that it has used;
 /// - its call and the call's reply;
 /// - the program counter `pc`: the next row of the step table, or 0 if no call is pending;
 /// - the registers `pred` to `ckey`: nodes and key words.
@@ -45,7 +46,7 @@ impl Local {
         Local::at_rest(t, layout.quota())
     }
 
-    /// Returns the private state of a thread before its first call.
+    /// Returns the private state of thread number `thread` before its first call.
     pub(crate) fn at_rest(thread: u32, quota: u32) -> Local
         ensures { result ≡ idle quota thread }
     {
@@ -66,7 +67,7 @@ impl Local {
     }
 }
 
-/// One atomic access to a 64-bit word of the list. The first number is the word's index. A store has the new value; an
+/// One atomic access to a 64-bit word of the list. The first number is the word's index. A store has the new value. An
 /// exchange has the expected value and the new value, and writes only if the word has the expected value.
 #[derive(Clone, Copy)]
 pub enum Action {
@@ -100,7 +101,7 @@ pub struct Told {
 
 /// The algorithm of a list-based set, as a table of steps. Each function describes one step of one thread. The five
 /// lists of this library are Herlihy and Shavit's algorithms. The argument `seen` is the value that the step loads or
-/// stores; for an exchange, it is the value before the exchange. The exchange succeeds if `seen` is the expected value.
+/// stores or, for an exchange, the value before the exchange. The exchange succeeds if `seen` is the expected value.
 pub trait Machine {
     const KIND: Kind;
 
@@ -108,8 +109,8 @@ pub trait Machine {
 
     ghost table: { Table };
 
-    /// Returns the private state of a thread after it begins `call`. `local` is its state before; no call may be
-    /// pending.
+    /// Returns the private state of a thread after it begins `call`. `local` is the thread's state before `call`, in
+    /// which no call may be pending.
     fn begin(call: Call, local: &Local) -> Local
         ensures { result ≡ table.begin call local.now };
 

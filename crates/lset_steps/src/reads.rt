@@ -8,7 +8,7 @@ use crate::rows::{TAIL_WORD, begun, ceiling_at, key_index, link_index};
 use crate::{Action, Fed, Local};
 use lset_words::{Call, Reply};
 
-/// Returns the private state of a thread that begins a call, at the first row of the step table for this kind of call.
+/// Returns the private state of a thread that begins a call, at the first row of the step table for the call's kind.
 /// The rows for `contains` and `ceiling` take no lock and write nothing (Herlihy and Shavit's wait-free `contains`).
 #[inline(always)]
 pub fn begun_reading(call: Call, local: &Local) -> Local
@@ -22,7 +22,7 @@ pub fn begun_reading(call: Call, local: &Local) -> Local
     begun(pc, call, local)
 }
 
-/// Returns the outcome of a step if the call continues in the given private state.
+/// Returns the outcome of a step if the call continues in the private state `local`.
 #[inline(always)]
 pub fn continued(local: Local) -> Fed
     ensures { result ≡ continued local }
@@ -57,8 +57,9 @@ pub fn read_action(local: &Local) -> Action
     }
 }
 
-/// Returns the outcome of a step of a `ceiling` that read the key word `seen`. The call continues with the next node
-/// if the key is smaller than the call's, replies `Nothing` at the tail, and otherwise reads the node's mark.
+/// Returns the outcome of a step of a `ceiling` that read the key word `seen`. If the key is smaller than the call's
+/// key, the call continues with the next node. At the tail, the call replies `Nothing`. Otherwise, the call reads the
+/// node's mark.
 #[inline(always)]
 fn ceiling_key(local: &Local, seen: u64) -> Fed
     ensures { result ≡ ceiling_key local.now seen }
@@ -94,8 +95,8 @@ fn ceiling_mark(local: &Local, seen: u64) -> Fed
 }
 
 /// Returns the outcome of the next step of a `contains` or a `ceiling` that takes no lock; `seen` is the word that the
-/// step loaded. A `contains` walks to the first key that is not smaller than its own, and replies `True` if this is its
-/// own key and the node is not marked.
+/// step loaded. A `contains` walks to the first key that is not smaller than its own key, and replies `True` if the two
+/// keys are equal and the node is not marked.
 #[inline(always)]
 pub fn read_fed(local: &Local, seen: u64) -> Fed
     ensures { result ≡ read_fed local.now seen }

@@ -1,5 +1,5 @@
-//! Steps that several lists share: taking locks, using slots (nodes for adds), and choosing how a call continues after
-//! it has walked to its key.
+//! Steps that several lists share: taking locks, using slots (nodes reserved for adds), and choosing how a call
+//! continues after its walk along the chain.
 
 ghost use Rattle.std.specs.Prelude.{◌≡◌, ◌+◌, ◌^◌, ◌<◌, ◌≤◌};
 ghost use Rattle.lset_words.specs.Words.{lock_index};
@@ -9,8 +9,8 @@ use crate::{Action, Local};
 use lset_words::{Call, Key, MOST_NODES, Reply, slot_node};
 pub use lset_words::{key_index, link_index, lock_index};
 
-/// Returns the node that the thread's next successful `add` will use: the first slot that the thread has not used yet.
-/// A slot is a node reserved for one `add` of the thread.
+/// Returns the node that the thread's next successful `add` will use: the first unused slot of the thread. A slot is a
+/// node reserved for one `add`.
 #[inline(always)]
 pub fn own_slot(local: &Local) -> u64
     requires { IsSmall local.now }
@@ -47,7 +47,7 @@ pub fn begun(pc: u8, call: Call, local: &Local) -> Local
 /// The word that stores the tail's key: `2^32 + 1`.
 pub const TAIL_WORD: u64 = 4_294_967_297;
 
-/// Returns the reply of a `ceiling` that stops at this key word: the key, or `Nothing` if the word is the tail's.
+/// Returns the reply of a `ceiling` that stops at key word `word`: the key, or `Nothing` if `word` is the tail's.
 #[inline(always)]
 pub fn ceiling_at(word: u64) -> Reply
     ensures { result ≡ ceiling_at word }
@@ -59,7 +59,8 @@ pub fn ceiling_at(word: u64) -> Reply
     }
 }
 
-/// The rows of a step table after a walk: where a call adds its key, removes its key, or leaves with its reply.
+/// The rows of a step table at which a call continues after its walk: the row where it adds its key, the row where it
+/// removes its key, and the row where it leaves with its reply.
 #[derive(Clone, Copy)]
 pub struct Targets {
     pub adds: u8,
@@ -67,10 +68,11 @@ pub struct Targets {
     pub leaves: u8,
 }
 
-/// Decides how a call continues at the first key word that is not smaller than its own. `add` replies `False` if the
-/// key is present, and `Full` if the quota is used up. `remove` and `contains` reply `False` if the key is absent;
-/// `contains` replies `True` if it is present. `ceiling` replies with the word's key, or with `Nothing` at the tail. An
-/// `add` or `remove` without a reply continues at its own row of the step table, as `rows` states.
+/// Returns how a call continues at `key`, the first key word that is not smaller than the call's own. `add` replies
+/// `False` if the call's key is present, and `Full` if the quota of adds is used up. `remove` and `contains` reply
+/// `False` if the call's key is absent; `contains` replies `True` if it is present. `ceiling` replies with the key of
+/// the word `key`, or with `Nothing` at the tail. An `add` or `remove` without a reply continues at its own row of the
+/// step table, as `rows` states.
 #[inline(always)]
 pub fn decide(rows: Targets, key: u64, local: Local) -> Local
     ensures { result ≡ decided_on rows key local }

@@ -19,11 +19,11 @@ use std::alloc::{AllocError, Global};
 use std::marker::{Model, PhantomData};
 use thiserror::Error;
 
-/// The error of `World::step`. If several apply, the first in this order is returned. The world (a list with its
-/// threads) is unchanged.
+/// The error of `World::step`. If several errors apply, the first in the order of the variants is returned. The world
+/// (a list with its threads) is then unchanged.
 #[derive(Clone, Copy, Debug, PartialEq, Eq, Error)]
 pub enum StepFault {
-    /// The world (a list with its threads) has no thread with this number.
+    /// The world (a list with its threads) has no thread with the given number.
     #[error("no such thread")]
     NoThread,
     /// The thread already has a pending call.
@@ -68,7 +68,8 @@ impl<M: Machine> Model for World<M> {
     }) };
 }
 
-/// Returns the number of the first node after all slots (nodes for adds): the node of the first opening key, if any.
+/// Returns the number of the first node after all slots (nodes reserved for adds): the node of the first opening key,
+/// if any.
 fn first_opening_node(layout: &Layout) -> u64
     ensures node { result ≡ opening_node layout.now 0 }
     ensures few { result + layout.now.opening ≤ MOST_NODES }
@@ -77,7 +78,7 @@ fn first_opening_node(layout: &Layout) -> u64
     2 + u64::from(layout.threads()) * u64::from(layout.quota())
 }
 
-/// Returns the node of opening key `i`, or the tail if `i` is past the last key.
+/// Returns the node of opening key `i`, or the tail if `i` is past the last opening key.
 fn opening_next(layout: &Layout, i: u64) -> u64
     requires { i ≤ layout.now.opening }
     ensures node { result ≡ opening_next layout.now i }
@@ -144,8 +145,9 @@ fn opening_word_at(layout: &Layout, keys: &[u32], i: u64) -> u64
 }
 
 /// Returns the words of a list before any event: a chain from the head through the nodes of the opening keys to the
-/// tail, free locks, and zeros in unused slots (nodes for adds). `keys` must contain exactly `layout.opening()` keys.
-/// Allocates one vector of `layout.words()` words, at most 6,291,465. If that fails, returns `AllocError`.
+/// tail, free locks, and zeros in unused slots (nodes reserved for adds). `keys` must contain exactly
+/// `layout.opening()` keys. Allocates one vector of `layout.words()` words, at most 6,291,465. If the allocation fails,
+/// returns `AllocError`.
 pub fn opening_words(alloc: Global, layout: &Layout, keys: &[u32]) -> Result<Vec<u64>, AllocError>
     requires { length keys.now ≡ layout.now.opening }
     ensures words { IfOk result (λ v. v.items ≡ (opening (opening_of layout.now keys.now)).words) }
@@ -157,7 +159,7 @@ pub fn opening_words(alloc: Global, layout: &Layout, keys: &[u32]) -> Result<Vec
     for i in 0..9 {
         words.push(opening_word_at(layout, keys, i))?;
     }
-    // The words of all slots (nodes that no add has used yet) are 0. `resize` writes them all at once.
+    // The words of all slots (nodes that no add has used yet) are 0. A single `resize` writes all of them.
     words.resize(behind_slots as usize, 0)?;
     for i in behind_slots..words_in_all {
         words.push(opening_word_at(layout, keys, i))?;
@@ -222,9 +224,9 @@ impl<M: Machine> World<M> {
         World::opened(alloc, layout, &[])
     }
 
-    /// Returns a list that contains `keys`, before any event: no thread has a pending call. `keys` must contain
-    /// exactly `layout.opening()` keys, in strictly increasing order. Any thread can remove these keys. Allocates the
-    /// words and the threads' states. If an allocation fails, returns `AllocError`.
+    /// Returns a list that contains `keys`, before any event: no thread has a pending call. `keys` must contain exactly
+    /// `layout.opening()` keys, in strictly increasing order. Any thread can remove opening keys. Allocates the words
+    /// and the threads' states. If an allocation fails, returns `AllocError`.
     pub fn opened(alloc: Global, layout: Layout, keys: &[u32]) -> Result<World<M>, AllocError>
         requires many { length keys.now ≡ layout.opening }
         requires rising { IsStrictlyIncreasing keys.now }
@@ -259,7 +261,7 @@ impl<M: Machine> World<M> {
         self.locals[t as usize].pc != 0
     }
 
-    /// Returns the private state of thread `t`, or `None` if no thread has this number.
+    /// Returns the private state of thread `t`, or `None` if the world has no thread `t`.
     pub fn holds(&self, t: u32) -> Option<Local>
         ensures { MatchOption result (self.now.sizes.threads ≤ t) (λ l.
             (t < self.now.sizes.threads) × (l ≡ local_of self.now.state t)) }
@@ -271,8 +273,8 @@ impl<M: Machine> World<M> {
         }
     }
 
-    /// Returns the next access of thread `t` and the value that the access will see. Returns `None` if no thread has
-    /// this number, or if the thread has no pending call.
+    /// Returns the next access of thread `t` and the value that the access will see. Returns `None` if the world has no
+    /// thread `t`, or if thread `t` has no pending call.
     pub fn next(&self, t: u32) -> Option<(Action, u64)>
         ensures { MatchOption result (Enabled self.now.state (Event.Go t) → ⊥) (λ s. Enabled self.now.state (Event.Go t)
             × (s.0 ≡ M.table.next (local_of self.now.state t)) × (s.1 ≡ seen_next M.table self.now.state t)) }
@@ -284,16 +286,16 @@ impl<M: Machine> World<M> {
     }
 
     /// Returns the keys of the set in strictly increasing order: the keys of the unmarked nodes of the chain between
-    /// head and tail. Allocates one vector. If that fails, returns `AllocError` and changes nothing.
+    /// head and tail. Allocates one vector. If the allocation fails, returns `AllocError` and changes nothing.
     pub fn content(&self) -> Result<Vec<u32>, AllocError>
         ensures { IfOk result (λ v. IsContent (view_of self.now.sizes self.now.state) v.items) }
     {
         self.walk(|met| if met.marked { None } else { Some(met.key) })
     }
 
-    /// Returns the keys of the nodes between head and tail, in the chain's order, each with its node's mark. Allocates
-    /// one vector. If that fails, returns `AllocError` and changes nothing. (Herlihy and Shavit's lists; the marks are
-    /// Harris's.)
+    /// Returns the keys of the nodes between head and tail, in the order of the chain, each with its node's mark.
+    /// Allocates one vector. If the allocation fails, returns `AllocError` and changes nothing. (Herlihy and Shavit's
+    /// lists; the marks are Harris's.)
     pub fn chain(&self) -> Result<Vec<ChainKey>, AllocError>
         ensures keys { IfOk result (λ v. AreChainKeys (view_of self.now.sizes self.now.state) v.items) }
         ensures content { IfOk result (λ v.
@@ -385,7 +387,7 @@ impl<M: Machine> World<M> {
         }
     }
 
-    /// Executes the next step of thread `t`. `local` is the private state of this thread.
+    /// Executes the next step of thread `t`. `local` is the private state of `t`.
     #[inline(always)]
     fn go_holding(&mut self, t: u32, local: Local) -> Told
         requires call { Enabled self.old.state (Event.Go t) }
@@ -405,8 +407,9 @@ impl<M: Machine> World<M> {
         }
     }
 
-    /// Executes the next step of a thread that is at row `PC` of the step table. Since `PC` is a constant, the compiler
-    /// keeps only the code of this row. The step writes only those fields of the thread's state that this row changes.
+    /// Executes the next step of a thread that is at row `PC` of the step table. Because `PC` is a constant, the
+    /// compiler keeps only the code of row `PC`, and the step writes only the fields of the thread's state that row
+    /// `PC` changes.
     #[inline(always)]
     fn go_at<const PC: u8>(&mut self, t: u32) -> Told
         requires call { Enabled self.old.state (Event.Go t) }
@@ -418,7 +421,8 @@ impl<M: Machine> World<M> {
         self.go_holding(t, Local { pc: PC, ..held })
     }
 
-    /// Takes the next step of a thread at any row of the step table. Slower than `go_at`, which has code for one row.
+    /// Executes the next step of a thread at any row of the step table. Slower than `go_at`, which has code for one
+    /// row.
     fn go_elsewhere(&mut self, t: u32) -> Told
         requires { Enabled self.old.state (Event.Go t) }
         ensures new { self.new ≡ record self.old { state = after M.table self.old.state (Event.Go t) } }
@@ -429,7 +433,7 @@ impl<M: Machine> World<M> {
     }
 
     /// Executes the next step of a thread with the code for its row of the step table. Each row of the five lists'
-    /// tables has a match arm here. Rows of other tables work without an arm, but more slowly.
+    /// tables has a match arm. Rows of other tables work without an arm, but more slowly.
     #[inline(always)]
     fn go(&mut self, t: u32) -> Told
         requires { Enabled self.old.state (Event.Go t) }
@@ -462,13 +466,13 @@ impl<M: Machine> World<M> {
         }
     }
 
-    /// Executes one event. Returns the reply, if the event ends a call, and the key that it adds or removes. Does not
-    /// allocate.
+    /// Executes one event. Returns the reply, if the event ends a call, and the key that the event adds or removes, if
+    /// any. Does not allocate.
     ///
     /// # Errors
     ///
     /// Returns the first error that applies if the event is not enabled. The world is then unchanged.
-    /// - `NoThread`: the world has no thread with this number;
+    /// - `NoThread`: the world has no thread with the event's number;
     /// - `Busy`: the thread already has a pending call;
     /// - `Idle`: the thread has no pending call.
     #[inline(always)]
