@@ -1,5 +1,5 @@
--- Proofs about the nodes ahead of a walk: the nodes with greater keys than the node that the walk has reached. Since
--- keys increase along a walk, the number of these nodes bounds the number of its remaining steps.
+-- Proofs about the nodes ahead of a walk (the nodes with greater keys than the node that the walk has reached). Because
+-- keys increase along a walk, the number of nodes ahead bounds the number of the walk's remaining steps.
 use Rattle.std.specs.Prelude.{◌≡◌, ℕ, ◌+◌, ◌<◌, ◌≤◌, if◌then◌else◌, nat_lt}
 use Rattle.std.proofs.Common.{arith, inl, inr, ap, zero, suc}
 use Rattle.lset_words.proofs.Numbers.{same_or_not, below_or_not, if_below, if_not_below}
@@ -7,7 +7,7 @@ use Rattle.lset_words.proofs.Numbers.{same_or_not, below_or_not, if_below, if_no
 abbrev pub above : ℕ → ℕ → ℕ
 above c x = if nat_lt c x then 1 else 0
 
--- Returns how many of the nodes 0 to n - 1 have a key greater than c.
+-- Returns how many of the nodes 0 to n - 1 have a key greater than `c`.
 abbrev pub ahead : (ℕ → ℕ) → ℕ → ℕ → ℕ
 ahead key zero c = 0
 ahead key (suc n) c = above c (key n) + ahead key n c

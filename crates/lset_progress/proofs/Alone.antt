@@ -1,5 +1,5 @@
--- Proof: a call that runs alone ends if each of its steps either ends it or decreases a bound on the number of its
--- remaining steps.
+-- Proof that a call that runs alone ends if each of its steps either ends the call or decreases a bound on the number
+-- of remaining steps.
 use Rattle.std.specs.Prelude.{◌≡◌, ℕ, ◌<◌, ◌≤◌, ◌⊎◌, if◌then◌else◌, ◌==◌, length, refl}
 use Rattle.std.proofs.Common.{arith, inl, inr, sym, ◌∙◌, ap, subst, zero, suc}
 use Rattle.lset_words.proofs.Numbers.{if_same, if_other}
@@ -11,7 +11,7 @@ use Rattle.lset_steps.specs.Laws.{Lawful}
 use Rattle.lset_steps.proofs.MoreEvents.{state_agree}
 use Rattle.lset_progress.specs.Progress.{IsPending, Answers, EndsAlone}
 
--- Returns the events es, except that event number k (counted from 0) is a step of thread t.
+-- Returns the events `es`, with event number k (counted from 0) replaced by a step of thread t.
 abbrev pub then_go : (ℕ → Event) → ℕ → ℕ → ℕ → Event
 then_go es k t j = if j == k then Go t else es j
 
@@ -40,15 +40,15 @@ module _ (T : Table) (op : Opening) (es : ℕ → Event) (k t : ℕ) where
     ];
   }
 
--- A predicate with this meaning: a thread's pending call ends within n steps. The arguments are the sizes of the list,
--- its state, the thread, and n.
+-- The type of a predicate that says that a thread's pending call ends within n steps. Its arguments are the size bounds
+-- of the list, the list's state, the thread, and n.
 abbrev pub Stages : Type 1
 Stages = Sizes → State → ℕ → ℕ → Type 0
 
 pub record Nears (T : Table) (Stage : Stages) : Type 0 where
   pub some : (sz : Sizes) (s : State) (t : ℕ) → Stage sz s t 0 → ⊥
   pub pending : (sz : Sizes) (s : State) (t n : ℕ) → Stage sz s t n → IsPending s t
-  -- Each step of thread t ends its call or decreases the number of remaining steps by 1.
+  -- Each step of thread t ends the thread's call or decreases the number of remaining steps by 1.
   pub steps : (op : Opening) (es : ℕ → Event) (k t n : ℕ) → Run T op es (suc k) → es k ≡ Go t → t < op.threads
       → Stage (sizes op) (state_at T op es k) t (suc n)
       → Answers T (state_at T op es k) t ⊎ Stage (sizes op) (after T (state_at T op es k) (Go t)) t n

@@ -1,5 +1,5 @@
--- Proof: in a fair run of LazyList, some call ends even if only `ceiling` calls are pending. Meanwhile no node of the
--- chain is marked and no word changes, so each `ceiling` ends.
+-- Proof that in a fair run of LazyList, some call ends even if only `ceiling` calls are pending. While only `ceiling`
+-- calls are pending, no node of the chain is marked and no word changes, so each `ceiling` ends.
 use Rattle.std.specs.Prelude.{◌≡◌, ◌≢◌, ℕ, ◌+◌, ◌-◌, ◌<◌, ◌≤◌, ◌⊎◌, Bool, true, false, if◌then◌else◌, List, slice_index, refl}
 use Rattle.std.proofs.Common.{arith, inl, inr, sym, ◌∙◌, ap, subst, zero, suc}
 use Rattle.lset_words.proofs.Numbers.{same_or_not, if_same, if_other}
@@ -69,7 +69,7 @@ module _ (op : Opening) (es : ℕ → Event) (fair : IsFair lazy op es) (t : ℕ
         },
       )
 
-  -- Holds if none of the threads below n has a pending `add`, `remove` or `contains`.
+  -- Holds if no thread with a number below n has a pending `add`, `remove`, or `contains`.
   abbrev NoneCounts : ℕ → ℕ → Type 0
   NoneCounts k n = (u : ℕ) → u < n → IsPending (state_at lazy op es k) u
       → counted true (local_of (state_at lazy op es k) u).call ≡ 0
@@ -94,7 +94,7 @@ module _ (op : Opening) (es : ℕ → Event) (fair : IsFair lazy op es) (t : ℕ
     ]
   ]
 
-  -- Holds if the thread has a pending `ceiling` that ends within m steps if no word changes.
+  -- Holds if the thread has a pending `ceiling`, which ends within m steps if no word changes.
   record Waits (k m : ℕ) : Type 0 where
     pending : IsPending (state_at lazy op es k) t
     is_read : counted true (local_of (state_at lazy op es k) t).call ≡ 0

@@ -1,5 +1,5 @@
--- Proof: a `ceiling` of LockFreeList can run forever although every other thread is idle. The proof is an explicit run.
--- After 27 events, five steps of the `ceiling` lead back to the same state.
+-- Proof that a `ceiling` of LockFreeList can run forever although every other thread is idle. The proof is an explicit
+-- run: after 27 events, five steps of the `ceiling` lead back to the same state.
 use Rattle.std.specs.Prelude.{◌≡◌, ◌≢◌, ℕ, ◌<◌, List, [], ◌∷◌, length, refl}
 use Rattle.std.proofs.Common.{arith, sym, subst, zero, suc}
 use Rattle.lset_words.specs.declared.Call.TheVariants.{Add, Remove, Ceiling}
@@ -10,9 +10,9 @@ use Rattle.lset_lock_free.specs.LockFree.{lock_free}
 use Rattle.lset_progress.proofs.WrittenRuns.{op, run, is_run, is_after, state_after, never_ends_alone}
 use Rattle.lset_progress.specs.Progress.{IsPending, IsCeiling, EndsAlone, SomeCeilingNeverEnds}
 
--- The events before those that repeat forever. Thread 0 adds 5, and is about to link a new node with key 3 before the
--- node with key 5. Thread 1 marks the node with key 5, but fails to unlink this node, because thread 0 links its new
--- node first. Then thread 0 begins a `ceiling` of 4 and takes its first five steps.
+-- The first 27 events of the run; the events after them repeat forever. Thread 0 adds 5, and is about to link a new
+-- node with key 3 before the node with key 5. Thread 1 marks the node with key 5, but fails to unlink it because thread
+-- 0 links the new node first. Thread 0 then begins a `ceiling` of 4 and takes the first five steps.
 abbrev events : List Event
 events = Begin 0 (Add (record { 0 = 5 })) ∷ Go 0 ∷ Go 0 ∷ Go 0 ∷ Go 0 ∷ Go 0 ∷ Go 0
     ∷ Begin 0 (Add (record { 0 = 3 })) ∷ Go 0 ∷ Go 0 ∷ Go 0 ∷ Go 0 ∷ Go 0

@@ -1,5 +1,5 @@
--- Proof of progress for CoarseList: how each row of its step table changes the number of remaining steps. It follows
--- that a call ends if it runs alone, and that the list is free from livelock and deadlock.
+-- Proof of progress for CoarseList: how each row of the step table changes the number of remaining steps. Therefore a
+-- call that runs alone ends, and the list is free from livelock and deadlock.
 use Rattle.std.specs.Prelude.{◌≡◌, ℕ, ◌+◌, ◌*◌, ◌/◌, ◌<◌, nat_le, Bool, false, List, [], ◌∷◌, refl, slice_index}
 use Rattle.std.proofs.Common.{arith, inl, subst}
 use Rattle.lset_words.proofs.Numbers.{if_other}
@@ -26,14 +26,14 @@ use Rattle.lset_progress.proofs.Rest.{rest, few_by, fewer}
 use Rattle.lset_progress.proofs.RowsWithLocks.{Shape, Loads, RowOf, within, Only, at_row, goes, on, takes, timed, unlocks, writes}
 use Rattle.lset_progress.proofs.Standing.{Standing, stands}
 
--- Returns a bound on the steps that remain after the next one, if the call runs alone. The body lists one bound for
--- each row of the step table, starting with row 0.
+-- Returns a bound on the number of steps that remain after the next step, if the call runs alone. The body lists one
+-- bound for each row of the step table, starting with row 0.
 abbrev left : ℕ → (ℕ → ℕ) → Local → ℕ
 left size key l = slice_index (0 ∷ (2 * size + 2) ∷ (2 * size + 1) ∷ (2 * ahead key size (key l.curr) + 4)
     ∷ (2 * ahead key size (key l.curr) + 3) ∷ 3 ∷ 2 ∷ 1 ∷ 2 ∷ 1 ∷ 0 ∷ []) l.pc
 
 -- Describes CoarseList for the proofs of progress that all lists share. A thread can hold the lock from row 2 of the
--- step table on. At rows 5 to 10, its call has decided what to change.
+-- step table on. At rows 5 to 10, the thread's call has decided what to change.
 abbrev shape : Shape
 shape = record {
   may = λ l x. (x ≡ 0) × Only (nat_le 2 l.pc);

@@ -1,7 +1,7 @@
--- Proof: freedom from livelock implies freedom from deadlock. A step is counted if `calls` is 1 for its call and the
--- step is not a failed attempt to take a lock. If a thread's next step is not a failed attempt, this remains true until
--- some thread takes a counted step. Therefore, while a call with `calls` equal to 1 is pending, a fair run has one
--- counted step after another.
+-- Proof that freedom from livelock implies freedom from deadlock. A step is counted if `calls` is 1 for its call and
+-- the step is not a failed attempt to take a lock. If a thread's next step is not a failed attempt, it does not become
+-- one until some thread takes a counted step. Therefore, while a call with `calls` equal to 1 is pending, a fair run
+-- has one counted step after another.
 use Rattle.std.specs.Prelude.{◌≡◌, ◌≢◌, ℕ, ◌+◌, ◌-◌, ◌/◌, ◌%◌, ◌<◌, ◌≤◌, ◌⊎◌, true, false, List, Option, Some, None}
 use Rattle.std.specs.Prelude.{if◌then◌else◌, ◌==◌, nat_lt, slice_index, slice_set, refl}
 use Rattle.std.proofs.Common.{arith, inl, inr, sym, ◌∙◌, ap, subst, zero, suc}
@@ -70,7 +70,7 @@ module _ (T : Table) (law : Lawful T) (S : Shape) (most : Sizes → ℕ) (shows 
   count = moves calls T
 
   -- Holds if, within some number of events after the first k events, a counted step ends its call or at least m counted
-  -- steps are taken. A counted step is not a failed attempt to take a lock.
+  -- steps are taken. (A failed attempt to take a lock is not a counted step.)
   abbrev Gather : ℕ → ℕ → Type 0
   Gather m k = (n : ℕ) × (SomeEnds (moves calls T) T op es k n ⊎ (m ≤ steps_among (moves calls T) T op es k n))
 
@@ -83,7 +83,7 @@ module _ (T : Table) (law : Lawful T) (S : Shape) (most : Sizes → ℕ) (shows 
     ],
   )
 
-  -- Holds if thread t has a pending call, and the steps of this call are counted.
+  -- Holds if thread t has a pending call whose steps are counted.
   record Busy (k t : ℕ) : Type 0 where
     in_threads : t < op.threads
     pending : IsPending (state_at T op es k) t
@@ -145,8 +145,8 @@ module _ (T : Table) (law : Lawful T) (S : Shape) (most : Sizes → ℕ) (shows 
       → moves calls T s (Go v) ≡ unless_failed s.words (T.next (local_of s v)) n
   weight_of s v n e = ap (unless_failed s.words (T.next (local_of s v))) e
 
-  -- Thread u is ready: it has a pending call, and its next step is not a failed attempt to take a lock. Until u takes
-  -- this step, each event is a counted step or leaves u ready.
+  -- Thread u is `Ready` if it has a pending call whose next step is not a failed attempt to take a lock. Until u takes
+  -- the next step, each event is a counted step or leaves u ready.
   module _ (m : ℕ) (again : (k t : ℕ) → Busy k t → Gather m k) (u : ℕ) where
     record Ready (k : ℕ) : Type 0 where
       busy : Busy k u

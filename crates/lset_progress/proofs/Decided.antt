@@ -1,4 +1,5 @@
--- Proofs by cases: a property holds after a test or a decision of a call if it holds for each outcome.
+-- Proofs by cases: a property holds after a test or a decision of a call if it holds for each outcome of the test or
+-- the decision.
 use Rattle.std.specs.Prelude.{◌≡◌, ◌≢◌, ℕ, ◌<◌, ◌≤◌, ◌⊎◌, Bool, true, false, Option, Some, None, if◌then◌else◌, ◌==◌, nat_lt}
 use Rattle.std.specs.Prelude.{refl}
 use Rattle.std.proofs.Common.{inl, inr, sym, subst}
@@ -24,8 +25,8 @@ by_below P a b {x} {y} this other = elim (below_or_not a b) [
   | inr g ↦ subst P (sym (if_not_below a b g x y)) (other g)
 ]
 
--- After its decision, a call continues at one of three rows of the step table: the row that adds a key, the row that
--- removes a key, or (with its reply) the row for calls that change nothing.
+-- Lemma: after its decision, a call continues at one of three rows of the step table: the row that adds a key, the row
+-- that removes a key, or the row for calls that reply and change nothing.
 module _ (P : Local → Type 0) (a d u c : ℕ) (l : Local) (adds : P (goes_to a None l)) (removes : P (goes_to d None l))
     (leaves : (r : Reply) → P (goes_to u (Some r) l)) where
   by_call : (call : Call) (found room : Bool) → P (decided a d u call found room c l)

@@ -1,5 +1,5 @@
--- Proof of progress for FineList: how each row of its step table changes the number of remaining steps. It follows that
--- a call ends if it runs alone, and that the list is free from livelock and deadlock.
+-- Proof of progress for FineList: how each row of the step table changes the number of remaining steps. Therefore a
+-- call that runs alone ends, and the list is free from livelock and deadlock.
 use Rattle.std.specs.Prelude.{◌≡◌, ℕ, ◌+◌, ◌*◌, ◌/◌, ◌<◌, ◌||◌, Bool, false, List, [], ◌∷◌, refl, slice_index}
 use Rattle.std.proofs.Common.{arith, inl, inr, subst}
 use Rattle.lset_words.proofs.Numbers.{if_other}
@@ -27,8 +27,8 @@ use Rattle.lset_progress.proofs.RowsWithLocks.{Shape, Loads, RowOf, NodeLocks, w
 use Rattle.lset_progress.proofs.RowsWithLocks.{writes, no_lock, pred_only, gave_pred, gave_curr, after_pred}
 use Rattle.lset_progress.proofs.Standing.{Standing, stands}
 
--- Returns a bound on the steps that remain after the next one, if the call runs alone. The body lists one bound for
--- each row of the step table, starting with row 0.
+-- Returns a bound on the number of steps that remain after the next step, if the call runs alone. The body lists one
+-- bound for each row of the step table, starting with row 0.
 abbrev left : ℕ → (ℕ → ℕ) → Local → ℕ
 left size key l = slice_index (0 ∷ (4 * size + 1) ∷ (4 * size) ∷ (4 * ahead key size (key l.curr) + 6)
     ∷ (4 * ahead key size (key l.curr) + 5) ∷ (4 * ahead key size (key l.curr) + 4)

@@ -1,4 +1,4 @@
--- Proof: the head is never marked, by induction on the events of a run.
+-- Proof by induction on the events of a run that the head is never marked.
 use Rattle.std.specs.Prelude.{◌≡◌, ℕ, ◌*◌, ◌%◌, ◌<◌, ◌≤◌, Bool, Option, length, refl}
 use Rattle.std.proofs.Common.{arith, inl, inr, sym, ◌∙◌, ap, subst, zero, suc}
 use Rattle.std.proofs.lemmas.List.FromFn.{get_or-map-range_with_len}

@@ -1,5 +1,5 @@
--- Proof: a thread that holds a lock has a pending call, and the call is at a row of the step table where the thread can
--- hold this lock. Therefore no thread waits for itself, and the holder of a lock can always take another step.
+-- Proof that a thread that holds a lock has a pending call, at a row of the step table where the thread can hold the
+-- lock. Therefore no thread waits for itself, and the holder of a lock can always take another step.
 use Rattle.std.specs.Prelude.{◌≡◌, ◌≢◌, ℕ, ◌+◌, ◌<◌, ◌≤◌, ◌⊎◌, if◌then◌else◌, ◌==◌, slice_index, length, refl}
 use Rattle.std.proofs.Common.{arith, inl, inr, sym, ◌∙◌, ap, subst, zero, suc}
 use Rattle.lset_words.proofs.Numbers.{same_or_not, if_same, if_other}
@@ -42,7 +42,7 @@ others_keep x t u old (Exchange w o v) d e = elim (after_try x t u old w o v e) 
   | inr z ↦ absurd (d z.2)
 ]
 
--- What a list must prove for this law: a thread holds only the locks that `May` allows for its private state.
+-- The proof obligations for a list: a thread holds only the locks that `May` allows for the thread's private state.
 pub record MayHold (T : Table) (May : Local → ℕ → Type 0) : Type 0 where
   pub rests : (l : Local) (x : ℕ) → l.pc ≡ 0 → May l x → ⊥
   pub steps : (op : Opening) (last k t x : ℕ) (es : ℕ → Event) → Run T op es last → k < last → es k ≡ Go t → t < op.threads
@@ -141,7 +141,7 @@ module _ (T : Table) (law : Lawful T) (May : Local → ℕ → Type 0) (may : Ma
         ])
   ]
 
--- A step of thread t cannot make another thread the holder of a lock.
+-- Lemmas: a step of thread t cannot make another thread the holder of a lock.
 module _ (T : Table) (law : Lawful T) (op : Opening) (es : ℕ → Event) (k t : ℕ) (r : Run T op es (suc k)) (ee : es k ≡ Go t) where
   word_after : (x : ℕ) → IsLockWord x → x < word_count (sizes op)
       → slice_index (after T (state_at T op es k) (Go t)).words x

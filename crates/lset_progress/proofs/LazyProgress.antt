@@ -1,5 +1,5 @@
--- Proof of progress for LazyList: how each row of its step table changes the number of remaining steps. If a call runs
--- alone, at most its first walk fails validation, and no walk finds a marked node.
+-- Proof of progress for LazyList: how each row of the step table changes the number of remaining steps. If a call runs
+-- alone, only its first walk can fail validation, and no walk finds a marked node.
 use Rattle.std.specs.Prelude.{◌≡◌, ◌≢◌, ℕ, ◌+◌, ◌*◌, ◌/◌, ◌%◌, ◌<◌, ◌≤◌, ◌⊎◌, ◌||◌, Bool, true, false, Option, Some, None, if◌then◌else◌, ◌==◌}
 use Rattle.std.specs.Prelude.{is_some, List, [], ◌∷◌, slice_index, refl}
 use Rattle.std.proofs.Common.{arith, get_or, inl, inr, sym, ◌∙◌, ap, subst}
@@ -52,7 +52,7 @@ what_stands : {q t : ℕ} {vs : ℕ → View} {first now : ℕ} {v : View} {done
     → Stands v t l
 what_stands at = record { takes_out = λ h. (grind arith, grind arith); ceiling = λ h. grind arith }
 
--- Returns false if the change removes a key, else true.
+-- Returns false if the change removes a key, and true otherwise.
 abbrev puts_in : Option (Key × Bool) → Bool
 puts_in None = true
 puts_in (Some c) = c.1
@@ -79,8 +79,8 @@ lazy_marks = record {
   takes_at = takes_out_at;
 }
 
--- Returns the number of steps of an additional walk from the head. A call without a reply makes such a walk after row
--- 14 of the step table.
+-- Returns the number of steps of an additional walk from the head. A call that has no reply after row 14 of the step
+-- table makes an additional walk.
 abbrev round : ℕ → ℕ
 round size = 2 * size + 7
 
@@ -92,7 +92,7 @@ again_few : (size : ℕ) (r : Option Reply) → then_again size r ≤ 2 * size +
 again_few size None = omega arith
 again_few size (Some r) = omega arith
 
--- Returns, for each row of the step table, how many steps remain after the next one. The body lists the numbers of
+-- Returns, for each row of the step table, how many steps remain after the next step. The body lists the numbers of
 -- steps for a walk that will pass validation, starting with row 0.
 abbrev left : ℕ → (ℕ → ℕ) → Local → ℕ
 left size key l = get_or (0 ∷ (2 * size + 6) ∷ (2 * ahead key size (key l.curr) + 9)
@@ -100,8 +100,8 @@ left size key l = get_or (0 ∷ (2 * size + 6) ∷ (2 * ahead key size (key l.cu
     ∷ (then_again size l.reply) ∷ []) l.pc (reads_left size key l)
 
 -- Describes LazyList for the proofs of progress that all lists share. A walk is `valid` (validation will succeed) if
--- pred is in the chain, curr is the next node, and neither is marked when both are locked. After its decision, a
--- thread that releases its locks has a reply. While a `ceiling` walks, no node of the chain is marked.
+-- `pred` is in the chain, `curr` is the node after `pred`, and neither is marked when both are locked. After its
+-- decision, a thread that releases its locks has a reply. While a `ceiling` walks, no node of the chain is marked.
 abbrev pub shape : Shape
 shape = record {
   may = NodeLocks (within 5 14) (within 6 13);
@@ -156,7 +156,7 @@ module _ {sz : Sizes} {ws : List ℕ} {used : ℕ → ℕ} {t : ℕ} {vs : ℕ �
 
   module _ (few : rest size ws l.curr < size) (pred : l.pred < node_count sz) (curr : l.curr < node_count sz)
       (round_few : then_again size l.reply ≤ 2 * size + 7) where
-    -- Holds if row 14 of the step table releases the last lock. The call then ends with the reply r or, if there is no
+    -- Holds if row 14 of the step table releases the last lock. The call then ends with the reply r or, if it has no
     -- reply, starts again.
     abbrev Last : Option Reply → Type 0
     Last r = Stores shape size ws (record l { pc = 14 }) (lock_index l.pred) ws (released r (record l { pc = 14 }))
@@ -170,8 +170,8 @@ module _ {sz : Sizes} {ws : List ℕ} {used : ℕ → ℕ} {t : ℕ} {vs : ℕ �
       | inr z ↦ subst Last (sym z.1) (stops (λ x o m. gave_pred o m))
     ]
 
-    -- After each row of the step table for a `contains` or a `ceiling`, fewer steps of the call remain, as `Loads`
-    -- requires.
+    -- Lemma: after each row of the step table for a `contains` or a `ceiling`, fewer steps of the call remain, as
+    -- `Loads` requires.
     read : (n : ℕ) {f : Fed} → IsReadRow n → Reads (round size) size (node_key ws) ws (record l { pc = n }) f
         → Loads shape size ws (record l { pc = n }) f
     read n {f} row a = reads_then shape size (node_key ws) ws (reads_at size (node_key ws) ws) (record l { pc = n }) f row a
@@ -255,7 +255,7 @@ lazy_calls_end = calls_end lazy lazy_lawful shape lazy_steps shows
 pub lazy_gets_on : SomeThreadGetsOn lazy
 lazy_gets_on = gets_on lazy lazy_lawful shape lazy_steps shows
 
--- Only an `add` or a `remove` holds locks or decides to change the list. The steps of these calls are counted.
+-- Lemmas: only an `add` or a `remove`, whose steps are counted, holds locks or decides to change the list.
 late_counts : (reads : Bool) (c : Call) → (IsRead c → ⊥) → counted reads c ≡ 1
 late_counts reads (Add k) no_read = refl
 late_counts reads (Remove k) no_read = refl

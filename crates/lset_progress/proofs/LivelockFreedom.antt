@@ -1,7 +1,7 @@
--- Proof: a list with locks is free from livelock. Only a call that has decided what to change writes a word other than
--- a lock, and the call then has at most 5 steps left. Between two such writes, each thread takes at most as many steps
--- as a call that runs alone. A potential, computed from these two bounds, decreases with each counted step (each step
--- that is not a failed attempt to take a lock).
+-- Proof that a list with locks is free from livelock. Only a call that has decided what to change writes a word other
+-- than a lock, and the call then has at most 5 steps left. Between two writes to words other than locks, each thread
+-- takes at most as many steps as a call that runs alone. A potential, computed from these two bounds on steps,
+-- decreases with each counted step (each step that is not a failed attempt to take a lock).
 use Rattle.std.specs.Prelude.{◌≡◌, ◌≢◌, ℕ, ◌+◌, ◌*◌, ◌%◌, ◌<◌, ◌≤◌, ◌⊎◌, List, if◌then◌else◌, ◌==◌, nat_lt, true, false, refl}
 use Rattle.std.specs.Prelude.{slice_index, slice_set}
 use Rattle.std.proofs.Common.{arith, inl, inr, sym, ◌∙◌, ap, subst, suc}
@@ -31,9 +31,9 @@ is_lock_test x (inr (i, e)) =
     if_other x 0 (omega arith) true (if nat_lt x 5 then false else if x % 3 == 2 then true else false)
     ∙ if_not_below x 5 (omega arith) false (if x % 3 == 2 then true else false) ∙ if_same (x % 3) 2 (omega arith) true false
 
--- Properties of a list's counted calls, for the proof of livelock freedom. Each call that holds a lock or changes the
--- list is counted. All other calls only read. `calm` is a condition on the words at a step of a counted call, unless
--- the step is a failed attempt to take a lock.
+-- Properties of a list's counted calls, for the proof of freedom from livelock. Each call that holds a lock or changes
+-- the list is counted. All other calls only read. `calm` is a condition on the words at a step of a counted call,
+-- unless the step is a failed attempt to take a lock.
 pub record Counts (T : Table) (S : Shape) (calls : Call → ℕ) : Type 0 where
   pub one_or_none : (c : Call) → (calls c ≡ 0) ⊎ (calls c ≡ 1)
   pub late : (op : Opening) (last k t : ℕ) (es : ℕ → Event) → Run T op es last → k ≤ last → t < op.threads
@@ -50,17 +50,18 @@ pub record Counts (T : Table) (S : Shape) (calls : Call → ℕ) : Type 0 where
 
 module _ (T : Table) (law : Lawful T) (S : Shape) (most : Sizes → ℕ) (shows : Shows T S most) (calls : Call → ℕ)
     (counts : Counts T S calls) where
-  -- Holds if m steps are enough for any whole call. Also holds if the thread has a pending call whose steps are
-  -- counted, and m steps are enough for the rest of this call.
+  -- Holds if m steps are enough for any whole call, or if the thread has a pending call whose steps are counted and m
+  -- steps are enough for the rest of the call.
   abbrev Fits : Sizes → List ℕ → ℕ → Local → Type 0
   Fits sz ws m l = (most sz ≤ m) ⊎ ((l.pc ≢ 0) × (calls l.call ≡ 1) × Timed S (node_count sz) ws m l)
 
   -- Holds if m is at least 5, or if the thread's call has already decided what to change and has at most m steps left.
-  -- After such a decision, a call takes at most 5 steps.
+  -- After its decision, a call takes at most 5 steps.
   abbrev Owes : ℕ → Local → Type 0
   Owes m l = (5 ≤ m) ⊎ LateBy S m l
 
-  -- Returns how many steps a single write can add, at most, to the steps that all threads together still need.
+  -- Returns the maximum number of steps by which a single write can increase the steps that all threads together still
+  -- need.
   abbrev price : Sizes → ℕ
   price sz = sz.threads * most sz
 
@@ -94,8 +95,8 @@ module _ (T : Table) (law : Lawful T) (S : Shape) (most : Sizes → ℕ) (shows 
         (sym (put_other s t u (T.begin c (local_of s t)) y)) (f.times u un, f.owes u un)
   ])
 
-  -- A counted step decreases the potential by at least 1, unless the step ends its call. No other step increases the
-  -- potential.
+  -- Lemmas: a counted step decreases the potential by at least 1, unless the step ends its call. No other step
+  -- increases the potential.
   module _ (op : Opening) (last k : ℕ) (es : ℕ → Event) (r : Run T op es last) (below : k < last) (t : ℕ) (ee : es k ≡ Go t)
       (en : Enabled (state_at T op es k) (Go t)) (p : ℕ) (f : Phase (sizes op) (state_at T op es k) p) where
     abbrev s : State
@@ -386,7 +387,7 @@ module _ (T : Table) (law : Lawful T) (S : Shape) (most : Sizes → ℕ) (shows 
       (λ j p l f. one_event op (k + n) es r j p l f (es j) refl (r.enabled j l)) (none_left op (k + n) es r (some (sizes op)))
       n k (lock_window most (sizes op)) (omega arith) (starts op (k + n) es r k) h
 
--- If no step has a requirement on the shared words (`calm` always holds), the steps of all calls can be counted.
+-- Lemma: if no step has a requirement on the shared words (`calm` always holds), the steps of all calls can be counted.
 pub each_counts : (T : Table) (S : Shape) → ((ws : List ℕ) (l : Local) → S.calm ws l) → Counts T S (λ call. 1)
 each_counts T S calm = record {
   one_or_none = λ call. inr refl;

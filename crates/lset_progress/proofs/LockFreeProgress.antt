@@ -1,5 +1,5 @@
--- Proof of progress for LockFreeList: how each row of its step table changes the number of remaining steps. It follows
--- that a call ends if it runs alone, whatever state the other threads are in.
+-- Proof of progress for LockFreeList: how each row of the step table changes the number of remaining steps. Therefore a
+-- call that runs alone ends, whatever state the other threads are in.
 use Rattle.std.specs.Prelude.{◌≡◌, ◌≢◌, ℕ, ◌+◌, ◌*◌, ◌/◌, ◌%◌, ◌<◌, ◌≤◌, ◌⊎◌, Bool, true, Some, None, List, [], ◌∷◌, refl}
 use Rattle.std.specs.Prelude.{if◌then◌else◌, ◌==◌, nat_lt, slice_index, slice_set}
 use Rattle.std.proofs.Common.{arith, get_or, inl, inr, sym, ◌∙◌, ap, subst, suc}
@@ -41,21 +41,23 @@ use Rattle.lset_progress.proofs.ReadProgress.{from_24, from_25}
 use Rattle.lset_progress.proofs.RowsWithLocks.{Shape, TimedBy, Then, Any, Only, at_row, no_time, again, on, stops}
 use Rattle.lset_progress.proofs.Standing.{Standing, stands}
 
--- Returns the number of steps of an additional walk from the head. If an exchange fails, the call makes such a walk.
+-- Returns the number of steps of an additional walk from the head. A call makes an additional walk if an exchange
+-- fails.
 abbrev pub round : ℕ → ℕ
 round size = 2 * size + 2
 
--- Returns, for each row of the step table, how many steps remain after the next one if all exchanges succeed. The body
--- lists these numbers, starting with row 0.
+-- Returns, for each row of the step table, how many steps remain after the next step if all exchanges succeed. The body
+-- lists the numbers of remaining steps, starting with row 0.
 abbrev pub left : ℕ → (ℕ → ℕ) → Local → ℕ
 left size key l = get_or (0 ∷ (2 * size + 1) ∷ (2 * rest_by size key l.curr + 4) ∷ (2 * rest_by size key l.curr + 3)
     ∷ (2 * rest_by size key l.curr + 3) ∷ 2 ∷ 1 ∷ 0 ∷ 2 ∷ 1 ∷ 0 ∷ []) l.pc (reads_left size key l)
 
--- Holds if, as long as the walk uses pred, pred is not marked and curr is the node after pred. The exchanges of the
--- walk then succeed if no other thread takes a step.
+-- Holds if, as long as the walk uses `pred`, `pred` is not marked and `curr` is the node after `pred`. The walk's
+-- exchanges then succeed if no other thread takes a step.
 pub record Valid (link : ℕ → ℕ) (l : Local) : Type 0 where
   pub follows : 2 ≤ l.pc → l.pc ≤ 7 → link l.pred ≡ 2 * l.curr
-  -- At rows 4 and 9 of the step table, curr is not marked and succ is the next node. At row 8, curr is not marked.
+  -- At rows 4 and 9 of the step table, `curr` is not marked and `succ` is the node after `curr`. At row 8, `curr` is
+  -- not marked.
   pub unmarked : l.pc ≡ 4 → link l.curr ≡ 2 * l.succ
   pub plain : l.pc ≡ 8 → link l.curr % 2 ≡ 0
   pub same : l.pc ≡ 9 → link l.curr ≡ 2 * l.succ
@@ -110,7 +112,7 @@ reads_at size key ws l =
     (λ x m. m, λ z. z, λ z. omega arith, refl, λ v. v.along (omega arith), high_read link _ (λ c d. omega arith), λ c. c)
     l.pc
 
--- Holds if the call ends within n steps when it runs alone. Either the exchanges of its walk will succeed, or n is also
+-- Holds if the call ends within n steps when it runs alone: either the walk's exchanges will succeed, or n is also
 -- enough for one additional walk.
 abbrev pub Timed : ℕ → (ℕ → ℕ) → List ℕ → ℕ → Local → Type 0
 Timed size key ws n l = TimedBy shape size key (node_link ws) n l
@@ -120,7 +122,7 @@ pub record Left (size : ℕ) (key : ℕ → ℕ) (ws : List ℕ) (n : ℕ) (l : 
   pub plain : 23 ≤ l.pc → Plain ws
   pub time : Timed size key ws n l
 
--- Proof by cases: an exchange succeeds or fails.
+-- Lemma: a property holds after an exchange if it holds both when the exchange succeeds and when the exchange fails.
 by_exchange : (P : List ℕ → Fed → Type 0) (ws : List ℕ) (w o v : ℕ) {f g : Fed} → (slice_index ws w ≡ o → P (slice_set ws w v) f)
     → (slice_index ws w ≢ o → P ws g) → P (left_by ws (Exchange w o v)) (if slice_index ws w == o then f else g)
 by_exchange P ws w o v {f} {g} this other = elim (same_or_not (slice_index ws w) o) [
@@ -140,8 +142,8 @@ module _ {sz : Sizes} {ws : List ℕ} {used : ℕ → ℕ} {t : ℕ} {vs : ℕ �
   size = node_count sz
 
   -- Holds if a step with the outcome f ends its call or leaves the call with fewer remaining steps (`Then`). If the
-  -- chain had no marked node during a `ceiling`, this remains true. k is the private state before the step, and ws' are
-  -- the words after it.
+  -- chain had no marked node during a `ceiling`, the chain still has no marked node. k is the private state before the
+  -- step, and ws' are the words after the step.
   abbrev After : Local → List ℕ → Fed → Type 0
   After k ws' f = Then shape size key ws k Any key ws' f
       × (((r : Reply) × (f.answer ≡ Some r)) ⊎ ((23 ≤ k.pc → Plain ws) → 23 ≤ f.local.pc → Plain ws'))
@@ -187,8 +189,8 @@ module _ {sz : Sizes} {ws : List ℕ} {used : ℕ → ℕ} {t : ℕ} {vs : ℕ �
           (v.follows (omega arith) (omega arith))) (omega arith)),
     )
 
-    -- Row 3 of the step table: the exchange unlinks the marked node curr. Then succ, which has a greater key, is the
-    -- node after pred.
+    -- Lemma about row 3 of the step table: the exchange unlinks the marked node `curr`. The node after `pred` is then
+    -- `succ`, which has a greater key.
     from_3 : Spot V (target l.call) l.pred l.curr → node_link ws l.curr ≡ 2 * l.succ + 1 → Row (record l { pc = 3 })
     from_3 x odd =
         let tail : node_link ws 1 ≡ 2 = h.memory.tail_link in
@@ -205,8 +207,8 @@ module _ {sz : Sizes} {ws : List ℕ} {used : ℕ → ℕ} {t : ℕ} {vs : ℕ �
               (λ z. starts_again (λ v. z (v.follows (omega arith) (omega arith)))),
         )
 
-    -- Row 4 of the step table: the step loads the key of the unmarked node curr. The walk continues, or the call
-    -- decides.
+    -- Lemma about row 4 of the step table: the step loads the key of the unmarked node `curr`. The walk continues, or
+    -- the call decides.
     from_4 : (l.curr ≢ 1 → rest_by size key l.succ < rest_by size key l.curr) → Row (record l { pc = 4 })
     from_4 increases = (
       inr (omega arith),
@@ -227,8 +229,8 @@ module _ {sz : Sizes} {ws : List ℕ} {used : ℕ → ℕ} {t : ℕ} {vs : ℕ �
           (λ r. ends)),
     )
 
-    -- Rows 5 to 7 of the step table: an `add` writes its new node, which is not in the chain yet, and then links the
-    -- node.
+    -- Lemmas about rows 5 to 7 of the step table: an `add` writes its new node, which is not in the chain yet, and then
+    -- links the node.
     from_5 : Row (record l { pc = 5 })
     from_5 = (
       inr (omega arith),
@@ -256,7 +258,8 @@ module _ {sz : Sizes} {ws : List ℕ} {used : ℕ → ℕ} {t : ℕ} {vs : ℕ �
           (λ z. ends) (λ z. starts_again (λ v. z (v.follows (omega arith) (omega arith)))),
     )
 
-    -- Rows 8 to 10 of the step table: a `remove` loads the link of its node, marks the node, and unlinks it.
+    -- Lemmas about rows 8 to 10 of the step table: a `remove` loads the link of its node, marks the node, and unlinks
+    -- it.
     from_8 : Row (record l { pc = 8 })
     from_8 = (
       inr (omega arith),
@@ -281,8 +284,8 @@ module _ {sz : Sizes} {ws : List ℕ} {used : ℕ → ℕ} {t : ℕ} {vs : ℕ �
     both : {A B : Type 0} → A → B → A × B
     both a b = (a, b)
 
-    -- After each row of the step table for a `contains` or a `ceiling`, fewer steps of the call remain, as `From`
-    -- requires.
+    -- Lemma: after each row of the step table for a `contains` or a `ceiling`, fewer steps of the call remain, as
+    -- `From` requires.
     read : (n : ℕ) {f : Fed} → IsReadRow n → Reads (round size) size key ws (record l { pc = n }) f → From n ws f
     read n {f} row a = (
       reads_then shape size key ws (reads_at size key ws) (record l { pc = n }) f row a,

@@ -1,5 +1,5 @@
--- Proves what a step of LockFreeList can change in the nodes if it does not end its call. Such a step never links a
--- node: only the step that ends an `add` does.
+-- Proofs about what a step of LockFreeList that does not end its call can change in the nodes. Such a step never links
+-- a node, because an `add` links its node in its last step.
 use Rattle.std.specs.Prelude.{◌≡◌, ◌≢◌, ℕ, ◌<◌, ◌≤◌, ◌⊎◌, Bool, true, false, Option, Some, None, ◌||◌, refl}
 use Rattle.std.proofs.Common.{arith, inl, inr, sym, ◌∙◌, ap, subst, suc}
 use Rattle.lset_words.proofs.Numbers.{same_or_not}
@@ -42,8 +42,8 @@ keeps = discipline_of lock_free (no_locks true) At lock_free_follows
 pub known : (op : Opening) (last k : ℕ) (es : ℕ → Event) → Run lock_free op es last → k ≤ last → Known op k es
 known op last k es r l = inv_at lock_free true At keeps op es last r k l
 
--- The possible changes of the nodes by a step. A step changes nothing, or marks a node (a `remove` then continues at
--- row 10 of the step table), or unlinks a marked node.
+-- The possible changes of the nodes by a step. A step changes nothing, marks a node (a `remove` then continues at row
+-- 10 of the step table), or unlinks a marked node.
 pub data Stepped (v w : View) (l' : Local) : Type 0 where
   still : Quiet v w → Stepped v w l'
   marks : (b k : ℕ) → Marks v w b k → l'.pc ≡ 10 → Stepped v w l'
@@ -57,7 +57,7 @@ keys_on key (unlinks pred curr q) h a p = let p' = q.published_from a p in h a p
 not_both : {done : Bool} → done ≡ true → done ≡ false → ⊥
 not_both y n = let z : true ≡ false = sym y ∙ n in cc
 
--- What is known about a thread's call at each row of the step table. Rows with the same facts are combined.
+-- The known facts about a thread's call at each row of the step table. Rows with the same facts are combined.
 pub data Place (v : View) (done : Bool) (l : Local) : Type 0 where
   idle : l.pc ≡ 0 → Place v done l
   begins : l.pc ≡ 1 → done ≡ false → Place v done l
@@ -97,7 +97,7 @@ remove_at p h = grind arith
 pub ceiling_at_marks : {v : View} {done : Bool} {l : Local} → Place v done l → 23 ≤ l.pc → IsCeiling l.call
 ceiling_at_marks p h = grind arith
 
--- The nodes pred and curr of a walk are published, which means that they have been in the chain at some time.
+-- Lemma: the nodes `pred` and `curr` of a walk are published, which means that they have been in the chain.
 pub walk_at : {v : View} {done : Bool} {l : Local} → Place v done l → 2 ≤ l.pc → l.pc ≤ 10
     → v.published l.pred × v.published l.curr
 walk_at p low high = (grind arith, grind arith)
@@ -113,7 +113,7 @@ after_change : (done : Bool) → (done || true) ≡ true
 after_change true = refl
 after_change false = refl
 
--- Holds if the step ends its call, and the call is an `add` or a `remove`.
+-- Holds if the step ends its call, which is an `add` or a `remove`.
 abbrev Ends : Call → Option Reply → Type 0
 Ends call answer = ((r : Reply) × (answer ≡ Some r)) × IsUpdate call
 

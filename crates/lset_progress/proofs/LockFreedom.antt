@@ -1,7 +1,7 @@
--- Proof: LockFreeList is lock-free. As long as no call ends, no node is added. Therefore each thread marks at most one
+-- Proof that LockFreeList is lock-free. As long as no call ends, no node is added, so each thread marks at most one
 -- node, and each node is unlinked at most once. Between two exchanges that mark or unlink a node, each thread takes at
--- most the steps of its current walk and of one additional walk. A potential, computed from these numbers, decreases
--- with each counted step.
+-- most the steps of its current walk and of one additional walk. A potential, computed from the numbers of exchanges
+-- and steps, decreases with each counted step.
 use Rattle.std.specs.Prelude.{◌≡◌, ◌≢◌, ℕ, ◌+◌, ◌*◌, ◌%◌, ◌<◌, ◌≤◌, ◌⊎◌, Bool, true, List, if◌then◌else◌, ◌==◌, refl}
 use Rattle.std.proofs.Common.{arith, inl, inr, sym, ◌∙◌, ap, subst, suc}
 use Rattle.lset_words.proofs.Numbers.{same_or_not, if_same, if_other}
@@ -34,22 +34,22 @@ use Rattle.lset_progress.proofs.RowsWithLocks.{no_time, timed_more}
 use Rattle.lset_progress.proofs.StepTotals.{total, total_less, total_all, total_at, total_step, one_price, put, put_this, put_that}
 use Rattle.lset_progress.proofs.Windows.{Then, some_ends, counted_or_not}
 
--- Holds if m steps are enough for any whole call. Also holds if the thread has a pending call whose steps are counted,
--- and m steps are enough for the rest of this call. The rest includes one additional walk if other threads have changed
--- the nodes of its walk.
+-- Holds if m steps are enough for any whole call, or if the thread has a pending call whose steps are counted and m
+-- steps are enough for the rest of the call. The rest includes one additional walk if other threads have changed the
+-- nodes of the current walk.
 abbrev Fits : Bool → Sizes → (ℕ → ℕ) → List ℕ → ℕ → Local → Type 0
 Fits reads sz key ws m l = (lock_free_steps sz ≤ m)
     ⊎ ((l.pc ≢ 0) × (counted reads l.call ≡ 1) × Timed (node_count sz) key ws m l)
 
--- Returns how many steps a single successful exchange can add, at most, to the steps that all threads together still
--- need.
+-- Returns the maximum number of steps by which a single successful exchange can increase the steps that all threads
+-- together still need.
 abbrev price : Sizes → ℕ
 price sz = sz.threads * round (node_count sz)
 
 record Phase (reads : Bool) (sz : Sizes) (s : State) (p : ℕ) : Type 0 where
   key : ℕ → ℕ
-  -- For each thread, `time` is a number of steps that is enough for its call (see `Fits`), and `may_mark` is 1 if the
-  -- thread can still mark a node. For each node, `may_leave` is 1 if the node can still be unlinked.
+  -- For each thread, `time` is a number of steps that is enough for the thread's call (see `Fits`), and `may_mark` is 1
+  -- if the thread can still mark a node. For each node, `may_leave` is 1 if the node can still be unlinked.
   time : ℕ → ℕ
   may_mark : ℕ → ℕ
   may_leave : ℕ → ℕ
@@ -69,7 +69,7 @@ update_counts : (reads : Bool) (c : Call) → IsUpdate c → counted reads c ≡
 update_counts reads c (inl x) = subst (λ z. counted reads z ≡ 1) (sym x.1) refl
 update_counts reads c (inr x) = subst (λ z. counted reads z ≡ 1) (sym x.1) refl
 
--- ---- How many steps are enough for a thread after a step of another thread
+-- ---- Lemmas about the number of steps that is enough for a thread after a step of another thread
 module _ (reads : Bool) (sz : Sizes) (s s' : State) (done : Bool) (l : Local) (x : Quiet (view_of sz s) (view_of sz s'))
     (place : Place (view_of sz s) done l) where
   valid_on : (IsCeiling l.call → ⊥) → Valid (node_link s.words) l → Valid (node_link s'.words) l
@@ -150,8 +150,8 @@ module _ (reads : Bool) (op : Opening) (last k : ℕ) (es : ℕ → Event) (r : 
     within = f.within;
   }
 
--- A counted step decreases the potential by at least 1, unless the step ends its call. No other step increases the
--- potential.
+-- Lemmas: a counted step decreases the potential by at least 1, unless the step ends its call. No other step increases
+-- the potential.
 module _ (reads : Bool) (op : Opening) (last k : ℕ) (es : ℕ → Event) (r : Run lock_free op es last) (below : k < last) (t : ℕ)
     (en : Enabled (state_at lock_free op es k) (Go t)) (p : ℕ) (f : Phase reads (sizes op) (state_at lock_free op es k) p) where
   abbrev S : State
@@ -293,8 +293,8 @@ module _ (reads : Bool) (op : Opening) (last k : ℕ) (es : ℕ → Event) (r : 
         markers_then
         (λ a an ia. f.nodes a an (quiet_keeps W V (quiet-ordered V W i.memory.ordered q) (quiet_back V W q) a ia))
 
-    -- A successful exchange makes up for the additional walks that it causes: after it, one thread fewer can mark a
-    -- node, or one node fewer can be unlinked.
+    -- Lemma: a successful exchange makes up for the additional walks that it causes. After the exchange, one thread
+    -- fewer can mark a node, or one node fewer can be unlinked.
     disturbs : (mark leave : ℕ → ℕ) → total leave size + total mark op.threads + 1 ≤ total f.may_leave size + total f.may_mark
         op.threads
         → ((u : ℕ) → u < op.threads → (local_of S' u).pc ≢ 10 → mark u ≡ 1)
@@ -350,8 +350,8 @@ module _ (reads : Bool) (op : Opening) (last k : ℕ) (es : ℕ → Event) (r : 
     ]
   ]
 
--- In a whole run, the potential bounds the number of counted steps until a call ends. A step is counted if it is a
--- step of an `add`, a `remove` or, if `reads` is true, a `contains`.
+-- Lemmas: in a whole run, the potential bounds the number of counted steps until a call ends. A step is counted if it
+-- is a step of an `add`, a `remove`, or, if `reads` is true, a `contains`.
 module _ (reads : Bool) (op : Opening) (last : ℕ) (es : ℕ → Event) (r : Run lock_free op es last) where
   abbrev Event' : ℕ → ℕ → Event → Type 0
   Event' k p e = Then lock_free (steps_of reads) op es (Phase reads (sizes op)) k p e

@@ -1,5 +1,5 @@
--- Proof, for a list that marks nodes while it holds two locks: a thread that has marked a node holds the node's lock
--- until it has unlinked the node. Therefore, if a node of the chain is marked, some thread is about to unlink it.
+-- Proof for a list that marks nodes while it holds two locks: a thread that has marked a node holds the node's lock
+-- until it has unlinked the node. Therefore, if a node of the chain is marked, some thread is about to unlink the node.
 use Rattle.std.specs.Prelude.{◌≡◌, ◌≢◌, ℕ, ◌+◌, ◌*◌, ◌/◌, ◌%◌, ◌<◌, ◌≤◌, Bool, true, false, Option, Some, List, refl}
 use Rattle.std.specs.Prelude.{◌⊎◌, slice_index, slice_set}
 use Rattle.std.proofs.Common.{arith, inl, inr, sym, ◌∙◌, ap, subst, zero, suc}
@@ -30,25 +30,25 @@ use Rattle.lset_progress.proofs.HeadPlain.{the_step, words_are, the_move, the_me
 use Rattle.lset_progress.proofs.Paths.{Path, in_chain_of, path_of}
 use Rattle.lset_progress.proofs.ReadProgress.{Plain}
 
--- Holds if some thread is about to unlink node b: the thread is at row 12 of the step table.
+-- Holds if some thread is about to unlink node b: the thread is at row 12 of the step table, and its `curr` is b.
 pub record TakesOut (threads : ℕ) (locals : ℕ → Local) (b : ℕ) : Type 0 where
   pub by : ℕ
   pub thread : by < threads
   pub row : (locals by).pc ≡ 12
   pub node : (locals by).curr ≡ b
 
--- Holds if, for each marked node of the chain, some thread is about to unlink this node.
+-- Holds if, for each marked node of the chain, some thread is about to unlink the node.
 abbrev pub Marked : ℕ → List ℕ → (ℕ → Local) → Type 0
 Marked threads ws locals = (b : ℕ) → Path (node_link ws) 0 b → node_link ws b % 2 ≡ 1 → TakesOut threads locals b
 
--- Holds if, at row 12 of the step table (just before it unlinks curr), thread t holds the locks of pred and curr, and
--- curr is marked. In addition, a thread at row 23 or later executes a `ceiling`.
+-- Holds if thread t satisfies two conditions. If t is at row 12 of the step table (just before it unlinks `curr`), t
+-- holds the locks of `pred` and `curr`, and `curr` is marked. If t is at row 23 or later, t executes a `ceiling`.
 pub record Stands (v : View) (t : ℕ) (l : Local) : Type 0 where
   pub takes_out : l.pc ≡ 12 → Between v t (target l.call) l.pred l.curr × (v.link l.curr ≡ 2 * l.succ + 1)
   pub ceiling : 23 ≤ l.pc → l.call ≡ Ceiling (key_of l.call)
 
--- What a list must prove about its step table. Row 11 marks curr while the thread holds both locks, row 12 unlinks
--- curr, and only a `ceiling` reaches row 23 or later.
+-- The proof obligations for a list's step table: row 11 marks `curr` while the thread holds both locks, row 12 unlinks
+-- `curr`, and only a `ceiling` reaches row 23 or later.
 pub record Marking (T : Table) (At : Outline) : Type 1 where
   pub lists : T.marks ≡ true
   pub stands : (q t : ℕ) (vs : ℕ → View) (first now : ℕ) (v : View) (done : Bool) (l : Local) → At q t vs first now v done l
@@ -255,7 +255,7 @@ module _ (T : Table) (At : Outline) (follows : Discipline T T.marks At) (rows : 
     | inr odd ↦ absurd (none (marked_at op es last r k l b p odd))
   ]
 
-  -- Holds if thread u, which is about to unlink a node, holds the locks of this node and of the node before it.
+  -- Holds if thread u, which is about to unlink a node, holds the locks of the node and of the node before it.
   abbrev Taking : Opening → ℕ → (ℕ → Event) → ℕ → Type 0
   Taking op k es u = Between (view_of (sizes op) (state_at T op es k)) u (target (local_of (state_at T op es k) u).call)
       (local_of (state_at T op es k) u).pred (local_of (state_at T op es k) u).curr
@@ -282,8 +282,8 @@ module _ (T : Table) (At : Outline) (follows : Discipline T T.marks At) (rows : 
       → ((u : ℕ) → u < op.threads → (local_of (state_at T op es k) u).pc ≢ 12) → Plain (state_at T op es k).words
   plain_then op k es r none b p = plain_unless op k k es r (omega arith) b p (λ x. none x.by x.thread x.row)
 
-  -- A marked node of the chain is locked by the thread that is about to unlink it. Therefore a node of the chain is
-  -- not marked if its lock is free, or held by a thread that is not about to unlink a node.
+  -- Lemma: a marked node of the chain is locked by the thread that is about to unlink it. Therefore a node of the chain
+  -- is not marked if its lock is free, or if its lock is held by a thread that is not about to unlink a node.
   pub unmarked_unless : (op : Opening) (last k t : ℕ) (es : ℕ → Event) → Run T op es last → k ≤ last
       → (local_of (state_at T op es k) t).pc ≢ 12 → (b : ℕ) → Path (node_link (state_at T op es k).words) 0 b
       → (slice_index (state_at T op es k).words (lock_index b) ≡ 0)

@@ -1,5 +1,5 @@
--- Proof of progress for OptimisticList: how each row of its step table changes the number of remaining steps. If a call
--- runs alone, at most its first validation fails.
+-- Proof of progress for OptimisticList: how each row of the step table changes the number of remaining steps. If a call
+-- runs alone, only its first validation can fail.
 use Rattle.std.specs.Prelude.{◌≡◌, ◌≢◌, ℕ, ◌+◌, ◌*◌, ◌/◌, ◌%◌, ◌<◌, ◌≤◌, ◌||◌, Bool, false, Option, Some, None, is_some, List, []}
 use Rattle.std.specs.Prelude.{◌∷◌, refl, slice_index}
 use Rattle.std.proofs.Common.{arith, inl, inr, sym, subst}
@@ -31,8 +31,8 @@ use Rattle.lset_progress.proofs.RowsWithLocks.{Shape, Loads, Stores, RowOf, Node
 use Rattle.lset_progress.proofs.RowsWithLocks.{gave_pred, gave_curr, after_pred, again, goes, on, takes, timed, unlocks, writes}
 use Rattle.lset_progress.proofs.Standing.{Standing, stands}
 
--- Returns the number of steps of an additional walk from the head. A call without a reply makes such a walk after it
--- has released its locks.
+-- Returns the number of steps of an additional walk from the head. A call that has no reply after it has released its
+-- locks makes an additional walk.
 abbrev round : ℕ → ℕ
 round size = 4 * size + 4
 
@@ -44,7 +44,7 @@ again_few : (size : ℕ) (r : Option Reply) → then_again size r ≤ 4 * size +
 again_few size None = omega arith
 again_few size (Some r) = omega arith
 
--- Returns, for each row of the step table, how many steps remain after the next one. The body lists the numbers of
+-- Returns, for each row of the step table, how many steps remain after the next step. The body lists the numbers of
 -- steps for a walk that will pass validation, starting with row 0.
 abbrev left : ℕ → (ℕ → ℕ) → Local → ℕ
 left size key l = slice_index (0 ∷ (4 * size + 3) ∷ (2 * ahead key size (key l.curr) + 2 * size + 6)
@@ -52,9 +52,9 @@ left size key l = slice_index (0 ∷ (4 * size + 3) ∷ (2 * ahead key size (key
     ∷ (2 * ahead key size (key l.node) + 5) ∷ (2 * ahead key size (key l.node) + 6) ∷ 5 ∷ 4 ∷ 3 ∷ 2 ∷ 3 ∷ 2
     ∷ (1 + then_again size l.reply) ∷ (then_again size l.reply) ∷ []) l.pc
 
--- Describes OptimisticList for the proofs of progress that all lists share. A walk is `valid` (validation will
--- succeed) if pred is in the chain, curr is the next node, and the second walk will reach pred. After its decision, a
--- thread that releases its locks has a reply.
+-- Describes OptimisticList for the proofs of progress that all lists share. A walk is `valid` (validation will succeed)
+-- if `pred` is in the chain, `curr` is the node after `pred`, and the second walk will reach `pred`. After its
+-- decision, a thread that releases its locks has a reply.
 abbrev shape : Shape
 shape = record {
   may = NodeLocks (within 5 14) (within 6 15);
@@ -98,7 +98,7 @@ module _ {sz : Sizes} {ws : List ℕ} {used : ℕ → ℕ} {t : ℕ} {vs : ℕ �
 
   module _ (few : rest size ws l.curr < size) (few_node : rest size ws l.node < size) (head : rest size ws 0 < size)
       (pred : l.pred < node_count sz) (curr : l.curr < node_count sz) (round_few : then_again size l.reply ≤ 4 * size + 4) where
-    -- Holds if row 15 of the step table releases the last lock. The call then ends with the reply r or, if there is no
+    -- Holds if row 15 of the step table releases the last lock. The call then ends with the reply r or, if it has no
     -- reply, starts again.
     abbrev Last : Option Reply → Type 0
     Last r = Stores shape size ws (record l { pc = 15 }) (lock_index l.curr) ws

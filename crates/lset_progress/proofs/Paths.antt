@@ -1,10 +1,10 @@
--- Proofs about paths along the links of nodes. A path is defined by the links alone.
+-- Proofs about paths along the links of nodes. A path is defined only by the links.
 use Rattle.std.specs.Prelude.{◌≡◌, ◌≢◌, ℕ, ◌/◌, ◌<◌, ◌≤◌, List, [], ◌∷◌}
 use Rattle.std.proofs.Common.{arith, sym, ap, subst, refl}
 use Rattle.lset_steps.specs.Chain.{View, Segment, InChain, IsOrdered}
 
--- Holds if following the links from node i leads to node j, in as many steps as the list ns has elements, without a
--- step from the tail. Only the length of ns matters.
+-- Holds if following the links from node i leads to node j in as many steps as the list `ns` has elements, without
+-- following the tail's link. Only the length of `ns` matters.
 abbrev pub Leads : (ℕ → ℕ) → ℕ → List ℕ → ℕ → Type 0
 Leads link i [] j = i ≡ j
 Leads link i (a ∷ ns) j = (i ≢ 1) × Leads link (link i / 2) ns j
@@ -39,7 +39,7 @@ leads_up v ord i j (a ∷ ns) m p =
 pub path_up : (v : View) → IsOrdered v → (i j : ℕ) → v.published i → Path v.link i j → v.key i ≤ v.key j
 path_up v ord i j m p = leads_up v ord i j p.0 m p.1
 
--- If links lead from node i to node j, the chain has a segment from i to j.
+-- Lemma: if links lead from node i to node j, the chain has a segment from i to j.
 segment_of : (v : View) (i j : ℕ) (ns : List ℕ) → Leads v.link i ns j → (bs : List ℕ) × Segment v i bs j
 segment_of v i j [] p = ([], p)
 segment_of v i j (a ∷ ns) p = let q = segment_of v (v.link i / 2) j ns p.1 in (i ∷ q.0, (refl, p.0, q.1))

@@ -1,5 +1,5 @@
--- Proof of the laws of progress for a list with locks, from the facts about each row of its step table. A call ends if
--- it runs alone. While a call is pending, some thread can take a step that is not a failed attempt to take a lock.
+-- Proof of the laws of progress for a list with locks, from the facts about each row of the step table. A call that
+-- runs alone ends. While a call is pending, some thread can take a step that is not a failed attempt to take a lock.
 use Rattle.std.specs.Prelude.{◌≡◌, ◌≢◌, ℕ, ◌+◌, ◌<◌, ◌≤◌, ◌⊎◌, List, slice_index, length, Some, refl}
 use Rattle.std.proofs.Common.{arith, inl, inr, sym, ◌∙◌, ap, subst, zero, suc}
 use Rattle.lset_words.proofs.Numbers.{same_or_not}
@@ -38,7 +38,7 @@ abbrev expected : Action → ℕ → ℕ
 expected (Exchange x old new) other = old
 expected a other = other
 
--- Holds unless the action is an attempt to take a lock that is not free.
+-- Holds if the action is not an exchange, or if it is an exchange on a word that is 0 (a free lock).
 abbrev pub IsFree : List ℕ → Action → Type 0
 IsFree ws (Load w) = Unit {0}
 IsFree ws (Store w v) = Unit {0}
@@ -83,7 +83,7 @@ module _ (S : Shape) (T : Table) (sz : Sizes) (ws : List ℕ) (t : ℕ) (l : Loc
   late_or_keeps (Store w v) (inr y) = inr (stay ws w v y.0)
   late_or_keeps (Exchange w from to) row = inr (tried ws w from to row.is_lock)
 
-  -- Holds if the step ends the call, or the call continues with fewer steps remaining.
+  -- Holds if the step ends the call, or leaves the call with fewer remaining steps.
   abbrev Comes : List ℕ → Fed → Type 0
   Comes ws' f = ((r : Reply) × (f.answer ≡ Some r)) ⊎ Goes S size (node_key ws) ws l (node_key ws') ws' f.local
 
@@ -144,7 +144,7 @@ module _ (T : Table) (law : Lawful T) (S : Shape) (most : Sizes → ℕ) (shows 
     free_alone others (Exchange w from to) y = try_succeeds T law S.may may op es last r k upto t others w y.is_lock y.inside
         (λ m. let h : rank (node_count (sizes op)) s.words w < rank (node_count (sizes op)) s.words w = y.last w m in omega arith)
 
-  -- ---- Proof that a call ends if its thread runs alone
+  -- ---- Proof that a call that runs alone ends
   abbrev Stage : Sizes → State → ℕ → ℕ → Type 0
   Stage sz s t n = NoOtherHolds sz s t × IsPending s t × Timed S (node_count sz) s.words n (local_of s t)
 
@@ -168,8 +168,8 @@ module _ (T : Table) (law : Lawful T) (S : Shape) (most : Sizes → ℕ) (shows 
   calls_end op k t es r tn busy others = ends_alone T law Stage nears op t tn (most (sizes op)) k es r
       (others, busy, (shows.rows op k k t es r (omega arith) tn busy).time)
 
-  -- Proof that there is no deadlock: a thread that waits for a lock holds only locks of nodes that are earlier in the
-  -- list.
+  -- Lemmas: there is no deadlock, because a thread that waits for a lock holds only locks of nodes that are earlier in
+  -- the list.
   module _ (calls : Call → ℕ) (op : Opening) (k : ℕ) (es : ℕ → Event) (r : Run T op es k)
       (holds : (u x : ℕ) → u < op.threads → S.may (local_of (state_at T op es k) u) x
       → calls (local_of (state_at T op es k) u).call ≡ 1) where
@@ -218,8 +218,8 @@ module _ (T : Table) (law : Lawful T) (S : Shape) (most : Sizes → ℕ) (shows 
     abbrev SomeMeant : Type 0
     SomeMeant = (u : ℕ) × (u < op.threads) × Meant u × GetsOn T now u
 
-    -- If a thread waits for a lock and the holder of this lock also waits, the holder waits for the lock of a later
-    -- node in the list. By induction, some holder does not wait.
+    -- Lemma: if a thread waits for a lock whose holder also waits, the holder waits for the lock of a later node in the
+    -- list. By induction, some holder does not wait.
     climbs : (n u w : ℕ) → Waits u w → rank_of w < n → SomeMeant
     climbs zero u w y less = absurd (omega arith)
     climbs (suc n) u w y less =

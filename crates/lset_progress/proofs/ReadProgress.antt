@@ -27,8 +27,8 @@ use Rattle.lset_progress.proofs.Standing.{Standing}
 abbrev pub Plain : List ℕ → Type 0
 Plain ws = (b : ℕ) → Path (node_link ws) 0 b → node_link ws b % 2 ≡ 0
 
--- Returns how many steps of a `contains` or a `ceiling` remain after the next one, depending on its row of the step
--- table.
+-- Returns how many steps of a `contains` or a `ceiling` remain after the next step, depending on the call's row of the
+-- step table.
 abbrev pub reads_left : ℕ → (ℕ → ℕ) → Local → ℕ
 reads_left size key l =
     if l.pc == 20 then 2 * ahead key size (key l.curr)
@@ -37,17 +37,18 @@ reads_left size key l =
     else if l.pc == 24 then 2 * ahead key size (key l.curr) + 1
     else 0
 
--- Holds if, at the rows of a `ceiling` in the step table, links lead from the head to curr. Then curr is in the chain.
+-- Holds if, at the rows of a `ceiling` in the step table, links lead from the head to `curr`, so `curr` is in the
+-- chain.
 abbrev pub Along : (ℕ → ℕ) → Local → Type 0
 Along link l = When (nat_lt 22 l.pc) (Path link 0 l.curr)
 
--- Holds if n steps are enough for the rest of a walk in the chain, or for the rest of any walk and one additional
+-- Holds if n steps are enough for the rest of a walk in the chain, or for the rest of any walk plus one additional
 -- walk.
 abbrev pub ReadTimed : ℕ → ℕ → (ℕ → ℕ) → List ℕ → ℕ → Local → Type 0
 ReadTimed round size key ws n l = (Along (node_link ws) l × (reads_left size key l < n)) ⊎ (reads_left size key l + round < n)
 
--- Holds if a step of a `contains` or a `ceiling` leads to another row of these calls in the step table, with fewer
--- steps remaining.
+-- Holds if a step leads from one row of a `contains` or a `ceiling` in the step table to another, with fewer steps
+-- remaining.
 module _ (round size : ℕ) (key : ℕ → ℕ) (ws : List ℕ) where
   pub record ReadGoes (l l' : Local) : Type 0 where
     pub row : IsReadRow l'.pc
@@ -136,8 +137,8 @@ module _ {marks : Bool} {At : Outline} {sz : Sizes} {ws : List ℕ} {used : ℕ 
     ];
   }))
 
--- At the rows of a `contains` or a `ceiling` in the step table, the facts in `Shape` about the list agree with the
--- definitions in this file.
+-- Lemmas: at the rows of a `contains` or a `ceiling` in the step table, the list's facts in `Shape` agree with
+-- `reads_left`, `Along`, and `Plain`.
 module _ (S : Shape) (size : ℕ) (key : ℕ → ℕ) (ws : List ℕ) where
   abbrev pub ReadsAt : Local → Type 0
   ReadsAt l = ((x : ℕ) → S.may l x → ⊥) × (S.late l → ⊥) × (l.pc ≢ 0) × (S.left size key l ≡ reads_left size key l)

@@ -1,4 +1,4 @@
--- Proofs about the number of nodes with greater keys than a given node. Writes to locks do not change this number.
+-- Proofs about the number of nodes with greater keys than a given node. Writes to locks do not change the number.
 use Rattle.std.specs.Prelude.{◌≡◌, ◌≢◌, ℕ, ◌/◌, ◌<◌, Bool, List, slice_index, slice_set}
 use Rattle.std.proofs.Common.{arith, inl, inr, sym, subst, refl}
 use Rattle.lset_words.proofs.Numbers.{same_or_not, if_same, if_other}
@@ -11,7 +11,7 @@ use Rattle.lset_steps.proofs.Memory.{Memory, inside}
 use Rattle.lset_steps.proofs.AfterWrite.{key_after_lock, link_after_lock}
 use Rattle.lset_progress.proofs.Ahead.{ahead, ahead_less, ahead_few}
 
--- Returns how many nodes have a greater key than node a. `key` maps nodes to their keys.
+-- Returns how many nodes have a greater key than node a. `key` maps each node to its key.
 abbrev pub rest_by : ℕ → (ℕ → ℕ) → ℕ → ℕ
 rest_by size key a = ahead key size (key a)
 
@@ -25,7 +25,7 @@ SameKeys key v = (a : ℕ) → v.published a → key a ≡ v.key a
 pub few_by : (size : ℕ) (key : ℕ → ℕ) (a : ℕ) → a < size → rest_by size key a < size
 few_by size key a h = ahead_few key size (key a) a h (omega arith)
 
--- `rest`, the number of nodes with greater keys, decreases along each link.
+-- Lemmas: `rest`, the number of nodes with greater keys, decreases along each link.
 module _ (marks : Bool) (sz : Sizes) (ws : List ℕ) (used : ℕ → ℕ) (m : Memory marks sz ws used) where
   abbrev V : View
   V = view sz ws used
@@ -43,7 +43,7 @@ module _ (marks : Bool) (sz : Sizes) (ws : List ℕ) (used : ℕ → ℕ) (m : M
   pub fewer : (a : ℕ) → V.published a → a ≢ 1 → rest (node_count sz) ws (node_link ws a / 2) < rest (node_count sz) ws a
   fewer a p d = fewer_by (node_key ws) (λ b q. refl) a p d
 
--- Holds if keys and links are the same in the words ws and ws'. A write to a lock changes neither.
+-- Holds if the words ws and ws' have the same keys and links. A write to a lock changes neither keys nor links.
 abbrev pub SameList : List ℕ → List ℕ → Type 0
 SameList ws ws' = (node_key ws' ≡ node_key ws) × (node_link ws' ≡ node_link ws)
 

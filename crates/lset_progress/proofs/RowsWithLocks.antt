@@ -1,5 +1,6 @@
--- What a list with locks must prove about each row of its step table: which locks the thread can hold after the row,
--- and how many steps of its call remain. The laws of progress follow from these facts (see ProgressWithLocks).
+-- The proof obligations for each row of the step table of a list with locks: which locks the thread can hold after the
+-- row, and how many steps of the call remain. `ProgressWithLocks` proves the laws of progress from the proof
+-- obligations.
 use Rattle.std.specs.Prelude.{◌≡◌, ◌≢◌, ℕ, ◌+◌, ◌-◌, ◌/◌, ◌<◌, ◌≤◌, ◌⊎◌, ◌&&◌, nat_le, nat_lt, Bool, true, false, MatchBool}
 use Rattle.std.specs.Prelude.{Some, None, List, slice_index, slice_set}
 use Rattle.std.proofs.Common.{arith, inl, inr, subst, sym, ap, suc, refl}
@@ -27,8 +28,8 @@ When b A = MatchBool b A (Unit {0})
 abbrev pub Only : Bool → Type 0
 Only b = MatchBool b (Unit {0}) ⊥
 
--- Holds if x is a lock that a thread with the private state l can hold. At the rows of the step table that satisfy P,
--- this is the lock of pred. At the rows that satisfy C, this is the lock of curr.
+-- Holds if x is a lock that a thread with the private state l can hold: the lock of `pred` at the rows of the step
+-- table that satisfy P, or the lock of `curr` at the rows that satisfy C.
 abbrev pub NodeLocks : (ℕ → Bool) → (ℕ → Bool) → Local → ℕ → Type 0
 NodeLocks P C l x = ((x ≡ lock_index l.pred) × Only (P l.pc)) ⊎ ((x ≡ lock_index l.curr) × Only (C l.pc))
 
@@ -70,7 +71,7 @@ after_pred size ws curr pred x less (inr c) = absurd c.1
 -- - `late`: the call has decided what to change, and locks no more nodes;
 -- - `calm`: a condition on the shared words for the thread's next step;
 -- - `valid`: the links let the walk succeed;
--- - `left`: how many steps of a successful walk remain after the next one;
+-- - `left`: how many steps of a successful walk remain after the next step;
 -- - `round`: the number of steps of an additional walk.
 pub record Shape : Type 1 where
   pub may : Local → ℕ → Type 0
@@ -88,8 +89,8 @@ abbrev pub Any : ℕ → Type 0
 Any x = Unit {0}
 
 module _ (S : Shape) (size : ℕ) where
-  -- Holds if the call ends within n steps. These steps are enough for the rest of a walk that will succeed, or for the
-  -- rest of any walk and one additional walk.
+  -- Holds if n steps are enough for the call to end: enough for the rest of a walk that will succeed, or for the rest
+  -- of any walk plus one additional walk.
   abbrev pub TimedBy : (ℕ → ℕ) → (ℕ → ℕ) → ℕ → Local → Type 0
   TimedBy key link n l = (S.valid link l × (S.left size key l < n)) ⊎ (S.left size key l + S.round size < n)
 
@@ -110,14 +111,14 @@ module _ (S : Shape) (size : ℕ) where
   no_time key link l (inr h) = omega arith
 
   -- Holds if a step from the private state l to l' does not end its call, but leaves the call with fewer remaining
-  -- steps. If n + 1 further steps were enough before the step, n further steps are enough after it.
+  -- steps: if n + 1 further steps were enough before the step, n further steps are enough after the step.
   pub record Goes (key : ℕ → ℕ) (ws : List ℕ) (l : Local) (key' : ℕ → ℕ) (ws' : List ℕ) (l' : Local) : Type 0 where
     pub busy : l'.pc ≢ 0
     pub late : S.late l → LateBy S (S.left 0 (λ a. 0) l) l'
     pub near : S.calm ws l → (n : ℕ) → TimedBy key (node_link ws) (suc n) l → TimedBy key' (node_link ws') n l'
 
-  -- Holds if a step with the outcome f ends its call or leaves the call with fewer remaining steps (`Goes`). In the new
-  -- private state, `may` still allows the thread each lock in O that it allowed before.
+  -- Holds if a step with the outcome f ends its call or leaves the call with fewer remaining steps (`Goes`), and `may`
+  -- still allows the thread each lock in O that `may` allowed before the step.
   pub record Then (key : ℕ → ℕ) (ws : List ℕ) (l : Local) (O : ℕ → Type 0) (key' : ℕ → ℕ) (ws' : List ℕ) (f : Fed) : Type 0 where
     pub keeps : (x : ℕ) → O x → S.may l x → S.may f.local x
     pub then : ((r : Reply) × (f.answer ≡ Some r)) ⊎ Goes key ws l key' ws' f.local
@@ -129,8 +130,8 @@ module _ (S : Shape) (size : ℕ) where
   Stores ws l w ws' f = Then (node_key ws) ws l (λ x. x ≢ w) (node_key ws') ws' f
 
   module _ (T : Table) (sz : Sizes) (ws : List ℕ) (t : ℕ) (l : Local) where
-    -- Holds if the step is an attempt to take lock w. This lock has a lower rank (number of nodes with greater keys)
-    -- than all locks that the thread can hold. If the attempt fails, the thread repeats it.
+    -- Holds if the step is an attempt to take lock w, whose rank (number of nodes with greater keys) is lower than the
+    -- ranks of all locks that the thread can hold. If the attempt fails, the thread repeats it.
     pub record Tries (w from to : ℕ) : Type 0 where
       pub is_lock : IsLockWord w
       pub inside : w < word_count sz
@@ -142,7 +143,7 @@ module _ (S : Shape) (size : ℕ) where
       pub mine : S.may (T.feed l 0).local w
       pub missed : (seen : ℕ) → seen ≢ 0 → (T.feed l seen).local ≡ l
 
-    -- Holds if the step of a row of the step table is allowed. In particular, the thread writes a word other than a
+    -- Holds if the step made by a row of the step table is allowed. For example, the thread writes a word other than a
     -- lock only after it has decided what to change.
     abbrev pub RowBy : Action → Type 0
     RowBy (Load w) = Loads ws l (T.feed l (slice_index ws w))
@@ -164,7 +165,8 @@ some_row n h = let low : 0 < n = lower_number 0 n (only_true (nat_lt 0 n) h) in 
 module _ {S : Shape} {size : ℕ} {key : ℕ → ℕ} {ws : List ℕ} {l : Local} {O : ℕ → Type 0} {key' : ℕ → ℕ} {ws' : List ℕ}
     {l' : Local}
     (keeps : (x : ℕ) → O x → S.may l x → S.may l' x) where
-  -- A step that leads to another row of the step table satisfies `Then`: it leaves the call with fewer remaining steps.
+  -- Lemma: a step that leads to another row of the step table satisfies `Then`, which says that fewer steps of the call
+  -- remain.
   pub goes : Only (nat_lt 0 l'.pc) → (S.late l → LateBy S (S.left 0 (λ a. 0) l) l')
       → (S.valid (node_link ws) l → S.valid (node_link ws') l') → S.left size key' l' < S.left size key l
       → Then S size key ws l O key' ws' (record { local = l'; answer = None })
@@ -206,8 +208,7 @@ module _ {S : Shape} {size : ℕ} {key : ℕ → ℕ} {ws : List ℕ} {l : Local
 pub unlocks : {A B C : Type 0} → B → C → A ⊎ (B × C)
 unlocks is_lock stores = inr (is_lock, stores)
 
--- What a list must prove about one row of its step table: how many steps remain, and that the row makes an allowed
--- step.
+-- The proof obligations for one row of the step table: how many steps remain, and that the row makes an allowed step.
 pub record RowOf (S : Shape) (size : ℕ) (T : Table) (sz : Sizes) (ws : List ℕ) (t most : ℕ) (l : Local) : Type 0 where
   pub time : Timed S size ws most l
   pub by : RowBy S size T sz ws t l (T.next l)

@@ -1,5 +1,5 @@
--- The facts about a thread with a pending call, at some point of a run. The proofs about the rows of the step table
--- start from these facts.
+-- The facts about a thread with a pending call at some point of a run, for use in the proofs about the rows of the step
+-- table.
 use Rattle.std.specs.Prelude.{◌≡◌, ◌≢◌, ℕ, ◌%◌, ◌<◌, ◌≤◌, Bool, List}
 use Rattle.lset_words.specs.Log.{begun_at, has_changed}
 use Rattle.lset_words.specs.Words.{Sizes, Opening, sizes}

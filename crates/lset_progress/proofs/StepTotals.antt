@@ -55,7 +55,7 @@ one_price (suc c) a b l =
     let y : suc c * b ≡ c * b + b = grind arith in
     omega arith
 
--- Returns the function b, changed to have the value n at u.
+-- Returns the function b with its value at u replaced by n.
 abbrev pub put : (ℕ → ℕ) → ℕ → ℕ → ℕ → ℕ
 put b u n t = if t == u then n else b t
 

@@ -1,6 +1,6 @@
--- Proof by a potential, a bound on the counted steps until a call ends. Suppose that each counted step ends its call or
--- decreases the potential by at least 1, and that no other event increases the potential. Then, among sufficiently many
--- counted steps, at least one ends its call.
+-- Proof by a potential, which is a bound on the number of counted steps until a call ends. If each counted step ends
+-- its call or decreases the potential by at least 1, and no other event increases the potential, then among
+-- sufficiently many counted steps, at least one ends its call.
 use Rattle.std.specs.Prelude.{◌≡◌, ℕ, ◌+◌, ◌<◌, ◌≤◌, ◌⊎◌, Bool, true, false, refl}
 use Rattle.std.proofs.Common.{arith, inl, inr, subst, zero, suc}
 use Rattle.lset_words.specs.declared.Call.{Call}
@@ -32,8 +32,8 @@ ends_later {k = k} {n = n} e = record {
 }
 
 module _ (T : Table) (count : State → Event → ℕ) (op : Opening) (es : ℕ → Event) (Phase : State → ℕ → Type 0) where
-  -- Holds if event e is a counted step that ends its call, or the potential does not increase. In the second case, a
-  -- counted step decreases the potential by at least 1.
+  -- Holds if event e is a counted step that ends its call, if e is a counted step that decreases the potential by at
+  -- least 1, or if e is not a counted step and does not increase the potential.
   abbrev pub Then : ℕ → ℕ → Event → Type 0
   Then k p e = ((t : ℕ) × (e ≡ Go t) × Answers T (state_at T op es k) t × (count (state_at T op es k) e ≡ 1))
       ⊎ ((p' : ℕ) × (p' + count (state_at T op es k) e ≤ p) × Phase (after T (state_at T op es k) e) p')

@@ -1,5 +1,5 @@
--- Proofs about runs that are written out: some events from the opening state, then a loop of events that repeats
--- forever. Properties of such a run can be computed.
+-- Proofs about explicit runs, which consist of some events from the opening state and then a loop of events that
+-- repeats forever. Properties of explicit runs can be computed.
 use Rattle.std.specs.Prelude.{◌≡◌, ℕ, ◌+◌, ◌*◌, ◌<◌, ◌≤◌, ◌==◌, ◌&&◌, nat_lt, not, is_some, Bool, true, false, Some, List}
 use Rattle.std.specs.Prelude.{[], ◌∷◌, length, refl}
 use Rattle.std.proofs.Common.{arith, inl, inr, sym, ◌∙◌, ap, subst, zero, suc}
@@ -18,11 +18,11 @@ both : (a b : Bool) → (a && b) ≡ true → (a ≡ true) × (b ≡ true)
 both true b e = (refl, e)
 both false b e = absurd cc
 
--- The opening state of the runs that are written out: no keys, and two threads with two slots (nodes for adds) each.
+-- The opening state of the explicit runs: no keys, and two threads with two slots each (nodes reserved for adds).
 abbrev pub op : Opening
 op = empty 2 2
 
--- A test of a state and its next event: for example, whether the event is enabled, ends no call, or is counted.
+-- A test of a state and the next event: for example, whether the event is enabled, ends no call, or is counted.
 abbrev pub Test : Type 0
 Test = State → Event → Bool
 
@@ -57,8 +57,8 @@ abbrev pub all_so : Test → Table → State → List Event → Bool
 all_so test T s [] = true
 all_so test T s (e ∷ es) = test s e && all_so test T (after T s e) es
 
--- Returns event number j of a run. The run begins with the events of the third argument, and then repeats the events e
--- and es forever.
+-- Returns event number j of a run that begins with the events of the third argument, and then repeats the events `e`
+-- and `es` forever.
 abbrev pub turn : Event → List Event → List Event → ℕ → Event
 turn e es [] zero = e
 turn e es [] (suc j) = turn e es es j
@@ -87,8 +87,8 @@ module _ (T : Table) (e : Event) (es : List Event) where
   at_first test (x ∷ r) s so zero l = (both (test s x) (all_so test T (after T s x) r) so).0
   at_first test (x ∷ r) s so (suc j) l = at_first test r _ (both (test s x) (all_so test T _ r) so).1 j (omega arith)
 
-  -- If the events that repeat forever lead back to the state before them, and the test succeeds for each of them once,
-  -- then the test always succeeds.
+  -- Lemmas: if the events that repeat forever lead back to the state before them, and the test succeeds once for each
+  -- repeated event, then the test always succeeds.
   module _ (test : Test) (S0 : State) (round_so : all_so test T S0 (e ∷ es) ≡ true) (back : state_after T S0 (e ∷ es) ≡ S0) where
     split : (test S0 e ≡ true) × (all_so test T (after T S0 e) es ≡ true)
     split = both (test S0 e) (all_so test T (after T S0 e) es) round_so
@@ -155,8 +155,8 @@ module _ (T : Table) (events : List Event) (e : Event) (es : List Event) (led : 
     no_reply j r l = replies T (state_at T op run j) (run j) r (subst (λ s. is_silent T s (run j) ≡ true) (sym (is_at j))
         (behind T e es (is_silent T) S0 silent back events (opening op) refl j l))
 
-    -- If each event of the repeated part is a counted step that ends no call, then no number of counted steps is enough
-    -- for a call to end.
+    -- Lemmas: if each event that repeats forever is a counted step that ends no call, then no number of counted steps
+    -- is enough for a call to end.
     module _ (count : State → Event → ℕ) (counts : all_so (is_one count) T S0 (e ∷ es) ≡ true) where
       all_count : (n k : ℕ) → m ≤ k → steps_among count T op run k n ≡ n
       all_count zero k l = refl
@@ -173,8 +173,8 @@ module _ (T : Table) (events : List Event) (e : Event) (es : List Event) (led : 
           let x : SomeEnds count T op run m (most (sizes op)) = law op m (most _) run (runs_on (m + most _)) (omega arith) in
           no_reply x.at x.ends.0 x.from (ap (λ z. (told T (state_at T op run x.at) z).answer) x.own ∙ x.ends.1)
 
-    -- If each thread takes at least one of the steps that repeat forever, the run is fair, and the list is not free
-    -- from deadlock.
+    -- Lemmas: if each thread takes at least one of the steps that repeat forever, the run is fair, and the list is not
+    -- free from deadlock.
     module _ (calls : Call → ℕ) (turns : (t : ℕ) → t < 2 → (d : ℕ) × (turn e es [] d ≡ Go t)) where
       is_fair : IsFair T op run
       is_fair = record {
@@ -195,7 +195,7 @@ module _ (T : Table) (events : List Event) (e : Event) (es : List Event) (led : 
           let y : SomeEnds (moves calls T) T op run m x.0 = x.1 in
           no_reply y.at y.ends.0 y.from (ap (λ z. (told T (state_at T op run y.at) z).answer) y.own ∙ y.ends.1)
 
--- Returns the state after n steps of thread t alone.
+-- Returns the state after n steps by thread t alone.
 abbrev pub alone : Table → ℕ → State → ℕ → State
 alone T t s zero = s
 alone T t s (suc n) = alone T t (after T s (Go t)) n
@@ -204,7 +204,7 @@ abbrev pub silent_alone : Table → ℕ → State → ℕ → Bool
 silent_alone T t s zero = true
 silent_alone T t s (suc n) = is_silent T s (Go t) && silent_alone T t (after T s (Go t)) n
 
--- If steps of thread t alone lead back to the first state and end no call, the call never ends.
+-- Lemmas: if some steps by thread t alone end no call and lead back to the state before them, the call never ends.
 module _ (T : Table) (t : ℕ) (S0 : State) (p : ℕ) (silent : silent_alone T t S0 (suc p) ≡ true)
     (back : alone T t S0 (suc p) ≡ S0) where
   never_by : (r : ℕ) (s : State) → silent_alone T t s r ≡ true → alone T t s r ≡ S0 → (n : ℕ) → EndsAlone T s t n → ⊥

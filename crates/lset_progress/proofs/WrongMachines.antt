@@ -1,4 +1,4 @@
--- Proof: the laws of progress are false for the broken lists. Each proof is a run that is written out.
+-- Proofs that the laws of progress are false for the broken lists. Each proof is an explicit run.
 use Rattle.std.specs.Prelude.{◌≡◌, ℕ, ◌<◌, List, [], ◌∷◌, length, slice_index, refl}
 use Rattle.std.proofs.Common.{arith, inl, inr, sym, ◌∙◌, ap, subst, zero, suc}
 use Rattle.lset_words.specs.declared.Call.TheVariants.{Add, Remove}
@@ -15,8 +15,8 @@ use Rattle.lset_progress.proofs.WrittenRuns.{op, run, is_run, is_after, state_af
 two_values : (n a b : ℕ) → (a ≡ b → ⊥) → n ≡ a → n ≡ b → ⊥
 two_values n a b d e f = d (sym e ∙ f)
 
--- The events before those that repeat forever. Thread 1 marks the node with key 5, and thread 0 is about to unlink this
--- node, but thread 1 unlinks it first. Then thread 0 repeats its attempt forever.
+-- The events before the events that repeat forever. Thread 1 marks the node with key 5. Thread 0 is about to unlink the
+-- node, but thread 1 unlinks it first. Thread 0 then repeats its attempt forever.
 abbrev spins : List Event
 spins = Begin 0 (Add (record { 0 = 5 })) ∷ Go 0 ∷ Go 0 ∷ Go 0 ∷ Go 0 ∷ Go 0 ∷ Go 0 ∷ Begin 1
     (Remove (record { 0 = 5 })) ∷ Go 1 ∷ Go 1
@@ -37,9 +37,9 @@ pub spinning_is_not_lock_free : NotLockFree spinning
 spinning_is_not_lock_free reads most law = rounds_never_end spinning spins (Go 0) [] refl refl refl refl
     (steps_of reads) refl most law
 
--- The events before those that repeat forever. The walk of thread 0 has found the head and the tail, and thread 1 adds
--- 7 between them. The validation of thread 0 fails, and thread 0 keeps the lock of the head. Its next walk leads to the
--- head again, and thread 0 waits forever for the lock of the head.
+-- The events before the events that repeat forever. The walk of thread 0 has found the head and the tail, and thread 1
+-- adds 7 between the head and the tail. The validation of thread 0 fails, and thread 0 keeps the lock of the head. The
+-- next walk of thread 0 leads to the head again, and thread 0 waits forever for the lock of the head.
 abbrev keeps : List Event
 keeps = Begin 0 (Add (record { 0 = 5 })) ∷ Go 0 ∷ Go 0 ∷ Begin 1
     (Add (record { 0 = 7 })) ∷ Go 1 ∷ Go 1 ∷ Go 1 ∷ Go 1 ∷ Go 1 ∷ Go 1

@@ -1,5 +1,5 @@
--- Laws of progress, in Herlihy and Shavit's terms. They state when calls end. They hold after each event of every run,
--- under every schedule.
+-- Laws of progress, in Herlihy and Shavit's terms, which state when calls end. The laws hold after each event of every
+-- run, under every schedule.
 use Rattle.std.specs.Prelude.{◌≡◌, ◌≢◌, ℕ, zero, suc, ◌+◌, ◌*◌, ◌%◌, ◌<◌, ◌≤◌, ◌⊎◌, Bool, true, false, Some, slice_index}
 use Rattle.lset_words.specs.declared.Call.{Call}
 use Rattle.lset_words.specs.declared.Call.TheVariants as call
@@ -30,7 +30,7 @@ NoOtherHolds sz s t = (u x : ℕ) → u < sz.threads → u ≢ t → Holds sz s 
 abbrev pub Answers : Table → State → ℕ → Type 0
 Answers T s t = (reply : Reply) × ((told T s (Go t)).answer ≡ Some reply)
 
--- [Ends alone]: if only thread t takes steps, its call ends within n steps.
+-- [Ends alone]: holds if the call of thread t ends within n steps when only t takes steps.
 abbrev pub EndsAlone : Table → State → ℕ → ℕ → Type 0
 EndsAlone T s t zero = ⊥
 EndsAlone T s t (suc n) = Enabled s (Go t) × (Answers T s t ⊎ EndsAlone T (after T s (Go t)) t n)
@@ -50,15 +50,15 @@ abbrev pub NoMarkInChain : View → Type 0
 NoMarkInChain v = (b : ℕ) → InChain v b → v.link b % 2 ≡ 0
 
 -- [Calls end unhindered]: in a list without locks, a call ends within `most` steps if its thread runs alone, whatever
--- state the other threads are in (obstruction freedom). A `ceiling` starts again at a marked node and does not unlink
--- the node. Therefore the law covers a `ceiling` only if the chain has no marked node.
+-- state the other threads are in (obstruction freedom). For a `ceiling`, which starts again at a marked node and does
+-- not unlink the node, the law requires that the chain has no marked node.
 abbrev pub CallsEndUnhindered : Table → (Sizes → ℕ) → Type 0
 CallsEndUnhindered T most = (op : Opening) (k t : ℕ) (es : ℕ → Event) → Run T op es k → t < op.threads
     → IsPending (state_at T op es k) t
     → (IsCeiling (local_of (state_at T op es k) t).call → NoMarkInChain (views T op es k))
     → EndsAlone T (state_at T op es k) t (most (sizes op))
 
--- [A ceiling that never ends]: at some time in some run, a `ceiling` is pending and all other threads are idle. The
+-- [A ceiling that never ends]: at some moment of some run, a `ceiling` is pending and all other threads are idle. The
 -- `ceiling` does not end, however many steps its thread takes alone.
 pub record SomeCeilingNeverEnds (T : Table) : Type 0 where
   pub opening : Opening
@@ -72,7 +72,7 @@ pub record SomeCeilingNeverEnds (T : Table) : Type 0 where
   pub others_idle : (u : ℕ) → u < opening.threads → u ≢ thread → (local_of (state_at T opening events moment) u).pc ≡ 0
   pub never : (n : ℕ) → EndsAlone T (state_at T opening events moment) thread n → ⊥
 
--- Holds if thread t has a pending call, and the call's next step is not a failed attempt to take a lock.
+-- Holds if thread t has a pending call whose next step is not a failed attempt to take a lock.
 pub record GetsOn (T : Table) (s : State) (t : ℕ) : Type 0 where
   pub enabled : Enabled s (Go t)
   pub tries : (x old new : ℕ) → IsLockWord x → T.next (local_of s t) ≡ Exchange x old new → slice_index s.words x ≡ old
@@ -84,8 +84,8 @@ SomeThreadGetsOn T = (op : Opening) (k t : ℕ) (es : ℕ → Event) → Run T o
     → IsPending (state_at T op es k) t
     → (u : ℕ) × (u < op.threads) × GetsOn T (state_at T op es k) u
 
--- Returns 1 if the steps of this call are counted, else 0. The steps of an `add` or a `remove` are counted. The steps
--- of a `contains` are counted if `reads` is true. The steps of a `ceiling` are not counted.
+-- Returns 1 if the steps of the call are counted, and 0 otherwise. The steps of an `add` or a `remove` are counted. The
+-- steps of a `contains` are counted if `reads` is true. The steps of a `ceiling` are not counted.
 abbrev pub counted : Bool → Call → ℕ
 counted reads (call.Add k) = 1
 counted reads (call.Remove k) = 1
@@ -98,13 +98,13 @@ steps_of reads s (Begin t call) = 0
 steps_of reads s (Go t) = counted reads (local_of s t).call
 
 -- Returns how many of the n events after the first k events are counted steps. `count` returns 1 for a counted step,
--- else 0.
+-- and 0 for any other event.
 abbrev pub steps_among : (State → Event → ℕ) → Table → Opening → (ℕ → Event) → ℕ → ℕ → ℕ
 steps_among count T op es k zero = 0
 steps_among count T op es k (suc n) = count (state_at T op es k) (es k) + steps_among count T op es (suc k) n
 
 -- Holds if one of the n events after the first k events is a counted step that ends its call. `count` returns 1 for a
--- counted step, else 0.
+-- counted step, and 0 for any other event.
 pub record SomeEnds (count : State → Event → ℕ) (T : Table) (op : Opening) (es : ℕ → Event) (k n : ℕ) : Type 0 where
   pub at : ℕ
   pub from : k ≤ at
@@ -115,41 +115,42 @@ pub record SomeEnds (count : State → Event → ℕ) (T : Table) (op : Opening)
   pub ends : Answers T (state_at T op es at) thread
 
 -- Holds if, among any `most` successive counted steps of a run, at least one ends its call. `count` returns 1 for a
--- counted step, else 0.
+-- counted step, and 0 for any other event.
 abbrev pub EndsAmong : (State → Event → ℕ) → Table → (Sizes → ℕ) → Type 0
 EndsAmong count T most = (op : Opening) (k n : ℕ) (es : ℕ → Event) → Run T op es (k + n)
     → most (sizes op) ≤ steps_among count T op es k n → SomeEnds count T op es k n
 
 -- [Lock freedom]: among any `most` successive steps of `add` and `remove`, at least one ends its call, whichever
--- threads take the steps and whatever other events happen in between. The same holds for the steps of `add`, `remove`
--- and `contains`.
+-- threads take the steps and whatever other events happen between the steps. The law also holds for the steps of `add`,
+-- `remove`, and `contains`.
 abbrev pub IsLockFree : Table → (Sizes → ℕ) → Type 0
 IsLockFree T most = (reads : Bool) → EndsAmong (steps_of reads) T most
 
--- Returns an upper bound on the steps of a call that runs alone, for a CoarseList. `node_count` is the number of nodes:
--- the head, the tail, the slots of all threads, and the nodes of the keys at the start.
+-- Returns an upper bound on the number of steps of a call that runs alone, for a CoarseList. `node_count` is the number
+-- of nodes: the head, the tail, the slots (nodes reserved for adds) of all threads, and the nodes of the opening keys.
 abbrev pub coarse_steps : Sizes → ℕ
 coarse_steps sz = 2 * node_count sz + 3
 
--- Returns an upper bound on the steps of a call that runs alone, for a FineList.
+-- Returns an upper bound on the number of steps of a call that runs alone, for a FineList.
 abbrev pub fine_steps : Sizes → ℕ
 fine_steps sz = 4 * node_count sz + 3
 
--- Returns an upper bound on the steps of a call that runs alone, for an OptimisticList.
+-- Returns an upper bound on the number of steps of a call that runs alone, for an OptimisticList.
 abbrev pub optimistic_steps : Sizes → ℕ
 optimistic_steps sz = 8 * node_count sz + 9
 
--- Returns an upper bound on the steps of a call that runs alone, for a LockFreeList.
+-- Returns an upper bound on the number of steps of a call that runs alone, for a LockFreeList.
 abbrev pub lock_free_steps : Sizes → ℕ
 lock_free_steps sz = 4 * node_count sz + 5
 
 -- Returns an upper bound on the number of counted steps until a call of a LockFreeList ends. Each thread takes at most
--- the steps of its pending call and, after each successful exchange that ends no call, of one additional walk. The
--- number of such exchanges is bounded: each thread marks at most one node, and each node is unlinked at most once.
+-- the steps of its pending call and, after each successful exchange that ends no call, the steps of one additional
+-- walk. The number of successful exchanges that end no call is bounded, because each thread marks at most one node, and
+-- each node is unlinked at most once.
 abbrev pub lock_free_window : Sizes → ℕ
 lock_free_window sz =
     sz.threads * (2 * node_count sz + 2) * (node_count sz + sz.threads) + sz.threads * lock_free_steps sz
 
--- Returns an upper bound on the steps of a call that runs alone, for a LazyList.
+-- Returns an upper bound on the number of steps of a call that runs alone, for a LazyList.
 abbrev pub lazy_steps : Sizes → ℕ
 lazy_steps sz = 4 * node_count sz + 15

@@ -1,4 +1,5 @@
--- [Wrong machines]: broken lists. Each has one or two wrong rows in its step table, and breaks a law of progress.
+-- [Wrong machines]: broken lists, each of which has one or two wrong rows in its step table and breaks a law of
+-- progress.
 use Rattle.std.specs.Prelude.{ℕ, ◌+◌, ◌*◌, if◌then◌else◌, ◌==◌, Bool, Option, Some, None}
 use Rattle.lset_words.specs.declared.Call.{Call}
 use Rattle.lset_words.specs.declared.Call.TheVariants as call
@@ -16,8 +17,8 @@ use Rattle.lset_lock_free.specs.LockFree.{lock_free}
 use Rattle.lset_progress.specs.DeadlockFreedom.{IsLivelockFree}
 use Rattle.lset_progress.specs.Progress.{CallsEndAlone, CallsEndUnhindered, EndsAmong, steps_of}
 
--- The next two definitions make up a broken LockFreeList. After a failed exchange at row 3 of the step table, its walk
--- repeats the exchange instead of starting again from the head.
+-- The next two definitions make up `spinning`, a broken LockFreeList. After a failed exchange at row 3 of the step
+-- table, the walk repeats the exchange instead of starting again from the head.
 abbrev pub spins_on : Local → ℕ → Fed
 spins_on l seen = if seen == 2 * l.curr then continued (record l { pc = 2; curr = l.succ }) else continued l
 
@@ -30,9 +31,9 @@ spinning = record {
   effect = lock_free.effect;
 }
 
--- The next four definitions make up a broken LockFreeList. Before an `add` links its new node after pred, it writes its
--- thread's number into the lock word of pred (row 11 of the step table). The `add` continues only if it then reads its
--- own number in this word (row 12). Otherwise it writes the number again.
+-- The next four definitions make up `claiming`, a broken LockFreeList. Before an `add` links its new node after `pred`,
+-- it writes its thread's number into the lock word of `pred` (row 11 of the step table), and then reads the lock word
+-- (row 12). The `add` continues if it reads its own number, and otherwise writes the number again.
 abbrev pub claims_first : Fed → Fed
 claims_first f = record { local = if f.local.pc == 5 then record f.local { pc = 11 } else f.local; answer = f.answer }
 
@@ -58,8 +59,8 @@ claiming = record {
   effect = lock_free.effect;
 }
 
--- The next three definitions make up a broken OptimisticList. If validation fails, a call does not release the lock of
--- pred: it skips row 14 of the step table and continues at row 15.
+-- The next three definitions make up `keeping`, a broken OptimisticList. If validation fails, a call does not release
+-- the lock of `pred`: it skips row 14 of the step table and continues at row 15.
 abbrev pub keeps_pred : Option Reply → Local → Local
 keeps_pred None l = record l { pc = 15 }
 keeps_pred (Some r) l = l
@@ -76,8 +77,8 @@ keeping = record {
   effect = optimistic.effect;
 }
 
--- The next four definitions make up a broken LazyList. Its `remove` locks curr before pred, while its `add` locks pred
--- before curr.
+-- The next four definitions make up `crossed`, a broken LazyList. Its `remove` locks `curr` before `pred`, but its
+-- `add` locks `pred` before `curr`.
 abbrev pub first_lock : Call → Local → ℕ
 first_lock (call.Remove k) l = l.curr
 first_lock c l = l.pred
@@ -101,9 +102,10 @@ crossed = record {
   effect = lazy.effect;
 }
 
--- The next four definitions make up a broken LazyList. Its `remove` locks curr before pred, while its `add` locks pred
--- before curr. Before a thread attempts to take its second lock, it reads whether this lock is free (row 16 of the step
--- table). If the lock is taken, the thread releases its first lock (row 15) and starts again.
+-- The next four definitions make up `yielding`, a broken LazyList. Its `remove` locks `curr` before `pred`, but its
+-- `add` locks `pred` before `curr`. Before a thread attempts to take its second lock, it reads whether the lock is free
+-- (row 16 of the step table). If the second lock is not free, the thread releases its first lock (row 15) and starts
+-- again.
 abbrev pub looks_first : Fed → Fed
 looks_first f = record { local = if f.local.pc == 5 then record f.local { pc = 16 } else f.local; answer = f.answer }
 
@@ -129,20 +131,19 @@ yielding = record {
   effect = lazy.effect;
 }
 
--- Holds if the law `CallsEndAlone` is false for the step table T, whatever number of steps is allowed.
+-- Holds if the law `CallsEndAlone` is false for the step table T, however many steps are allowed.
 abbrev pub NoCallsEndAlone : Table → Type 0
 NoCallsEndAlone T = (most : Sizes → ℕ) → CallsEndAlone T most → ⊥
 
--- Holds if the law `CallsEndUnhindered` is false for the step table T, whatever number of steps is allowed.
+-- Holds if the law `CallsEndUnhindered` is false for the step table T, however many steps are allowed.
 abbrev pub NoCallsEndUnhindered : Table → Type 0
 NoCallsEndUnhindered T = (most : Sizes → ℕ) → CallsEndUnhindered T most → ⊥
 
--- Holds if T is not lock-free, whatever number of steps is allowed, and whether or not the steps of `contains` are
--- counted.
+-- Holds if T is not lock-free, however many steps are allowed, and whether or not the steps of `contains` are counted.
 abbrev pub NotLockFree : Table → Type 0
 NotLockFree T = (reads : Bool) (most : Sizes → ℕ) → EndsAmong (steps_of reads) T most → ⊥
 
--- Holds if T is not free from livelock, whatever number of steps is allowed. Only the steps of calls with `calls` equal
--- to 1 are counted.
+-- Holds if T is not free from livelock, however many steps are allowed. Only the steps of calls with `calls` equal to 1
+-- are counted.
 abbrev pub NotLivelockFree : (Call → ℕ) → Table → Type 0
 NotLivelockFree calls T = (most : Sizes → ℕ) → IsLivelockFree calls T most → ⊥
