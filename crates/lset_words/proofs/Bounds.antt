@@ -1,4 +1,4 @@
--- Proof: a list has at most MOST_NODES nodes, and different slots (the nodes that successful adds use up) are different
+-- Proof that a list has at most MOST_NODES nodes, and that different slots (nodes reserved for adds) are different
 -- nodes.
 use Rattle.std.specs.Prelude.{◌≡◌, ℕ, ◌+◌, ◌*◌, ◌<◌, ◌≤◌}
 use Rattle.std.proofs.Common.{arith, ap}

@@ -1,4 +1,4 @@
--- A thread's last call changes only at log entries of this thread.
+-- Lemmas: a thread's last call changes only at log entries made by the thread.
 use Rattle.std.specs.Prelude.{◌≡◌, ◌≢◌, ℕ, suc}
 use Rattle.lset_words.specs.Log.{Log, Entry, maker, last_after, last_at}
 use Rattle.lset_words.proofs.Numbers.{if_same, if_other}

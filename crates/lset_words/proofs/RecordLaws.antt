@@ -1,4 +1,5 @@
--- Appending two lists of calls to a record, one after the other, has the same result as appending their concatenation.
+-- Lemma: appending two lists of calls to a record, one after the other, has the same result as appending the
+-- concatenation of the two lists.
 use Rattle.std.proofs.Common.{◌≡◌, List, [], ◌∷◌, ◌++◌, refl}
 use Rattle.lset_words.specs.Records.{CallMade, Record, called, with_calls}
 

@@ -1,4 +1,5 @@
--- The effect of a completed call: its reply shows that the call changed its key, or found the key present or absent.
+-- The effect of a completed call: its reply shows that the call changed its key, or that the call found its key present
+-- or absent.
 use Rattle.std.specs.Prelude.{Bool, true, false}
 use Rattle.lset_words.specs.declared.Call.{Call}
 use Rattle.lset_words.specs.declared.Call.TheVariants.{Add, Remove, Contains}
@@ -17,7 +18,7 @@ abbrev pub is_there : Presence → Bool
 is_there Present = true
 is_there Absent = false
 
--- Returns the effect of a call with this reply: the call changed its key, or found the key present or absent. The
+-- Returns the effect of a call with the given reply: the call changed its key, or found its key present or absent. The
 -- effect is `Other` if the reply shows nothing about the key.
 abbrev pub effect_of : Call → Reply → Effect
 effect_of (Add k) True = Changes Present

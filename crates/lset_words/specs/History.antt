@@ -1,5 +1,5 @@
--- Histories of calls, and the definition of a linearization of a history: an order of its calls (Herlihy and Wing).
--- Pending calls can be completed by a reply or left out.
+-- Histories of calls, and the definition of a linearization: an order of the calls of a history (Herlihy and Wing). A
+-- linearization can leave out a pending call, or complete it with a reply.
 use Rattle.std.specs.Prelude.{◌≡◌, ◌≢◌, ℕ, ◌<◌, List, map, length, Some, None, Contains, All, AllPairs, IfSome}
 use Rattle.std.specs.Prelude.{IsSomeAnd, slice_index_or}
 use Rattle.lset_words.specs.declared.Call.TheVariants as call
@@ -12,7 +12,7 @@ use Rattle.lset_words.specs.SequentialSet.{SetState, Answered, IsLegal}
 abbrev pub no_call : CallRecord
 no_call = record { thread = 0; call = call.Contains (record { 0 = 0 }); begun = 0; ended = None }
 
--- Returns the call with this number, counted from 0.
+-- Returns the call with the given number in a history, counted from 0.
 abbrev pub call_numbered : List CallRecord → ℕ → CallRecord
 call_numbered history number = slice_index_or history number no_call
 
@@ -22,9 +22,9 @@ pub record IsCall (threads : ℕ) (x : CallRecord) : Type 0 where
   pub counted : 0 < x.begun
   pub ends_later : IfSome x.ended (λ (e : ℕ × Reply). x.begun < e.0)
 
--- The conditions on a call `x` of a history and an earlier call `y`.
+-- The conditions on a call `x` of a history and a call `y` that comes before `x` in the history.
 pub record Follows (y x : CallRecord) : Type 0 where
-  -- The call that begins first has the smaller number.
+  -- `y` begins before `x`.
   pub increasing : y.begun < x.begun
   -- The two calls begin and end at different moments.
   pub begins_alone : IfSome y.ended (λ (e : ℕ × Reply). e.0 ≢ x.begun)
@@ -46,7 +46,8 @@ pub record IsHistory (threads : ℕ) (calls : List CallRecord) : Type 0 where
 abbrev pub Precedes : CallRecord → CallRecord → Type 0
 Precedes earlier later = IsSomeAnd earlier.ended (λ (e : ℕ × Reply). e.0 < later.begun)
 
--- Returns the call of one element of an order, with the thread that made the call and its reply in the order.
+-- Returns an element of an order as a completed call: the call, the thread that made the call, and the call's reply in
+-- the order.
 abbrev pub answered : List CallRecord → Placed → Answered
 answered history p = record {
   thread = (call_numbered history p.call).thread;
@@ -54,17 +55,17 @@ answered history p = record {
   reply = p.reply;
 }
 
--- Holds if `order` is a linearization of `history`, from the state `start` of the set.
+-- Holds if `order` is a linearization of `history`, when the set starts in state `start`.
 pub record Linearizes (quota : ℕ) (start : SetState) (history : List CallRecord) (order : List Placed) : Type 0 where
   -- The order contains only calls of the history.
   pub known : All (λ (p : Placed). p.call < length history) order
-  -- Each call occurs at most once.
+  -- Each call occurs in the order at most once.
   pub once : AllPairs (λ (p r : Placed). p.call ≢ r.call) order
-  -- Each completed call occurs, with its reply.
+  -- Each completed call occurs in the order, with its reply.
   pub ended : (number : ℕ) (end : ℕ) (reply : Reply) → number < length history
       → (call_numbered history number).ended ≡ Some (end, reply)
       → Contains order (record { call = number; reply = reply })
-  -- If the calls are made in this order, the sequential set returns these replies.
+  -- If the calls are made in the given order, the sequential set returns the replies of the order.
   pub legal : IsLegal quota start (map (answered history) order)
-  -- If a call ends before another call begins, it also precedes the other in the order.
+  -- If a call of the history ends before another call begins, the first call also precedes the second in the order.
   pub in_time : AllPairs (λ (p r : Placed). Precedes (call_numbered history r.call) (call_numbered history p.call) → ⊥) order

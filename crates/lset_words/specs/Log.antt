@@ -21,9 +21,9 @@ pub data Entry : Type 0 where
 abbrev pub Log : Type 0
 Log = ℕ → Entry
 
--- A call of a run. `begun`, `changed` and `ended` are numbers of events: how many events had happened just after the
--- call began, changed the set, and ended. `changed` is `None` until the call changes the set. `ended` is `None` until
--- the call ends.
+-- A call of a run. `begun`, `changed`, and `ended` are moments: how many events had happened just after the call began,
+-- changed the set, and ended. `changed` is `None` until the call changes the set. `ended` is `None` until the call
+-- ends.
 pub record TracedCall : Type 0 where
   pub thread : ℕ
   pub call : Call
@@ -31,7 +31,7 @@ pub record TracedCall : Type 0 where
   pub changed : Option ℕ
   pub ended : Option (ℕ × Reply)
 
--- Returns whether `thread` made this call and the call is pending.
+-- Returns whether the call `x` is pending and was made by `thread`.
 abbrev pub is_under_way : ℕ → TracedCall → Bool
 is_under_way thread x = x.thread == thread && is_none x.ended
 
@@ -43,7 +43,7 @@ abbrev pub ended_by : ℕ → Option Reply → Option (ℕ × Reply)
 ended_by moment None = None
 ended_by moment (Some reply) = Some (moment, reply)
 
--- Returns the call `x` after a step of its thread. `moment` is the number of events up to this step, including it.
+-- Returns the call `x` after a step of its thread. `moment` is the number of events up to and including the step.
 abbrev pub traced_on : ℕ → Option Change → Option Reply → TracedCall → TracedCall
 traced_on moment change reply x = record x { changed = changed_by moment change x.changed; ended = ended_by moment reply }
 
@@ -51,12 +51,13 @@ abbrev pub calls_after : ℕ → Entry → List TracedCall → List TracedCall
 calls_after moment (began t call) xs = xs ++ record { thread = t; call = call; begun = moment; changed = None; ended = None } ∷ []
 calls_after moment (stepped t change reply) xs = map (λ x. if is_under_way t x then traced_on moment change reply x else x) xs
 
--- Returns the calls that begin in the first k events, ordered by start. Each is in its state after these events.
+-- Returns the calls that begin in the first k events, ordered by start. Each call has the state that it is in after
+-- those k events.
 abbrev pub calls_at : Log → ℕ → List TracedCall
 calls_at log zero = []
 calls_at log (suc k) = calls_after (suc k) (log k) (calls_at log k)
 
--- Returns the record of this call in a history. The record leaves out the moment of the change.
+-- Returns the record of the call `x` in a history. The record omits the moment when the call changes the set.
 abbrev pub record_of : TracedCall → CallRecord
 record_of x = record { thread = x.thread; call = x.call; begun = x.begun; ended = x.ended }
 
@@ -68,8 +69,8 @@ abbrev pub is_change : Option Change → Bool
 is_change None = false
 is_change (Some change) = true
 
--- The last call of a thread, pending or completed. `begun` is the number of events up to the call's start, including
--- it. `changed` is true if the call has changed the set. `steps` is the number of its steps.
+-- The last call of a thread, pending or completed. `begun` is the number of events up to and including the call's
+-- start. `changed` is true if the call has changed the set. `steps` is the number of the call's steps.
 pub record LastCall : Type 0 where
   pub call : Call
   pub begun : ℕ
@@ -77,19 +78,19 @@ pub record LastCall : Type 0 where
   pub pending : Bool
   pub steps : ℕ
 
--- Returns the thread that makes the event.
+-- Returns the thread that makes an event.
 abbrev pub maker : Entry → ℕ
 maker (began t call) = t
 maker (stepped t change reply) = t
 
--- Returns the last call of a thread after an entry of the log by this thread. `moment` is the number of entries up to
--- this one, including it.
+-- Returns the last call of a thread after a log entry made by the thread. `moment` is the number of entries up to and
+-- including the new one.
 abbrev pub last_after : ℕ → Entry → LastCall → LastCall
 last_after moment (began t call) x = record { call = call; begun = moment; changed = false; pending = true; steps = 0 }
 last_after moment (stepped t change reply) x =
     record x { changed = x.changed || is_change change; pending = x.pending && is_none reply; steps = x.steps + 1 }
 
--- Returns the last call of thread `t` after the first k events. Before the thread's first call, returns a placeholder
+-- Returns the last call of thread `t` after the first k events. If `t` has not made a call yet, returns a placeholder
 -- that is not pending.
 abbrev pub last_at : Log → ℕ → ℕ → LastCall
 last_at log t zero = record { call = Contains (record { 0 = 0 }); begun = 0; changed = false; pending = false; steps = 0 }

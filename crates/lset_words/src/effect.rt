@@ -15,11 +15,11 @@ pub enum Presence {
 /// The effect of a completed call: the call changed its key, or found the key present or absent.
 #[derive(Clone, Copy, Debug, PartialEq, Eq)]
 pub enum Effect {
-    /// The call added the key (`Present`) or removed it (`Absent`).
+    /// The call added its key (`Present`) or removed its key (`Absent`).
     Changes(Presence),
-    /// The call found the key present or absent, and changed nothing.
+    /// The call found its key present or absent, and changed nothing.
     Sees(Presence),
-    /// The reply shows nothing about the key: the call is a `ceiling`, or no set returns this reply to this call.
+    /// The reply shows nothing about the key: the call is a `ceiling`, or a set never gives the call such a reply.
     Other,
 }
 

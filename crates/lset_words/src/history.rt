@@ -2,8 +2,8 @@
 
 use crate::{Call, Reply};
 
-/// A call of a history (Herlihy and Wing): its thread, the call, the moment when it begins, and the moment when it
-/// ends with its reply. A moment is a logical time, counted from 1. A call without an end is pending.
+/// A call of a history (Herlihy and Wing): its thread, the call, the moment when it begins, and the moment when it ends
+/// with its reply. A moment is a logical time, counted from 1. A call without an end is pending.
 #[derive(Clone, Copy, Debug, PartialEq, Eq)]
 pub struct CallRecord {
     pub thread: u32,
@@ -12,7 +12,8 @@ pub struct CallRecord {
     pub ended: Option<(u32, Reply)>,
 }
 
-/// An element of an order of calls: the call's number in its history, from 0, and the call's reply in this order.
+/// An element of an order of calls: the call's number in its history, counted from 0, and the call's reply in the
+/// order.
 #[derive(Clone, Copy, Debug, PartialEq, Eq)]
 pub struct Placed {
     pub call: u32,
@@ -20,7 +21,7 @@ pub struct Placed {
 }
 
 /// The linearization point of a call: the moment when the call takes effect (the number of events so far), and whether
-/// the call changes the set at this moment.
+/// the call changes the set when it takes effect.
 #[derive(Clone, Copy, Debug, PartialEq, Eq)]
 pub struct Point {
     pub moment: u32,

@@ -7,7 +7,7 @@ pub enum LayoutFault {
     /// The number of threads is 0 or above 64.
     #[error("the number of threads is outside 1 to {MOST_THREADS}")]
     Threads,
-    /// The quota is above 16,384.
+    /// The quota (successful adds that each thread may make) is above 16,384.
     #[error("the quota is above {MOST_QUOTA}")]
     Quota,
     /// There are more than 1,048,576 opening keys.

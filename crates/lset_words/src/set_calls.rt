@@ -5,26 +5,26 @@ ghost use Rattle.lset_words.specs.Records.{Record, called};
 use crate::{Call, Reply};
 use std::sync::Wait;
 
-/// A set that several threads can call. Each thread calls the set through its own seat, a per-thread handle. The
-/// function `session` serves any set that implements this trait.
+/// A set that several threads can call. Each thread calls the set through its own seat (one thread's access to the
+/// set). The function `session` serves any set that implements `SetCalls`.
 pub trait SetCalls {
     type Seat;
 
-    /// Holds if the seat (per-thread handle) belongs to this set.
+    /// Holds if a seat (one thread's access to a set) belongs to the set.
     ghost is_of: { Self → Self.Seat → Type 0 };
 
-    /// Returns the record of a seat (per-thread handle): its calls with their replies.
+    /// Returns the record of a seat (one thread's access to the set): the seat's calls with their replies.
     ghost record_of: { Self.Seat → Record };
 
-    /// Returns the number of seats that this seat (per-thread handle) contains: 1 for itself, and 1 for each seat that
-    /// was merged into it.
+    /// Returns the number of seats that a seat (one thread's access to the set) contains: 1 for itself, and 1 for each
+    /// seat that was merged into it.
     ghost held_by: { Self.Seat → ℕ };
 
-    /// Executes `call` for the thread of `seat`, which must belong to this set, and returns the reply. Appends the call
-    /// with its reply to the seat's record. Nothing else about the seat changes.
+    /// Executes `call` for the thread of `seat` (one thread's access to the set), which must belong to the set, and
+    /// returns the reply. Appends the call with its reply to the record of `seat`. Nothing else about `seat` changes.
     ///
-    /// Can block while another thread holds a lock that the call needs. The sets of this library do not allocate here,
-    /// so `session` does not allocate either.
+    /// Can block while another thread holds a lock that the call needs. The implementations in this library do not
+    /// allocate, so `session` does not allocate either.
     fn make_call<R: Wait>(&self, rt: &R, seat: &mut Self::Seat, call: Call) -> Reply
         requires { is_of self.now seat.old }
         ensures record { record_of seat.new ≡ called (record_of seat.old) (record { call = call; reply = result }) }

@@ -31,17 +31,17 @@ pub fn lock_index(node: u64) -> u64
     5 + 3 * node
 }
 
-/// Returns the number of the node that is slot `slot` of thread `thread`. Each thread has `quota` slots (nodes for its
-/// adds). Accepts all values: if `slot` is not below `quota`, the result is a slot of a later thread, or not a node at
-/// all.
+/// Returns the number of the node that is slot `slot` of thread `thread`. Each thread has `quota` slots (nodes reserved
+/// for its adds). Accepts all values: if `slot` is not below `quota`, the result is a slot of a later thread, or is not
+/// the number of a node.
 pub fn slot_node(quota: u32, thread: u32, slot: u32) -> u64
     ensures { result ≡ slot_node quota thread slot }
 {
     2 + u64::from(thread) * u64::from(quota) + u64::from(slot)
 }
 
-/// The layout of a list's table of words, for 1 to 64 threads with a quota of 0 to 16,384 each, and 0 to 1,048,576
-/// opening keys. Created by `layout` and `layout_opening`.
+/// The layout of a list's table of words, for 1 to 64 threads, each with a quota of 0 to 16,384 successful adds, and 0
+/// to 1,048,576 opening keys. Created by `layout` and `layout_opening`.
 #[derive(Clone, Copy)]
 pub struct Layout {
     threads: u32,
@@ -60,8 +60,8 @@ impl Model for Layout {
 }
 
 impl Layout {
-    /// Returns the layout for these numbers of threads, slots (nodes for adds) per thread, and opening keys. All three
-    /// must be within their limits.
+    /// Returns the layout for `threads` threads with `quota` slots each (nodes reserved for adds), and `opening`
+    /// opening keys. All three arguments must be within their limits.
     pub(crate) fn of(threads: u32, quota: u32, opening: u32) -> Layout
         requires { IsWithin (record { threads = threads; quota = quota; opening = opening }) }
         ensures { result ≡ record { threads = threads; quota = quota; opening = opening } }
@@ -81,7 +81,7 @@ impl Layout {
         self.threads
     }
 
-    /// Returns the quota of each thread, 0 to 16,384.
+    /// Returns the quota of each thread (the number of adds that can succeed), 0 to 16,384.
     pub fn quota(&self) -> u32
         ensures value { result ≡ self.now.quota }
         ensures within { IsWithin self.now }
@@ -97,8 +97,8 @@ impl Layout {
         self.opening
     }
 
-    /// Returns the number of nodes: the head, the tail, one for each slot of each thread (a node for one successful
-    /// add), and one for each opening key.
+    /// Returns the number of nodes: the head, the tail, one node for each slot of each thread (a slot is reserved for
+    /// one add), and one node for each opening key.
     pub fn nodes(&self) -> u64
         ensures count { result ≡ node_count self.now }
         ensures few { result ≤ MOST_NODES }
@@ -148,7 +148,7 @@ impl Layout {
     }
 
     /// Returns the number of the node that is slot `j` of thread `t`: the node that the thread's successful add number
-    /// `j`, from 0, uses up. `j` must be below `quota()`, `t` below `threads()`.
+    /// `j`, counted from 0, uses up. `j` must be below `quota()`, and `t` must be below `threads()`.
     pub fn slot(&self, t: u32, j: u32) -> u64
         requires thread { t < self.now.threads }
         requires slot { j < self.now.quota }
@@ -160,8 +160,8 @@ impl Layout {
     }
 }
 
-/// Lemma: different words of the table have different indices, and different slots (nodes for adds) are different
-/// nodes.
+/// Lemma: different words of the table have different indices, and different slots (nodes reserved for adds) are
+/// different nodes.
 pub fn words_are_apart()
     ensures words { WordsApart }
     ensures slots { SlotsApart }
