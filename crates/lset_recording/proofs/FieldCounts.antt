@@ -1,4 +1,4 @@
--- Proofs about the number of fields in each kind of line. A line with the wrong number of fields is refused.
+-- Proofs about the number of fields in each kind of line. The reader refuses a line with the wrong number of fields.
 use Rattle.std.proofs.Common.{◌≡◌, ℕ, ◌<◌, ◌&&◌, Bool, true, false, cond, List, [], ◌∷◌, length, Result, Err, refl, ap, ◌∙◌, arith, codes}
 use Rattle.std.specs.Str.{bytes_eq}
 use Rattle.std.proofs.lemmas.Bool.{and_right}

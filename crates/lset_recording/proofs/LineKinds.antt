@@ -1,4 +1,5 @@
--- Proof: for each kind of line in a recording, the text of the line and the values in it determine each other.
+-- Proof that, for each kind of line in a recording, the text of the line and the values in the line determine each
+-- other.
 use Rattle.std.proofs.Common.{◌≡◌, subst, ℕ, ◌<◌, ◌≤◌, ◌^◌, Bool, true, false, Result, length, List, [], ◌∷◌, Option, Some, None, Ok, Err, refl, arith, codes, cond}
 use Rattle.std.specs.Prelude.{IfSome, nat_lt}
 use Rattle.std.specs.Fmt.{decimal}
@@ -31,7 +32,7 @@ use Rattle.lset_recording.specs.Texts.{end_pieces, call_pieces, title}
 use Rattle.lset_recording.specs.Reading.{kinds, from_calls, opening_kind, open_kind, true_kind, false_kind, key_kind, end_kind, cut_kind}
 use Rattle.lset_recording.specs.Reading.{Comes, IsFormed, line_told, line_behind_title}
 
--- Returns the fields of the line with this content (for example, a call or a key).
+-- Returns the fields of the line with the given content (for example, a call or a key).
 abbrev pub line_pieces : Line → List (List ℕ)
 line_pieces told.Title = title ∷ []
 line_pieces (told.Opening k) = codes "opening" ∷ decimal k ∷ []
@@ -43,7 +44,7 @@ line_pieces told.Cut = codes "cut" ∷ []
 abbrev pub IsMoment : ℕ → Type 0
 IsMoment m = (1 ≤ m) × (m ≤ LAST_MOMENT)
 
--- Holds if the numbers of a call are in range for a recording, the call is not a `ceiling`, and a completed call
+-- Holds if the numbers of a call are in range for a recording, the call is not a `ceiling`, and the call, if completed,
 -- returned true or false.
 pub record IsNumbered (x : StreamCall) : Type 0 where
   pub thread : x.thread < 2 ^ 32
@@ -60,7 +61,7 @@ IsLine (told.Key k) = k < 2 ^ 32
 IsLine told.End = Unit {0}
 IsLine told.Cut = Unit {0}
 
--- ---- Lemmas about the values in lines
+-- ---- Lemmas about the values in a line
 
 abbrev call_of : ℕ → Call → ℕ → Option (ℕ × Reply) → StreamCall
 call_of n c b e = record { thread = n; call = c; begun = b; ended = e }

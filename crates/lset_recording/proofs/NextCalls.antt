@@ -1,4 +1,5 @@
--- Proof: a call can follow the earlier calls of a history if and only if the judge accepts it after these calls.
+-- Proof that the judge accepts a call after the earlier calls of a history exactly if the call can follow the earlier
+-- calls.
 use Rattle.std.proofs.Common.{◌≡◌, ℕ, ◌+◌, ◌<◌, ◌≤◌, inl, inr, true, Result, Ok, Err, List, [], ◌∷◌, ◌++◌, length, Option, Some, None, sym, ap, subst}
 use Rattle.std.proofs.Common.{arith, length-append}
 use Rattle.std.specs.Prelude.{IfSome, IfOk}
@@ -16,7 +17,7 @@ use Rattle.lset_judge.proofs.OrderAsRead.{comes}
 use Rattle.lset_recording.specs.Texts.{all_threads}
 use Rattle.lset_recording.specs.Kept.{IsLatest, IsJudgeKept}
 
--- ---- If a call can follow the earlier calls in a history, the judge accepts it after these calls
+-- ---- Lemmas: the judge accepts a call that can follow the earlier calls of a history
 
 begun_after : (calls : List CallRecord) (moment : ℕ) → IsLatest calls moment → (x : CallRecord) → MayFollow all_threads calls x → moment < x.begun
 begun_after calls moment (inl none) x follows = let some = follows.call.counted in omega (arith, none, some)
@@ -33,7 +34,7 @@ may_come calls moment pending are latest x before plain follows =
     comes calls moment pending x are (begun_after calls moment latest x follows) follows.call.ends_later before plain
     (λ n low. follows.follows n no_call low)
 
--- ---- Lemmas about the judge of the calls so far
+-- ---- Lemmas about the judge of the calls read so far
 
 pub one_more : (opening : List ℕ) (calls : List CallRecord) (x : CallRecord) (s t : Judge) → IsJudgeKept opening calls (Some s)
     → (x.thread < all_threads → IsJudgeOf all_threads opening calls s → IsJudgeOf all_threads opening (calls ++ x ∷ []) t)

@@ -1,4 +1,4 @@
--- Proofs about reading a number up to the next space, digit by digit.
+-- Proofs about reading a number digit by digit, up to the next space.
 use Rattle.std.proofs.Common.{◌≡◌, ℕ, zero, suc, ◌+◌, ◌-◌, ◌*◌, ◌^◌, ◌<◌, ◌≤◌, true, inl, inr, List, ◌∷◌, ◌++◌, length, min, get_or, take, drop, refl, sym, ap, ◌∙◌, arith, leb, take-append-drop, eq-or-lt_of_le}
 use Rattle.std.specs.Fmt.{decimal}
 use Rattle.std.specs.Char.{is_ascii_digit}
@@ -9,7 +9,7 @@ use Rattle.std.proofs.lemmas.Int.Digits.{digits_value-lt}
 use Rattle.std.proofs.lemmas.List.{take_rest, drop_more, get_or-take, length-take-le}
 use Rattle.lset_text.proofs.NumberLaws.{value_more, digit_more, is_spelled, number_ok}
 
--- Loop invariant: the first `count` bytes of the text are digits, and `value` is the value of these digits.
+-- Loop invariant: the first `count` bytes of `text` are digits, and `value` is the number that they form.
 pub record AreDigits (text : List ℕ) (count value : ℕ) : Type 0 where
   pub few : count ≤ length text
   pub spelled : value ≡ digits_value 10 (take count text)

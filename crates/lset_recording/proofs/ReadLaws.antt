@@ -85,8 +85,8 @@ line_of_piece bytes done line more n at =
 
 -- ---- Lemmas about the bytes read so far
 
--- Holds if the reader has read `bytes`: their complete lines led to the state s, line n is next, and `held` are the
--- bytes of line n read so far.
+-- Holds if the reader has read `bytes`: their complete lines led to the state s, line n is next, and `held` is the part
+-- of line n that has been read so far.
 pub record StandsAt (bytes held : List ℕ) (n : ℕ) (s : SoFar) : Type 0 where
   pub lacks : Lacks 10 held
   pub goes : (more : List ℕ) (read : Result Recording LineFault) → Reads n s (cut_at 10 (held ++ more)) read → Says (bytes ++ more) read
@@ -180,7 +180,7 @@ whole_line bytes line r is lacks short none =
 
 -- ---- Lemmas about the line of a completed call within a piece of the text
 
--- Holds if the line is read as the call x in each section of a recording that allows calls.
+-- Holds if, in each section of a recording that allows calls, the line is read as the call x.
 abbrev pub Tells : List ℕ → StreamCall → Type 0
 Tells line x = (p : Section) → takes_calls p ≡ true → line_told p line ≡ Ok (told.Call x)
 

@@ -1,4 +1,4 @@
--- Proof: if bytes are read as a recording, they are the text of this recording.
+-- Proof that bytes that are read as a recording are the text of that recording.
 use Rattle.std.proofs.Common.{◌≡◌, ℕ, ◌+◌, inl, inr, Bool, true, false, cond, List, [], ◌∷◌, ◌++◌, map, Ok, refl, sym, ap, subst, ◌∙◌}
 use Rattle.std.proofs.Common.{append_assoc, append-nil}
 use Rattle.std.proofs.lemmas.List.{map_push}
@@ -22,7 +22,8 @@ so_far c = title ∷ opening_lines c.opening ++ map call_line c.calls ++ map key
 abbrev lines_at : SoFar → List (List ℕ)
 lines_at s = cond (is_title s.section) [] (cond (is_done s.section) (lines s.told) (so_far s.told))
 
--- Holds if the parts of a recording after this section are still empty, and the recording is not marked as cut off.
+-- Holds if the parts of recording `c` that come after the given section are still empty, and `c` is not marked as cut
+-- off.
 abbrev Reaches : Section → Recording → Type 0
 Reaches part.Title c = (c.opening ≡ []) × (c.calls ≡ []) × (c.keys ≡ []) × (c.cut_off ≡ false)
 Reaches part.Opening c = (c.calls ≡ []) × (c.keys ≡ []) × (c.cut_off ≡ false)
@@ -30,7 +31,7 @@ Reaches part.Calls c = (c.keys ≡ []) × (c.cut_off ≡ false)
 Reaches part.Keys c = c.cut_off ≡ false
 Reaches part.Done c = Unit {0}
 
--- Holds if the parts of the recording so far that must be empty before this line are empty.
+-- Holds if the parts of a recording that must be empty before the given line are empty.
 abbrev Finds : Line → Recording → Type 0
 Finds told.Title c = Reaches part.Title c
 Finds (told.Opening k) c = Reaches part.Opening c
@@ -51,7 +52,7 @@ behind_all o c k y = simp append_assoc refl
 behind_end : (o c k : List (List ℕ)) (y : List ℕ) → o ++ c ++ k ++ y ∷ [] ≡ (o ++ c ++ k) ++ y ∷ []
 behind_end o c k y = simp append_assoc refl
 
--- Returns the lines of the text before the line l.
+-- Returns the lines of the text before line `l`.
 abbrev above : Line → Recording → List (List ℕ)
 above told.Title c = []
 above l c = so_far c

@@ -19,19 +19,19 @@ use Rattle.lset_recording.specs.declared.reader.RecordingReader.{RecordingReader
 use Rattle.lset_recording.specs.Texts.{Recording, IsRecording, all_threads}
 use Rattle.lset_recording.specs.Reading.{SoFar, Reads, Says, first_line, is_done, is_title, IsVerdictOnRecording}
 
--- Holds if `moment` is 0 or the start of one of these calls.
+-- Holds if `moment` is 0 or the start of a call in `calls`.
 abbrev pub IsLatest : List CallRecord → ℕ → Type 0
 IsLatest calls moment = (moment ≡ 0) ⊎ ((x : CallRecord) × Contains calls x × (moment ≡ x.begun))
 
--- Holds if the judge has judged exactly these calls. Its current moment is the start of one of them or 0, and is at
--- least the number of calls. Before the first call, the reader has no judge (None).
+-- Holds if the judge has judged exactly the calls in `calls`, and its current moment is 0 or the start of one of them,
+-- and at least the number of calls. Before the first call, the reader has no judge (`None`).
 abbrev pub IsJudgeKept : List ℕ → List CallRecord → Option Judge → Type 0
 IsJudgeKept opening calls None = calls ≡ []
 IsJudgeKept opening calls (Some j) =
     IsJudgeOf all_threads opening calls j × IsLatest calls (moment_of j.stream) × (length calls ≤ moment_of j.stream)
 
--- Holds if the keys increase strictly. Their number is at most 2^32. It is also at most k, for each key k that can be
--- appended to them.
+-- Holds if the keys increase strictly, there are at most 2^32 of them, and there are at most k of them for each key k
+-- that can be appended.
 pub record AreKeys (keys : List ℕ) : Type 0 where
   pub increase : IsStrictlyIncreasing keys
   pub below : (k : ℕ) → is_above keys k ≡ true → length keys ≤ k
@@ -55,8 +55,7 @@ pub record IsKept (c : Recording) (j : Judging) : Type 0 where
   pub left : AreKeys c.keys
   pub cut_off : j.cut_off ≡ c.cut_off
 
--- Holds if the reader has no judge yet, in the sections before the calls of a recording. In later sections, nothing is
--- required.
+-- Holds if the reader has no judge yet, or is in a section of the recording after the opening keys.
 abbrev pub IsFirst : Section → Option Judge → Type 0
 IsFirst part.Title judge = judge ≡ None
 IsFirst part.Opening judge = judge ≡ None
@@ -64,25 +63,25 @@ IsFirst part.Calls judge = Unit {0}
 IsFirst part.Keys judge = Unit {0}
 IsFirst part.Done judge = Unit {0}
 
--- Holds if the reader's state j is correct after lines that led to the state s. Its section, its recording and its
--- number of the next line must agree with s.
+-- Holds if the reader's state j is correct after lines that led to the state s: the section, the recording, and the
+-- number of the next line agree with s.
 pub record IsJudging (s : SoFar) (j : Judging) : Type 0 where
   pub kept : IsKept s.told j
   pub section : j.section ≡ s.section
   pub first : IsFirst s.section j.judge
   pub number : j.number ≡ first_line + lines_of s
 
--- Holds if the reader has stored all bytes of an incomplete line (false), or the line is too long (true).
+-- Holds if the reader has stored all bytes of an incomplete line (`false`), or if the line is too long (`true`).
 abbrev pub IsHeld : List ℕ → List ℕ → Bool → Type 0
 IsHeld held kept false = held ≡ kept
 IsHeld held kept true = LONGEST_LINE < length held
 
--- Returns the number of newlines among the bytes.
+-- Returns the number of newlines in `bytes`.
 abbrev pub newlines : List ℕ → ℕ
 newlines bytes = count_by (λ (b : ℕ). b == 10) bytes
 
--- Holds if the reader r is in a correct state after these bytes: however the text continues, reading the rest from
--- this state has the same result as reading the whole text.
+-- Holds if the reader r is in a correct state after `bytes`: however the text continues, reading the rest from the
+-- state of r has the same result as reading the whole text.
 pub record IsRead (bytes : List ℕ) (r : RecordingReader) : Type 0 where
   pub told : SoFar
   pub judging : IsJudging told r.judging
@@ -94,7 +93,7 @@ pub record IsRead (bytes : List ℕ) (r : RecordingReader) : Type 0 where
   pub counted : r.judging.number ≡ first_line + newlines bytes
   pub sound : r.failed ≡ None
 
--- Holds if line number `line` ends in `piece`, the next bytes of the text after `bytes`: its newline is in `piece`.
+-- Holds if line number `line` ends in `piece` (its newline is in `piece`), when `piece` follows `bytes` in the text.
 abbrev pub IsLineOf : List ℕ → List ℕ → ℕ → Type 0
 IsLineOf bytes piece line = (first_line + newlines bytes ≤ line) × (line < first_line + newlines (bytes ++ piece))
 
@@ -102,11 +101,11 @@ IsLineOf bytes piece line = (first_line + newlines bytes ≤ line) × (line < fi
 abbrev pub HasFailed : RecordingReader → LineFault → Type 0
 HasFailed r e = r.failed ≡ Some e
 
--- Holds if every text beginning with these bytes has the error e, unless e is a failed allocation.
+-- Holds if every text that begins with `bytes` has the error e, unless e is a failed allocation.
 abbrev pub IsRefusedAt : List ℕ → LineFault → Type 0
 IsRefusedAt bytes e = e.cause ≢ wrong.Memory → (more : List ℕ) → Says (bytes ++ more) (Err e)
 
--- Holds if the reader's answer on the recording c is correct: the verdict, the number of calls, and whether the
+-- Holds if the reader's answer for the recording c is correct: the verdict, the number of calls, and whether the
 -- recording was cut off.
 pub record IsAnswered (c : Recording) (answer : RecordingAnswer) : Type 0 where
   pub recording : IsRecording c

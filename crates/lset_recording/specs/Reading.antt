@@ -1,4 +1,4 @@
--- Defines how the text of a recording is read, line by line. The result is the recording, or the first error.
+-- Defines how the text of a recording is read, line by line. The result is the recording or the first error.
 use Rattle.std.specs.Prelude.{◌≡◌, ℕ, ◌+◌, ◌<◌, ◌^◌, nat_lt, Bool, true, false, List, [], ◌∷◌, ◌++◌, length, codes, Option, Some, None, ◌⊎◌, IfSome}
 use Rattle.std.specs.Prelude.{Result, Ok, Err, if◌then◌else◌}
 use Rattle.std.specs.Str.{bytes_eq}
@@ -39,13 +39,13 @@ opening_kind = (opening_form, λ t. told.Opening t.1.0)
 abbrev pub moment : Piece
 moment = piece.number 1 LAST_MOMENT
 
--- The field `-`. The line of a pending call has this field twice: in place of the moment when the call ends, and in
+-- The field `-`. It appears twice in the line of a pending call: in place of the moment when the call ends, and in
 -- place of the reply.
 abbrev pub none : Piece
 none = piece.word dash
 
--- Returns the call in a line. `t` contains the call's thread, name, key and start. `end` contains the moment when the
--- call ends and the reply, or is None for a pending call.
+-- Returns the call in a line. `t` has the call's thread, name, key, and start. `end` has the moment when the call ends
+-- and the reply, or is `None` for a pending call.
 abbrev pub call_told : {X : Type 0} → ℕ × (CallWord × (ℕ × (ℕ × X))) → Option (ℕ × Reply) → RecordingLine
 call_told t end = told.Call (record {
   thread = t.0;
@@ -54,8 +54,8 @@ call_told t end = told.Call (record {
   ended = end;
 })
 
--- Returns the form (the sequence of fields) of a call's line. `end` is the form of the last fields: the moment when
--- the call ends, and the reply.
+-- Returns the form (the sequence of fields) of a call's line. `end` is the form of the last fields: the moment when the
+-- call ends, and the reply.
 abbrev pub call_form : Form → Form
 call_form end = piece.word (codes "call") ∷ piece.any ∷ piece.call ∷ piece.any ∷ moment ∷ end
 
@@ -79,9 +79,9 @@ end_kind = (piece.word (codes "end") ∷ [], λ t. told.End)
 abbrev pub cut_kind : LineKind RecordingLine
 cut_kind = (piece.word (codes "cut") ∷ [], λ t. told.Cut)
 
--- The kinds of lines that are allowed once the reader has reached the final keys (`from_keys`) or the calls
--- (`from_calls`). The sections of a recording have a fixed order, and each can be empty. A recording that was cut off
--- has no final keys.
+-- The kinds of lines that are allowed when the reader has reached the final keys (`from_keys`) or the calls
+-- (`from_calls`). The sections of a recording have a fixed order, and each section can be empty. A recording that was
+-- cut off has no final keys.
 abbrev pub from_keys : List (LineKind RecordingLine)
 from_keys = key_kind ∷ end_kind ∷ []
 
@@ -91,7 +91,7 @@ call_kinds = open_kind ∷ true_kind ∷ false_kind ∷ []
 abbrev pub from_calls : List (LineKind RecordingLine)
 from_calls = call_kinds ++ cut_kind ∷ from_keys
 
--- Returns the kinds of lines that can be next if the reader is in this section of the recording.
+-- Returns the kinds of lines that can be next when the reader is in the given section of the recording.
 abbrev pub kinds : Section → List (LineKind RecordingLine)
 kinds section.Title = []
 kinds section.Opening = opening_kind ∷ from_calls
@@ -118,11 +118,11 @@ line_behind_title s line = if nat_lt LONGEST_LINE (length line) then Err wrong.L
 abbrev pub line_told : Section → List ℕ → Result RecordingLine Cause
 line_told s line = if is_title s then title_told line else line_behind_title s line
 
--- Returns the cause to report if a line in this section of the recording is too long.
+-- Returns the cause to report if a line in section s of the recording is too long.
 abbrev pub cause_if_long : Section → Cause
 cause_if_long s = if is_title s then wrong.Header else wrong.Line
 
--- ---- How a line extends the recording read so far
+-- ---- Extending the recording by a line
 
 abbrev pub section_after : RecordingLine → Section
 section_after told.Title = section.Opening
@@ -140,7 +140,7 @@ with_line c (told.Key k) = record c { keys = c.keys ++ k ∷ [] }
 with_line c told.End = c
 with_line c told.Cut = record c { cut_off = true }
 
--- The state of reading after some lines: the section that the reader is in, and the recording so far.
+-- The state of the reader after some lines: the section that the reader is in, and the recording so far.
 pub record SoFar : Type 0 where
   pub section : Section
   pub told : Recording
@@ -154,7 +154,7 @@ nothing_told = record {
   told = record { opening = []; calls = []; keys = []; cut_off = false };
 }
 
--- Holds if a line does not contradict the recording so far: with this line, the keys still increase, and the calls are
+-- Holds if a line is consistent with the recording so far: with the line, the keys still increase, and the calls are
 -- still a history, ordered by start.
 abbrev pub GoesOn : Recording → RecordingLine → Type 0
 GoesOn c told.Title = Unit {0}
@@ -164,13 +164,12 @@ GoesOn c (told.Key k) = is_above c.keys k ≡ true
 GoesOn c told.End = Unit {0}
 GoesOn c told.Cut = Unit {0}
 
--- Returns the cause to report if a line contradicts the recording so far.
+-- Returns the cause to report if a line is inconsistent with the recording so far.
 abbrev pub cause_of : RecordingLine → Cause
 cause_of (told.Call x) = wrong.History
 cause_of l = wrong.Opening
 
--- Holds if the numbers in a line are in range. A completed call must also not be a `ceiling`, and must have returned
--- true or false.
+-- Holds if the numbers in a line are in range, and a completed call is not a `ceiling` and returned true or false.
 abbrev pub IsFormed : RecordingLine → Type 0
 IsFormed told.Title = Unit {0}
 IsFormed (told.Opening k) = k < 2 ^ 32
@@ -180,7 +179,7 @@ IsFormed (told.Key k) = k < 2 ^ 32
 IsFormed told.End = Unit {0}
 IsFormed told.Cut = Unit {0}
 
--- Holds if a line of this kind can be next when the reader is in this section of the recording.
+-- Holds if a line of the given kind can be next when the reader is in the given section of the recording.
 abbrev pub Comes : Section → RecordingLine → Type 0
 Comes section.Title told.Title = Unit {0}
 Comes section.Title l = ⊥
@@ -194,18 +193,18 @@ Comes section.Keys told.End = Unit {0}
 Comes section.Keys l = ⊥
 Comes section.Done l = ⊥
 
--- Holds if a reader in state s accepts a line, and is in state t after this line.
+-- Holds if a reader in state s accepts `line`, and is then in state t.
 abbrev pub IsTaken : SoFar → List ℕ → SoFar → Type 0
 IsTaken s line t = (l : RecordingLine) × (line_told s.section line ≡ Ok l) × GoesOn s.told l × (t ≡ with_told s l)
 
--- Holds if a reader in state s refuses a line with this cause.
+-- Holds if a reader in state s refuses `line` with the cause `cause`.
 abbrev pub IsRefused : SoFar → List ℕ → Cause → Type 0
 IsRefused s line cause = (line_told s.section line ≡ Err cause)
     ⊎ ((l : RecordingLine) × (line_told s.section line ≡ Ok l) × (GoesOn s.told l → ⊥) × (cause ≡ cause_of l))
 
 -- ---- Reading whole texts
 
--- Returns whether the text can end in this section: the last line was `end` or `cut`.
+-- Returns whether the text can end in the given section: the last line was `end` or `cut`.
 abbrev pub is_done : Section → Bool
 is_done section.Title = false
 is_done section.Opening = false
@@ -213,20 +212,20 @@ is_done section.Calls = false
 is_done section.Keys = false
 is_done section.Done = true
 
--- Returns the cause to report if the text ends while the reader is in this section of the recording.
+-- Returns the cause to report if the text ends while the reader is in section s of the recording.
 abbrev pub cause_at_end : Section → Cause
 cause_at_end s = if is_title s then wrong.Header else wrong.NotEnded
 
--- Returns the result of reading if the text ends after these lines. The last argument contains the bytes after the
--- last newline; there must be none.
+-- Returns the result of reading if the text ends in state s. The last argument has the bytes after the last newline,
+-- which must be empty.
 abbrev pub ending : ℕ → SoFar → List ℕ → Result Recording LineFault
 ending line s [] = if is_done s.section then Ok s.told else Err (fault line (cause_at_end s.section))
 ending line s (b ∷ bs) = Err (fault line wrong.NotEnded)
 
--- Holds if reading the rest of a text has the result `read`. The rest is a list: its complete lines and, as the last
--- item, the bytes after the last newline. `line` is the number of the first line in the list, and `s` is the reader's
--- state before this line. Either the reader accepts every line, or `read` is the error of the first line that it
--- refuses.
+-- Holds if `read` is the result of reading the rest of a text: the reader accepts every line, or `read` is the error of
+-- the first line that the reader refuses. The rest is a list of the complete lines and, as the last item, the bytes
+-- after the last newline. `line` is the number of the first line in the list, and `s` is the reader's state before the
+-- first line.
 abbrev pub Reads : ℕ → SoFar → List (List ℕ) → Result Recording LineFault → Type 0
 Reads line s [] read = ⊥
 Reads line s (rest ∷ []) read = read ≡ ending line s rest
@@ -238,16 +237,17 @@ Reads line s (x ∷ y ∷ more) read =
 abbrev pub first_line : ℕ
 first_line = 1
 
--- Holds if reading these bytes as a recording has the result `read`: the recording, or the first error.
+-- Holds if `read` is the result of reading `bytes` as a recording: the recording or the first error.
 abbrev pub Says : List ℕ → Result Recording LineFault → Type 0
 Says bytes read = Reads first_line nothing_told (cut_at 10 bytes) read
 
--- If bytes are read as a recording, they are the text of this recording. Therefore each recording has only one text.
+-- Holds if bytes that are read as a recording are always the text of that recording. Therefore each recording has only
+-- one text.
 abbrev pub RecordingsAreRead : Type 0
 RecordingsAreRead = (bytes : List ℕ) (c : Recording) → Says bytes (Ok c) → bytes ≡ recording_text c
 
--- Holds if the verdict is correct. The flag is true if the recording was cut off and its final keys are therefore
--- unknown.
+-- Holds if the verdict is correct. The first argument is true if the recording was cut off and its final keys are
+-- therefore unknown.
 abbrev pub IsVerdictIf : Bool → Recording → Verdict → Type 0
 IsVerdictIf true c verdict = IsVerdictCutOff all_threads c.opening c.calls verdict
 IsVerdictIf false c verdict = IsVerdict all_threads c.opening c.calls c.keys verdict
@@ -256,7 +256,7 @@ IsVerdictIf false c verdict = IsVerdict all_threads c.opening c.calls c.keys ver
 abbrev pub IsVerdictOnRecording : Recording → Verdict → Type 0
 IsVerdictOnRecording c verdict = IsVerdictIf c.cut_off c verdict
 
--- ---- Tests of the lines that a section of a recording allows
+-- ---- Tests of what a section of a recording allows
 
 abbrev pub takes_opening : Section → Bool
 takes_opening section.Title = false
@@ -272,7 +272,7 @@ takes_calls section.Calls = true
 takes_calls section.Keys = false
 takes_calls section.Done = false
 
--- Returns whether a reader in this section of the recording accepts a final key or the line `end` next.
+-- Returns whether a reader in the given section of the recording accepts a final key or the line `end` next.
 abbrev pub takes_keys : Section → Bool
 takes_keys section.Title = false
 takes_keys section.Opening = true

@@ -14,20 +14,20 @@ use Rattle.lset_judge.specs.Verdict.{IsPlain}
 use Rattle.lset_judge.specs.Stream.{IsBefore}
 
 pub record Recording : Type 0 where
-  -- `opening` are the keys of the set when it was opened, `calls` the calls, and `keys` the keys of the set after all
-  -- calls.
+  -- `opening` has the keys of the set when it was opened, `calls` has the calls, and `keys` has the keys of the set
+  -- after all calls.
   pub opening : List ℕ
   pub calls : List CallRecord
   pub keys : List ℕ
-  -- True if the recording was cut off. Its final keys are then unknown.
+  -- True if the recording was cut off and its final keys are therefore unknown.
   pub cut_off : Bool
 
--- The number of possible threads. A thread is any number below 2^32.
+-- The number of possible threads. Threads are numbered from 0, and every number below 2^32 is a thread.
 abbrev pub all_threads : ℕ
 all_threads = 2 ^ 32
 
--- Holds if c is a valid recording. Its opening keys and its final keys increase strictly. Its calls are a history with
--- moments below 2^63. No completed call is a `ceiling`, and each completed call returned true or false.
+-- Holds if c is a valid recording: its opening keys and its final keys increase strictly, its calls are a history with
+-- moments below 2^63, and each completed call is an `add`, `remove`, or `contains` that returned true or false.
 pub record IsRecording (c : Recording) : Type 0 where
   pub opening : IsStrictlyIncreasing c.opening
   pub calls : IsHistory all_threads c.calls
@@ -41,7 +41,7 @@ pub record IsRecording (c : Recording) : Type 0 where
 abbrev pub title : List ℕ
 title = codes "listset-calls 1"
 
--- The field `-`. The line of a pending call has this field twice: in place of the moment when the call ends, and in
+-- The field `-`. It appears twice in the line of a pending call: in place of the moment when the call ends, and in
 -- place of the reply.
 abbrev pub dash : List ℕ
 dash = codes "-"
@@ -61,7 +61,7 @@ call_line x = line_of (call_pieces x)
 abbrev pub key_line : ℕ → List ℕ
 key_line key = number_line (codes "key") key
 
--- Returns the last line of the text: `cut` if the recording was cut off, else `end`.
+-- Returns the last line of the text: `cut` if the recording was cut off, and `end` otherwise.
 abbrev pub end_line : Bool → List ℕ
 end_line cut_off = if cut_off then codes "cut" else codes "end"
 

@@ -13,7 +13,7 @@ pub(crate) struct Judging {
     // The judge of the calls, or `None` before the first call.
     pub(crate) judge: Option<Judge>,
     pub(crate) calls: u64,
-    // The calls that `take_calls` returns next, or `None` if it has never been called.
+    // The calls that the next `take_calls` returns, or `None` if `take_calls` has never been called.
     pub(crate) untaken: Option<Vec<StreamCall>>,
     pub(crate) keys: Vec<u32>,
     pub(crate) cut_off: bool,

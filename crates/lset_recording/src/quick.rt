@@ -1,5 +1,6 @@
 //! A fast path for the lines of completed calls (most lines of a long recording). Each function reads a line in one
-//! pass. For any other line, valid or not, it returns `None`, and the caller reads the line in the general way.
+//! pass, or returns `None` if the line does not contain a completed call. The caller then reads the line without the
+//! fast path.
 
 ghost use Rattle.std.specs.Prelude.{◌≡◌, ◌≤◌, ◌++◌, ◌∷◌, IfSome, List, ℕ, Ok, true, codes};
 ghost use Rattle.std.specs.Fmt.{decimal};
@@ -18,7 +19,7 @@ use lset_words::{Key, Reply};
 /// The maximum number of digits that `digits_before` reads. A number of 19 digits is below 2^64.
 const MOST_DIGITS: usize = 19;
 
-/// Returns the number at the start of a text, and the bytes after the next space. Returns `None` if the text does not
+/// Returns the number at the start of `text`, and the bytes after the next space. Returns `None` if `text` does not
 /// start with a number and a space.
 #[inline(always)]
 fn digits_before(text: &[u8]) -> Option<(u64, &[u8])>
@@ -34,16 +35,16 @@ fn digits_before(text: &[u8]) -> Option<(u64, &[u8])>
     if i == text.len() || text[i] != b' ' {
         return None;
     }
-    // The digits before the space are not a valid number if there are none, or if a number other than 0 begins with 0.
-    // (The code of a space is below the code of the digit 0.)
+    // The digits before the space are not a valid number if there are no digits, or if a number other than 0 begins
+    // with 0. (The code of a space is less than the code of the digit 0.)
     if text[0] <= b'0' && i != 1 {
         return None;
     }
     Some((value, &text[i + 1..]))
 }
 
-/// Returns the thread or key at the start of a text, and the bytes after the next space. Returns `None` if the text
-/// does not start with a number below 2^32 and a space.
+/// Returns the thread or key at the start of `text`, and the bytes after the next space. Returns `None` if `text` does
+/// not start with a number below 2^32 and a space.
 #[inline(always)]
 fn number_before(text: &[u8]) -> Option<(u32, &[u8])>
     ensures { IfSome result (λ p. (text.now ≡ decimal p.0 ++ 32 ∷ p.1.now) × (p.0 ≤ max_number)) }
@@ -55,8 +56,8 @@ fn number_before(text: &[u8]) -> Option<(u32, &[u8])>
     Some((value as u32, rest))
 }
 
-/// Returns the moment (a number that dates a start or an end) at the start of a text, and the bytes after the next
-/// space. Returns `None` if the text does not start with a moment and a space.
+/// Returns the moment (the number that dates a start or an end of a call) at the start of `text`, and the bytes after
+/// the next space. Returns `None` if `text` does not start with a moment and a space.
 #[inline(always)]
 fn moment_before(text: &[u8]) -> Option<(u64, &[u8])>
     ensures { IfSome result (λ p. (text.now ≡ decimal p.0 ++ 32 ∷ p.1.now) × (1 ≤ p.0) × (p.0 ≤ LAST_MOMENT)) }
@@ -68,8 +69,8 @@ fn moment_before(text: &[u8]) -> Option<(u64, &[u8])>
     Some((value, rest))
 }
 
-/// Returns the name of a call at the start of a text, and the bytes after the next space. Returns `None` if the text
-/// does not start with a name of a call and a space.
+/// Returns the name of a call at the start of `text`, and the bytes after the next space. Returns `None` if `text` does
+/// not start with the name of a call and a space.
 #[inline(always)]
 fn word_before(text: &[u8]) -> Option<(CallWord, &[u8])>
     ensures { IfSome result (λ p. (text.now ≡ call_word_text p.0 ++ 32 ∷ p.1.now) × HasWord One p.0) }
@@ -93,8 +94,8 @@ fn word_before(text: &[u8]) -> Option<(CallWord, &[u8])>
     }
 }
 
-/// Returns the reply `true` or `false` at the start of a text, and the bytes after the reply. Returns `None` for any
-/// other text.
+/// Returns the reply `true` or `false` at the start of `text`, and the bytes after the reply. Returns `None` if `text`
+/// starts with neither.
 fn reply_before(text: &[u8]) -> Option<(Reply, &[u8])>
     ensures { IfSome result (λ p. (text.now ≡ reply_text p.0 ++ p.1.now) × (is_truth p.0 ≡ true)) }
 {
@@ -105,7 +106,7 @@ fn reply_before(text: &[u8]) -> Option<(Reply, &[u8])>
     }
 }
 
-/// Returns the bytes after `call ` if the line starts with these bytes. Otherwise returns `None`.
+/// Returns the bytes after `call ` if `line` starts with `call `, and `None` otherwise.
 fn behind_call(line: &[u8]) -> Option<&[u8]>
     ensures { IfSome result (λ rest. line.now ≡ codes "call " ++ rest.now) }
 {
@@ -115,9 +116,9 @@ fn behind_call(line: &[u8]) -> Option<&[u8]>
     }
 }
 
-/// Reads a completed call from the start of a text. Returns the call and the bytes after its reply. Returns `None` for
-/// any other text; the text can still be valid, and must then be read in the general way. The reader must be in a
-/// section of the recording that allows calls.
+/// Reads a completed call from the start of `text`. Returns the call and the bytes after its reply. Returns `None` if
+/// `text` does not start with a completed call; `text` can still be valid, and must then be read without the fast path.
+/// The reader must be in a section of the recording that allows calls.
 #[inline(always)]
 pub(crate) fn quick_call(text: &[u8]) -> Option<(StreamCall, &[u8])>
     ensures { IfSome result (λ p. (line : List ℕ) × (text.now ≡ line ++ p.1.now)
@@ -139,9 +140,9 @@ pub(crate) fn quick_call(text: &[u8]) -> Option<(StreamCall, &[u8])>
     Some((call, rest))
 }
 
-/// Reads the line of a completed call from the start of a text. Returns the call and the bytes after the newline.
-/// Returns `None` for any other text; the text can still be valid, and must then be read in the general way. The
-/// reader must be in a section of the recording that allows calls.
+/// Reads the line of a completed call from the start of `text`. Returns the call and the bytes after the newline.
+/// Returns `None` if `text` does not start with the line of a completed call; `text` can still be valid, and must then
+/// be read without the fast path. The reader must be in a section of the recording that allows calls.
 pub(crate) fn quick_line(text: &[u8]) -> Option<(StreamCall, &[u8])>
     ensures { IfSome result (λ p. (line : List ℕ) × (text.now ≡ line ++ 10 ∷ p.1.now)
         × ((section : Section) → takes_calls section ≡ true → line_told section line ≡ Ok (Call p.0))) }

@@ -15,7 +15,8 @@ use lset_text::{Cause, LineFault};
 use memchr::memchr;
 use std::alloc::Global;
 
-/// Returns the bytes before the first newline and the bytes after it. Returns `None` if there is no newline.
+/// Returns the bytes before the first newline and the bytes after the first newline. Returns `None` if there is no
+/// newline.
 fn next_line(bytes: &[u8]) -> Option<(&[u8], &[u8])>
     ensures { MatchOption result (Lacks 10 bytes.now) (λ p. (bytes.now ≡ p.0.now ++ 10 ∷ p.1.now) × Lacks 10 p.0.now) }
 {
@@ -23,24 +24,25 @@ fn next_line(bytes: &[u8]) -> Option<(&[u8], &[u8])>
     Some((&bytes[..at], &bytes[at + 1..]))
 }
 
-/// Reads a recording and judges its calls. The caller passes the text in pieces of any length; each call is judged as
+/// Reads a recording and judges its calls. The caller passes the text in pieces of any length. Each call is judged as
 /// soon as its line is complete. A reader stores the keys, the pending calls, at most one completed call on each key,
-/// and at most `LONGEST_LINE` bytes of an incomplete line. Its memory grows with the numbers of keys, threads and
-/// pending calls, but not with the number of calls. The first line of a recording is `listset-calls 1`. (The format is
-/// this project's own.)
+/// and at most `LONGEST_LINE` bytes of an incomplete line. Its memory grows with the numbers of keys, threads, and
+/// pending calls, but not with the number of completed calls. The first line of a recording is `listset-calls 1`. (The
+/// format is this project's own.)
 #[derive(Drop)]
 pub struct RecordingReader {
     judging: Judging,
     line: ArrayVec<u8, LONGEST_LINE>,
-    // Whether the incomplete line is longer than `LONGEST_LINE` bytes. `line` then does not have all its bytes.
+    // Whether the incomplete line is longer than `LONGEST_LINE` bytes. If true, `line` does not contain all bytes of
+    // the incomplete line.
     is_long: bool,
     // The error that `feed` has returned, if any.
     failed: Option<LineFault>,
 }
 
 impl RecordingReader {
-    /// Returns a reader that has not read anything yet. Does not allocate. Later calls of its functions allocate with
-    /// `alloc`.
+    /// Returns a reader that has not read anything yet. Does not allocate. Later calls to the reader's functions
+    /// allocate with `alloc`.
     pub fn new(alloc: Global) -> RecordingReader
         ensures { IsRead [] result }
     {
@@ -58,14 +60,14 @@ impl RecordingReader {
         LineFault::at(self.judging.number(), cause)
     }
 
-    /// Returns whether the reader has stored no bytes of an incomplete line: it is at the start of a line.
+    /// Returns whether the reader is at the start of a line, with no stored bytes of an incomplete line.
     fn holds_none(&self) -> bool
         ensures { IsTrue result → (self.now.line.items ≡ []) × (self.now.is_long ≡ false) }
     {
         !self.is_long && self.line.as_slice().is_empty()
     }
 
-    /// Stores bytes of a line that has no newline yet. If the line is too long, only sets `is_long`.
+    /// Stores the bytes of a line that has no newline yet. If the line is too long, only sets `is_long`.
     fn hold(&mut self, bytes: &[u8])
         requires { Lacks 10 bytes.now }
         ensures read { (before : List ℕ) → IsRead before self.old → IsRead (before ++ bytes.now) self.new }
@@ -96,7 +98,7 @@ impl RecordingReader {
     }
 
     /// Reads a complete line, without its newline and without copying it. The reader must not have stored any bytes of
-    /// this line.
+    /// the line before.
     fn whole_line_in(&mut self, line: &[u8]) -> Result<(), LineFault>
         requires lacks { Lacks 10 line.now }
         requires none { self.old.line.items ≡ [] }
@@ -112,7 +114,7 @@ impl RecordingReader {
         }
     }
 
-    /// Completes a line: reads its remaining bytes, without the newline.
+    /// Completes a line by reading its remaining bytes, without the newline.
     fn line_in(&mut self, line: &[u8]) -> Result<(), LineFault>
         requires { Lacks 10 line.now }
         ensures taken { OnOk result ((bytes : List ℕ) → IsRead bytes self.old → IsRead (bytes ++ line.now ++ 10 ∷ []) self.new) }
@@ -127,8 +129,9 @@ impl RecordingReader {
         self.newline_in()
     }
 
-    /// Reads lines of completed calls from the start of a piece of the text, up to the first other line. Returns the
-    /// remaining bytes. The reader must be at the start of a line, in a section of the recording that allows calls.
+    /// Reads lines of completed calls from the start of a piece of the text, and stops before the first line of any
+    /// other kind. Returns the remaining bytes. The reader must be at the start of a line, in a section of the
+    /// recording that allows calls.
     fn quick_calls_in<'a>(&mut self, piece: &'a [u8]) -> Result<&'a [u8], LineFault>
         requires none { self.old.line.items ≡ [] }
         requires short { self.old.is_long ≡ false }
@@ -148,8 +151,8 @@ impl RecordingReader {
         Ok(rest)
     }
 
-    /// Reads lines of completed calls from the start of a piece of the text. Reads nothing unless the reader is at the
-    /// start of a line, in a section of the recording that allows calls. Returns the remaining bytes.
+    /// Reads lines of completed calls from the start of a piece of the text, and returns the remaining bytes. Reads
+    /// nothing unless the reader is at the start of a line, in a section of the recording that allows calls.
     fn calls_in<'a>(&mut self, piece: &'a [u8]) -> Result<&'a [u8], LineFault>
         ensures taken { IfOk result (λ rest. (done : List ℕ) × (piece.now ≡ done ++ rest.now)
             × ((bytes : List ℕ) → IsRead bytes self.old → IsRead (bytes ++ done) self.new)) }
@@ -163,7 +166,7 @@ impl RecordingReader {
         }
     }
 
-    /// Reads a piece of the text. `feed` calls this function only if it has returned no error before.
+    /// Reads a piece of the text. `feed` calls `bytes_in` only if `feed` has returned no error before.
     fn bytes_in(&mut self, piece: &[u8]) -> Result<(), LineFault>
         ensures taken { OnOk result ((bytes : List ℕ) → IsRead bytes self.old → IsRead (bytes ++ piece.now) self.new) }
         ensures refused { IfErr result (λ fault. (bytes : List ℕ) → IsRead bytes self.old → IsRefusedAt (bytes ++ piece.now) fault) }
@@ -189,7 +192,7 @@ impl RecordingReader {
     /// # Errors
     ///
     /// Returns the first error of the text, which does not depend on later pieces, or `Cause::Memory` if an allocation
-    /// fails. The error names a line that ends in `piece`. After an error, each later call of `feed` or `finish`
+    /// fails. The error names a line that ends in `piece`. After an error, each later call to `feed` or `finish`
     /// returns the same error.
     #[tactic(auto, using(crate::proofs::ReadLaws::none_failed, crate::proofs::ReadLaws::one_failed))]
     pub fn feed(&mut self, piece: &[u8]) -> Result<(), LineFault>
@@ -211,8 +214,9 @@ impl RecordingReader {
         }
     }
 
-    /// Removes the calls that were read since the last `take_calls`, and returns them in the order of their lines. The
-    /// first `take_calls` returns no calls: only after it, the reader keeps calls, and its memory grows with their number.
+    /// Removes the calls that were read since the last call to `take_calls`, and returns them in the order of their
+    /// lines. The first call to `take_calls` returns no calls. From then on, the reader stores each call until
+    /// `take_calls` returns it, and the reader's memory grows with the number of stored calls.
     pub fn take_calls(&mut self) -> Vec<StreamCall>
         ensures { (bytes : List ℕ) → IsRead bytes self.old → IsRead bytes self.new }
     {
@@ -221,8 +225,8 @@ impl RecordingReader {
         untaken.unwrap_or(Vec::new(alloc))
     }
 
-    /// Ends the text. Returns the verdict and the counts, or an error if the text is not complete. `finish` calls this
-    /// function only if `feed` has returned no error.
+    /// Ends the text. Returns the verdict and the counts, or an error if the text is incomplete. `finish` calls `end`
+    /// only if `feed` has returned no error.
     fn end(self) -> Result<RecordingAnswer, LineFault>
         ensures said { IfOk result (λ answer. (bytes : List ℕ) → IsRead bytes self
             → (c : Recording) × Says bytes (Ok c) × IsAnswered c answer) }
@@ -255,7 +259,7 @@ impl RecordingReader {
     }
 }
 
-/// Lemma: if bytes are read as a recording, they are the text of this recording. Therefore each recording has only one
+/// Lemma: if bytes are read as a recording, they are the text of that recording. Therefore each recording has only one
 /// text.
 #[tactic(auto, using(crate::proofs::TextFound::text_found))]
 pub fn recordings_are_read()

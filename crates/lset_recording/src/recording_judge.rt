@@ -22,18 +22,18 @@ const FIRST_LINE: u64 = 1;
 /// The verdict on a recording, with the number of its calls.
 #[derive(Debug, Drop)]
 pub struct RecordingAnswer {
-    /// Whether the recorded calls are linearizable (some order explains them and leaves the final keys). If they are
-    /// not, the reason.
+    /// Whether the recorded calls are linearizable, which means that some order explains the calls and leaves the final
+    /// keys. If the calls are not linearizable, the verdict has the reason.
     pub verdict: Verdict,
     /// The number of calls in the recording.
     pub calls: u64,
-    /// The number of calls that overlap another call that changes the same key.
+    /// The number of calls that overlap a call that changes the same key.
     pub overlapped: u64,
-    /// True if the recording was cut off. Its final keys are then unknown.
+    /// True if the recording was cut off and its final keys are therefore unknown.
     pub cut_off: bool,
 }
 
-/// Returns `judge`. If it is `None`, returns a new judge for a set that opens with the keys `opening`. If an allocation
+/// Returns `judge` or, if `judge` is `None`, a new judge for a set that opens with the keys `opening`. If an allocation
 /// fails, returns `AllocError`.
 #[tactic(auto, using(crate::proofs::NextCalls::opened))]
 fn or_opened(alloc: Global, judge: Option<Judge>, opening: &[u32]) -> Result<Judge, AllocError>
@@ -46,7 +46,7 @@ fn or_opened(alloc: Global, judge: Option<Judge>, opening: &[u32]) -> Result<Jud
     }
 }
 
-/// Returns the cause to report if the judge refuses a call: `Memory` if an allocation failed, else `History`.
+/// Returns the cause to report if the judge refuses a call: `Memory` if an allocation failed, and `History` otherwise.
 fn cause_of_fault(fault: StreamFault) -> Cause
     ensures memory { result ≢ Cause.Memory → fault ≢ StreamFault.Memory }
     ensures other { result ≢ Cause.Memory → result ≡ Cause.History }
@@ -77,8 +77,8 @@ fn add_call(judge: &mut Judge, call: StreamCall) -> Result<(), Cause>
     }
 }
 
-/// Appends a key to strictly increasing keys. Returns `Opening` if the key is not greater than the last one, and
-/// `Memory` if an allocation fails.
+/// Appends a key to strictly increasing keys. Returns `Opening` if the new key is not greater than the last key in
+/// `keys`, and `Memory` if an allocation fails.
 fn add_key(keys: &mut Vec<u32>, key: u32) -> Result<(), Cause>
     requires { IsStrictlyIncreasing keys.old.items }
     ensures increase { IsStrictlyIncreasing keys.new.items }
@@ -93,8 +93,8 @@ fn add_key(keys: &mut Vec<u32>, key: u32) -> Result<(), Cause>
     Ok(())
 }
 
-/// Stores a new judge in `place`. As a separate function, it keeps the judge out of the stack frames of its callers.
-/// If an allocation fails, returns `AllocError`.
+/// Stores a new judge in `place`. If an allocation fails, returns `AllocError`. A separate function keeps the judge out
+/// of the stack frames of the callers.
 fn create_judge(alloc: Global, opening: &[u32], place: &mut Option<Judge>) -> Result<(), AllocError>
     requires increase { IsStrictlyIncreasing opening.now }
     requires none { place.old ≡ None }
@@ -107,8 +107,8 @@ fn create_judge(alloc: Global, opening: &[u32], place: &mut Option<Judge>) -> Re
     Ok(())
 }
 
-/// Appends a call to the calls that `take_calls` will return. Does nothing if `take_calls` has never been called. If
-/// an allocation fails, returns `AllocError`.
+/// Appends a call to the calls that the next `take_calls` will return. Does nothing if `take_calls` has never been
+/// called. If an allocation fails, returns `AllocError`.
 #[inline(always)]
 fn store_untaken(
     untaken: &mut Option<Vec<StreamCall>>,
@@ -137,7 +137,7 @@ impl Judging {
         }
     }
 
-    /// Creates the judge from the opening keys, unless the reader has a judge already. If an allocation fails, returns
+    /// Creates the judge from the opening keys, unless the reader already has a judge. If an allocation fails, returns
     /// `AllocError`.
     fn open(&mut self) -> Result<(), AllocError>
         ensures kept { OnOk result ((c : Recording) → IsKept c self.old → IsKept c self.new) }
@@ -173,8 +173,8 @@ impl Judging {
         Ok(())
     }
 
-    /// Adds the content of a line to the recording so far. If the line contradicts the recording so far, returns the
-    /// cause.
+    /// Adds the content of a line to the recording so far. If the line is inconsistent with the recording so far,
+    /// returns the cause.
     #[inline(always)]
     fn keep(&mut self, line: Line) -> Result<(), Cause>
         requires { IsFormed line }
@@ -197,7 +197,7 @@ impl Judging {
     }
 
     /// Adds a line to the recording so far, and continues with the next line. The current section must allow lines of
-    /// this kind. If the line contradicts the recording so far, returns the cause.
+    /// the same kind as `line`. If the line is inconsistent with the recording so far, returns the cause.
     #[inline(always)]
     pub(crate) fn put(&mut self, line: Line) -> Result<(), Cause>
         requires { IsFormed line }
@@ -220,7 +220,7 @@ impl Judging {
         self.number
     }
 
-    /// Reads a line, without its newline. If the line is wrong, returns the cause.
+    /// Reads a line, without its newline. If the line is not valid, returns the cause.
     pub(crate) fn read_line(&mut self, line: &[u8]) -> Result<(), Cause>
         ensures taken { OnOk result ((s : SoFar) → IsJudging s self.old
             → (t : SoFar) × IsTaken s line.now t × IsJudging t self.new × (self.new.number ≡ self.old.number + 1)) }
@@ -286,7 +286,7 @@ impl Judging {
     }
 
     /// Ends the text after a complete line, and returns the verdict and the counts. Returns an error if the text is
-    /// not complete or an allocation fails.
+    /// incomplete or an allocation fails.
     pub(crate) fn finish(self) -> Result<RecordingAnswer, LineFault>
         ensures said { IfOk result (λ answer. (s : SoFar) → IsJudging s self
             → (ending self.number s [] ≡ Ok s.told) × IsAnswered s.told answer) }

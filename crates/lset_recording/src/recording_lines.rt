@@ -29,8 +29,8 @@ pub const LONGEST_LINE: usize = 128;
 /// The title of every recording: its first line, without the newline.
 const TITLE: &[u8] = b"listset-calls 1";
 
-/// A section of a recording. It has the name of its lines: for example, the lines of `Calls` are calls. A reader is in
-/// section `Opening` after the title, and in `Done` after the last line.
+/// A section of a recording, named after its lines: for example, the lines of `Calls` are calls. A reader is in section
+/// `Opening` after the title, and in `Done` after the last line.
 #[derive(Clone, Copy)]
 pub enum Section {
     Title,
@@ -40,8 +40,8 @@ pub enum Section {
     Done,
 }
 
-/// The content of a line of a recording: the title, an opening key, a call, a final key, or one of the last lines:
-/// `end`, or `cut` if the recording was cut off.
+/// The content of a line of a recording: the title, an opening key, a call, a final key, or the last line (`end`, or
+/// `cut` if the recording was cut off).
 #[derive(Clone, Copy)]
 pub enum Line {
     Title,
@@ -53,7 +53,7 @@ pub enum Line {
 }
 
 impl Line {
-    /// Returns the section of the recording that the reader is in after this line.
+    /// Returns the section of the recording that the reader is in after a line.
     pub fn section(self) -> Section
         ensures { result ≡ section_after self }
     {
@@ -172,8 +172,8 @@ fn ended_call(pieces: CallPieces<'_>, end: &[u8], reply: &[u8]) -> Result<Line, 
     }
 }
 
-/// Reads a call from its line. `thread` is the field with the call's thread, and `rest` contains the bytes after this
-/// field.
+/// Reads a call from its line. `thread` is the field with the call's thread, and `rest` has the bytes after the field
+/// `thread`.
 fn call(thread: &[u8], rest: &[u8]) -> Result<Line, Cause>
     ensures { result ≡ first_of One Cause.Line call_kinds (codes "call" ∷ thread.now ∷ cut_at 32 rest.now) }
 {
@@ -242,7 +242,7 @@ fn line_in(section: Section, line: &[u8]) -> Result<Line, Cause>
     call(second, rest)
 }
 
-/// Reads the first line of a recording, which must be the title. Returns `Header` for any other line.
+/// Reads the first line of a recording, which must be the title. Returns `Header` for any line that is not the title.
 fn title_told(line: &[u8]) -> Result<Line, Cause>
     ensures { result ≡ title_told line.now }
 {
@@ -253,13 +253,13 @@ fn title_told(line: &[u8]) -> Result<Line, Cause>
     }
 }
 
-/// Reads a line, without its newline, in this section of the recording. Does not allocate.
+/// Reads a line, without its newline, in the section `section` of the recording. Does not allocate.
 ///
 /// # Errors
 ///
 /// Returns `Header` if the first line is not the title. For a later line, returns `Line` if the line has more than
-/// `LONGEST_LINE` bytes, or if its kind is not allowed in this section. Returns `Number` if a field that must be a
-/// number is not a number or is out of range.
+/// `LONGEST_LINE` bytes or its kind is not allowed in the section. Returns `Number` if a field that must be a number is
+/// not a number or is out of range.
 pub fn line_told(section: Section, line: &[u8]) -> Result<Line, Cause>
     ensures { result ≡ line_told section line.now }
 {

@@ -25,7 +25,7 @@ use Rattle.lset_recording.specs.Reading.{kinds, from_calls, line_told, takes_cal
 use Rattle.lset_recording.proofs.LineKinds.{IsMoment, IsLineIn, kinds_known, line_pieces}
 use Rattle.lset_recording.proofs.quick.quick_call.Goals as goal
 
--- A completed call with these values, and the text of its line.
+-- A completed call with the given values, and the text of its line.
 module _ (n k b e : ℕ) (w : CallWord) (r : Reply) where
   abbrev pub ended_call : StreamCall
   ended_call = record { thread = n; call = with_key w (record { 0 = k }); begun = b; ended = Some (e, r) }
