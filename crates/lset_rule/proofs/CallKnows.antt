@@ -1,5 +1,5 @@
--- Proofs about the view of a seat after each step of its call. A seat is a per-thread handle to the set; its view is
--- its knowledge of the run.
+-- Proofs about the view of a seat after each step of its call. A seat is one thread's access to the set; its view is
+-- what it knows about the run.
 use Rattle.std.proofs.Common.{◌≡◌, ℕ, ◌+◌, List, [], ◌∷◌, ◌++◌, length, Option, Some, None, MatchOption, ◌<◌, refl, sym, ap, ◌∙◌}
 use Rattle.std.proofs.Common.{subst, append-nil, append_assoc, length-append, false}
 use Rattle.lset_words.specs.declared.Call.{Call}
@@ -22,8 +22,8 @@ use Rattle.lset_rule.specs.Calls.{IsMid, Makes, Goes, Starts, gone_view, begun_v
 use Rattle.lset_rule.proofs.MovesKeepRule.{IsAt, begun_at, stands_at}
 use Rattle.lset_rule.proofs.RecordsOfRuns.{starts_more}
 
--- Describes how call c has changed the view of its seat (its knowledge of the run) from v to w after a step with the
--- outcome f. If f has a reply, the call has ended with this reply. Otherwise the call is still pending.
+-- Holds if call c can have changed the view of its seat (what the seat knows about the run) from v to w, when the last
+-- step had the outcome f. If f has a reply, the call has ended with the reply. Otherwise the call is still pending.
 abbrev pub Comes : Table → Call → View → Fed → View → Type 0
 Comes m c v f w = (w.local ≡ f.local) × MatchOption f.answer (IsMid c v w × Stands m w) (λ r. Makes m c v r w)
 

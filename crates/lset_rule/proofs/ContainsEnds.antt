@@ -1,4 +1,4 @@
--- Proof: a `contains` on a list that marks nodes ends after a bounded number of steps.
+-- Proof that a `contains` on a list that marks nodes ends after a bounded number of steps.
 use Rattle.std.proofs.Common.{◌≡◌, ℕ, zero, suc, ◌+◌, ◌-◌, ◌<◌, ◌==◌, Bool, true, false, length, Option, Some, None, refl, sym}
 use Rattle.std.proofs.Common.{ap, ◌∙◌, subst, arith, if◌then◌else◌, inl, inr}
 use Rattle.std.proofs.lemmas.Bool.{cases_Bool}
@@ -23,8 +23,8 @@ use Rattle.lset_rule.proofs.OneMoreEvent.{Tied}
 use Rattle.lset_rule.proofs.MovesKeepRule.{stands_at, own_tied}
 use Rattle.lset_words.specs.Words.{Opening, sizes}
 
--- Returns how many more steps a call can take after `steps` steps if it takes at most `bound` steps. If the call has a
--- reply, returns 0.
+-- Returns how many more steps a call can take after `steps` steps, if `bound` is the maximum number of steps of the
+-- call. If the call has a reply, returns 0.
 abbrev pub steps_left : Option Reply → ℕ → ℕ → ℕ
 steps_left (Some r) bound steps = 0
 steps_left None bound steps = bound - steps

@@ -1,5 +1,5 @@
--- Proof: if a seat (per-thread handle) has as many threads as the set, it has each thread of the set. Therefore, when
--- the set is closed, this seat knows the words exactly.
+-- Proof that a seat (one thread's access to the set) that has as many threads as the set has each thread of the set.
+-- Therefore, when the set is closed, the closing seat knows the words exactly.
 use Rattle.std.proofs.Common.{◌≡◌, ◌≢◌, ◌⊎◌, inl, inr, ⊎_elim, ℕ, zero, suc, ◌+◌, ◌<◌, ◌≤◌, List, [], ◌∷◌, length, refl, sym, ap}
 use Rattle.std.proofs.Common.{◌∙◌, subst, arith, ◌++◌, false, append-nil, length-append}
 use mathlib.Core.Logic.{dite}

@@ -1,6 +1,6 @@
--- Proof: splitting and joining seats, and issuing and using receipts, preserve the invariant of the shared words and
--- all seats. A seat is a per-thread handle: one thread calls the set through it. A receipt contains the events that a
--- seat has seen, and is used by another seat.
+-- Proof that splitting and joining seats, and issuing and using receipts, preserve the invariant of the shared words
+-- and all seats. A seat is one thread's access to the set. A receipt contains the events that one seat has seen, and is
+-- used by another seat.
 use Rattle.std.proofs.Common.{◌≡◌, ◌≢◌, ◌⊎◌, inl, inr, ⊎_elim, ℕ, ◌+◌, ◌≤◌, ◌==◌, Bool, true, false, cond, List}
 use Rattle.std.proofs.Common.{[], ◌∷◌, ◌++◌, length, set, nat_le, Option, None, refl, sym, ap, ◌∙◌, subst, arith, rules, tests}
 use Rattle.std.proofs.Common.{append-nil, eq-eqb, ne_eqb}
@@ -31,8 +31,7 @@ use Rattle.lset_rule.proofs.ViewsFit.{is_in, set_there, stands_else, stands_stil
 use Rattle.lset_rule.proofs.MovesKeepRule.{M}
 use Rattle.lset_words.specs.Words.{Opening}
 
--- Converts a seat's own thread to a spare thread of another seat. `w` is the view of the first seat (its knowledge of
--- the run).
+-- Converts the own thread of a seat to a spare thread. `w` is the view of the seat (what the seat knows about the run).
 abbrev aside : View → SpareThread
 aside w = record { thread = w.thread; local = w.local }
 
@@ -72,7 +71,7 @@ longer_of log xs ys x y = by_test (nat_le (length xs) (length ys)) refl
     by_test false is = let le : length ys ≤ length xs = search (rules, tests) in
         record { begins = x; first = omega arith; second = le }
 
--- ---- Lemmas about the spare threads of two seats (per-thread handles): idle threads that a seat can still split off
+-- ---- Lemmas about the spare threads of two seats (idle threads that a seat can still split off)
 has_end : (os ps : List SpareThread) (t : ℕ) → HasAside (os ++ ps) t → HasAside os t ⊎ HasAside ps t
 has_end [] ps t h = inr h
 has_end (o ∷ os) ps t h = ⊎_elim (λ e. inl (inl e)) (λ x. ⊎_elim (λ y. inl (inr y)) (λ y. inr y) (has_end os ps t x)) h
@@ -126,7 +125,7 @@ module _ (m : Table) where
   fits_seat k log so so' j v same f =
       fits_less k log so so' j j v v f refl refl f.ours f.theirs (λ t h. h) f.stands (λ t h. same t (f.seat t h) h)
 
-  -- ---- Lemmas about splitting a seat (per-thread handle) into two
+  -- ---- Lemmas about splitting a seat (one thread's access to the set) into two
   module _ (v0 : View) (o : SpareThread) (os : List SpareThread) where
     abbrev V : View
     V = record v0 { spent = false; under = None; past = Fresh v0.thread; others = o ∷ os }
@@ -197,8 +196,8 @@ module _ (m : Table) where
   splits k id v o os sp idle fresh there = subst (λ (z : View). Splits (Holds m k) id z (left_view z) (right_view z))
       (λ i. record v { spent = sym sp i; under = sym idle i; past = sym fresh i; others = sym there i }) (splits_at v o os k id)
 
-  -- Lemmas about view v (a seat's knowledge of the run) after it has learned of more events, up to the end of the list
-  -- `to`. These additional events belong to threads of other seats.
+  -- Lemmas about view v (what a seat knows about the run) after it has learned of more events, up to the end of the
+  -- list `to`. The events that it has learned of belong to threads of other seats.
   module _ (k : Opening) (log : List Event) (so : ℕ → ℕ) (i : ℕ) (v : View) (f : MatchesLog m k log so i v) (ran : IsRunOf m k log) (to : List Event) (begins : StartsWith log to) (le : length v.seen ≤ length to) where
     more : (d : List Event) × (to ≡ v.seen ++ d) × (f.rest ≡ d ++ begins.0)
     more = prefixes v.seen to f.rest begins.0 (sym f.is ∙ begins.1) le
@@ -234,7 +233,7 @@ module _ (m : Table) where
       theirs = other;
     }
 
-  -- ---- Lemmas about joining two seats with the views v and w (the knowledge of the seats about the run)
+  -- ---- Lemmas about joining two seats with the views v and w (what each seat knows about the run)
   module _ (k : Opening) (log : List Event) (so so' : ℕ → ℕ) (i j : ℕ) (apart : j ≢ i) (v w : View) (f : MatchesLog m k log so i v) (g : MatchesLog m k log so j w) (v_idle : v.under ≡ None) (w_idle : w.under ≡ None) (ran : IsRunOf m k log) where
     abbrev J : View
     J = joined v w

@@ -1,5 +1,5 @@
--- Proof: the start of a call and each step of a call preserve the invariant of the shared words and all seats. A seat
--- is a per-thread handle: one thread calls the set through it.
+-- Proof that the start of a call and each step of a call preserve the invariant of the shared words and all seats. A
+-- seat is one thread's access to the set.
 use Rattle.std.proofs.Common.{◌≡◌, ◌≢◌, inl, inr, ℕ, ◌+◌, ◌<◌, ◌≤◌, false, List, [], ◌∷◌, ◌++◌, length, set, slice_index}
 use Rattle.std.proofs.Common.{slice_set, Option, Some, None, refl, sym, ap, ◌∙◌, subst, arith, append-nil, append_assoc, length-append}
 use mathlib.Core.Option.{some}
@@ -30,18 +30,19 @@ use Rattle.lset_rule.specs.Calls.{gone_view, begun_view, record_after, Goes, Sta
 use Rattle.lset_rule.proofs.RecordsOfRuns.{still_quiet, quiet_append, starts_more, asides_stay, before_more, after_calls, after_calls_other}
 use Rattle.lset_rule.proofs.RecordsOfRuns.{after_root, after_apart, after_in, after_in_order, after_before, BegunBy, begun_by, after_in_time}
 
--- Holds if, after the run of these events, thread t has a pending call and the private state l.
+-- Holds if, at the end of the run of the events `es`, thread t has a pending call and the private state l.
 abbrev pub IsAt : Table → Opening → List Event → ℕ → Local → Type 0
 IsAt m k es t l = UnderWay m k (event_at es) (length es) t × (local_of (end_of m k es) t ≡ l)
 
--- Returns view v (a seat's knowledge of the run) after event e of the seat's own thread, with a new private state, a
--- new pending call and a new record.
+-- Returns view v (what a seat knows about the run) after event e by the seat's own thread, with a new private state, a
+-- new pending call, and a new record.
 abbrev pub later : View → List Event → Event → Local → Option PendingCall → Past → View
 later v log e l u r = record v { local = l; under = u; past = r; seen = log ++ e ∷ [] }
 
 module _ (m : Table) where
-  -- Events that a view (a seat's knowledge of the run) has not seen belong to threads of other seats. Therefore the
-  -- state of each thread of the seat is the same after all events as after the events that the view has seen.
+  -- Lemma: because the events that a view (what a seat knows about the run) has not seen belong to threads of other
+  -- seats, the state of each thread of the seat is the same after all events as after the events that the view has
+  -- seen.
   pub still : (k : Opening) (log : List Event) (so : ℕ → ℕ) (j : ℕ) (v : View) (f : MatchesLog m k log so j v) (t : ℕ) → HasThread v t →
       at_end m k log t ≡ at_end m k v.seen t
   still k log so j v f t h = ap (λ l. at_end m k l t) f.is ∙ still_quiet m k v v.seen f.rest t h f.quiet
@@ -233,7 +234,7 @@ goes_on m law slots id me k a acts shape is_open = let v : View = me.0 in
       (r.0, refl),
     ))
 
--- The first step of a call preserves the invariant. The call starts with this step.
+-- Lemma: the first step of a call, which includes the start of the call, preserves the invariant.
 pub goes_first : (m : Table) (law : Lawful m) (slots id : ℕ) (me : M) (k : Opening) (c : Call) → target c < tail_word →
     (a : Action) → a ≡ m.next (m.begin c me.0.local) → me.0.shape ≡ k → IsIdle me.0
     → Allows (Holds m k) slots id me (word_named a) (left a) (λ n me'. Starts m c me.0 (found a n) me'.0 × (me'.1 ≡ me.1))
@@ -275,7 +276,7 @@ goes_first m law slots id me k c low a acts shape is_idle = let v : View = me.0 
       ),
     ))
 
--- ---- Lemmas about the state of a seat's own thread (a seat is a per-thread handle)
+-- ---- Lemmas about the state of a seat's own thread (a seat is one thread's access to the set)
 module _ (m : Table) (law : Lawful m) (v : View) (st : Stands m v) where
   own_small : v.thread < v.shape.threads
   own_small = st.in_range v.thread (inl refl)

@@ -1,4 +1,4 @@
--- Proofs about how an event that is appended to a run changes the state of each thread.
+-- Proofs about how appending an event to a run changes the state of each thread.
 use Rattle.std.proofs.Common.{◌≡◌, ◌≢◌, inl, inr, ℕ, zero, suc, ◌+◌, ◌<◌, ◌≤◌, ◌==◌, Bool, true, false, List, [], ◌∷◌, ◌++◌, length}
 use Rattle.std.proofs.Common.{Option, Some, None, refl, sym, ap, ◌∙◌, subst, arith, slice_index, slice_set, get_or-set_other}
 use Rattle.std.proofs.Common.{get_or-set_same, if◌then◌else◌, length-append}
@@ -35,7 +35,7 @@ pick_yes b x y e = rw e refl
 pick_not : {A : Type 0} (b : Bool) (x y : A) → b ≡ false → (if b then x else y) ≡ y
 pick_not b x y e = rw e refl
 
--- Returns the value that a word has after an action. `n` is its value before the action.
+-- Returns the value of a word after an action. `n` is the word's value before the action.
 abbrev pub left : Action → ℕ → ℕ
 left (Load w) n = n
 left (Store w v) n = v
@@ -47,12 +47,13 @@ found (Load w) n = n
 found (Store w v) n = v
 found (Exchange w old new) n = n
 
--- Returns the state of a thread after one of its steps. The state before the step is h, the outcome of the step is f,
--- and the number of the event is n.
+-- Returns the state of a thread after one of its steps. `h` is the state before the step, `f` is the outcome of the
+-- step, and `n` is the number of the event.
 abbrev pub gone : Here → Fed → ℕ → Here
 gone h f n = here f.local (under_after f.answer h.under) (h.done ++ ending f.answer h.under n)
 
--- Returns the state of a thread after it starts call c: h is its state before, and n the number of the event.
+-- Returns the state of a thread after it starts call c. `h` is the state before the start, and `n` is the number of the
+-- event.
 abbrev pub begins : Table → Here → Call → ℕ → Here
 begins T h c n = here (T.begin c h.local) (Some (record { call = c; begun = n; steps = 0 })) h.done
 
@@ -148,7 +149,7 @@ module _ (T : Table) (op : Opening) (es : ℕ → Event) (k t : ℕ) where
       λ i. here (l i) (u i) (d i)
 
 -- Holds if a thread's private state matches its pending call. If no call is pending, the thread is at row 0 of the step
--- table. Otherwise it is at another row, and its private state contains the pending call.
+-- table. If a call is pending, the thread is at a row other than 0, and its private state contains the call.
 abbrev pub Tied : Option PendingCall → Local → Type 0
 Tied None l = l.pc ≡ 0
 Tied (Some u) l = (l.pc ≢ 0) × (l.call ≡ u.call)

@@ -1,5 +1,5 @@
--- Proofs that compare two lists: the calls of a thread in the record of a seat (per-thread handle), and the calls that
--- the thread has made in the run.
+-- Proofs that compare two lists: the calls of a thread in the record of a seat (one thread's access to the set), and
+-- the calls that the thread has made in the run.
 use Rattle.std.proofs.Common.{◌≡◌, ◌≢◌, inl, inr, ℕ, zero, suc, ◌<◌, ◌≤◌, Bool, true, false, if◌then◌else◌, cond, List, [], ◌∷◌}
 use Rattle.std.proofs.Common.{◌++◌, Option, Some, None, refl, sym, ap, ◌∙◌, subst, arith, eq-eqb, ne_eqb, append-nil, append_assoc}
 use Rattle.lset_words.specs.declared.Reply.{Reply}
@@ -88,13 +88,13 @@ begun_by log t n = known (last_at log t n).pending
     known true = begun_low log t n
     known false = tt
 
--- Returns the calls of a record's own thread, without the calls in other records that were merged into it.
+-- Returns the calls by a record's own thread, without the calls in records that were merged into the record.
 abbrev pub own_calls : Past → List OwnCall
 own_calls (Fresh t) = []
 own_calls (Called' p r c) = own_calls r ++ c ∷ []
 own_calls (Gathered' p r q g) = own_calls r
 
--- Holds if a record of thread u was merged into this record of calls.
+-- Holds if a record of thread u was merged into the record r.
 abbrev pub HasGathered : ℕ → Past → Type 0
 HasGathered u r = NamesGathered u (record_of r)
 

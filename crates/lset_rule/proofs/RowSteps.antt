@@ -13,7 +13,8 @@ use Rattle.lset_rule.specs.Seats.{TableSeat, IsSeat, MayCall, HasCalled}
 use Rattle.lset_rule.specs.RowSteps.{MayStep, HasStepped}
 use Rattle.lset_rule.proofs.CallKnows.{Comes, is_mid, mid_open, reached, comes_next, made}
 
--- Holds if call c started from the seat s (per-thread handle), its last step had the outcome f, and the seat is now s'.
+-- Holds if call c started from the seat s (one thread's access to the set), its last step had the outcome f, and the
+-- seat is now s'.
 abbrev pub Reached : Table → Call → TableSeat → Fed → TableSeat → Type 0
 Reached m c s f s' = Comes m c s.me.0 f s'.me.0 × IsSeat s s'
 

@@ -1,4 +1,5 @@
--- Proof: when a set has been opened, the invariant of the shared words and all seats (per-thread handles) holds.
+-- Proof that the invariant of the shared words and all seats (each is one thread's access to the set) holds after a set
+-- has been opened.
 use Rattle.std.proofs.Common.{◌≡◌, ◌≢◌, inl, inr, ⊎_elim, ℕ, zero, suc, ◌+◌, ◌-◌, ◌<◌, ◌≤◌, List, [], ◌∷◌, length, None}
 use Rattle.std.proofs.Common.{refl, sym, ap, ◌∙◌, subst, arith}
 use mathlib.Core.Option.{some, some-injective, some-ne-none}
@@ -21,16 +22,18 @@ use Rattle.lset_rule.specs.Runs.{here, at_end, IsRunOf, StartsWith}
 use Rattle.lset_rule.specs.Rule.{Holds, MatchesLog, opener, asides_from, left_view, right_view}
 use Rattle.lset_rule.specs.Views.{Stands, HasThread, HasAside, AreIdle, IsIdle}
 
--- Returns the view of a new seat (its knowledge of the run). The seat (per-thread handle) was just split off for thread
--- t, and has not called yet.
+-- Returns the view (what a seat knows about the run) of a new seat, which was just split off for thread t and has made
+-- no calls.
 abbrev pub fresh : Opening → ℕ → View
 fresh k t = record (opener k) { thread = t; local = idle k.quota t; others = []; past = Fresh t }
 
--- Returns the view of the first seat (its knowledge of the run) after the threads below t have been split off.
+-- Returns the view (what a seat knows about the run) of the first seat after all threads with numbers below t have been
+-- split off.
 abbrev pub spare : Opening → ℕ → View
 spare k t = record (opener k) { others = asides_from k t (k.threads - 1 - t) }
 
--- Holds if s is a new seat (per-thread handle) that was just split off for thread t. The seat has not called yet.
+-- Holds if s is a new seat (one thread's access to the set), which was just split off for thread t and has made no
+-- calls.
 abbrev pub IsNew : TableId → Opening → ℕ → Seat (Unit {0}) View → Type 0
 IsNew z k t s = (s.table_id ≡ z) × (s.me ≡ (fresh k t, []))
 

@@ -1,5 +1,6 @@
--- Lemmas about the list of all seats' views when a view changes or is added: the facts about each view that remain
--- true, and the view of each thread. A seat is a per-thread handle to the set; its view is its knowledge of the run.
+-- Lemmas about the list of all seats' views when a view is changed or added: which facts about each view remain true,
+-- and which view each thread belongs to. A seat is one thread's access to the set; its view is what it knows about the
+-- run.
 use Rattle.std.proofs.Common.{◌≡◌, ◌≢◌, ⊎_elim, ℕ, zero, suc, ◌<◌, true, false, List, [], ◌∷◌, ◌++◌, length, set, refl, sym, ap, ◌∙◌, subst}
 use Rattle.std.proofs.lemmas.Bool.{false≢true}
 use mathlib.Core.Option.{some, some-injective, some-ne-none}
@@ -16,8 +17,8 @@ use Rattle.lset_rule.specs.Runs.{StartsWith, end_of, IsRunOf}
 use Rattle.lset_rule.specs.Rule.{Holds, MatchesLog, StandsIn}
 use Rattle.lset_rule.specs.Views.{HasThread}
 
--- Lemmas about a property P of all entries of a list: the entries still have the property after an entry with the
--- property is changed or added.
+-- Lemmas about a property P of all entries of a list: all entries still have P after an entry with P replaces an entry
+-- or is added.
 module _ {A : Type 0} (P : ℕ → A → Type 0) where
   abbrev pub Each : List A → Type 0
   Each l = (j : ℕ) (x : A) → get_elem? l j ≡ some x → P j x
@@ -44,9 +45,9 @@ module _ {A : Type 0} where
   set_twice (x ∷ xs) zero a b = refl
   set_twice (x ∷ xs) (suc i) a b = ap (λ l. x ∷ l) (set_twice xs i a b)
 
--- The next three lemmas state that thread t still belongs to view j (a seat's knowledge of the run). The first is about
--- a change of another view, the second about a change of view j that keeps the thread, and the third about an added
--- view.
+-- Lemmas: thread t still belongs to view j (what a seat knows about the run) after a change of a view other than j
+-- (`stands_else`), after a change of view j that keeps the thread (`stands_still`), and after the addition of a view
+-- (`stands_more`).
 pub stands_else : (views : List View) (id j t : ℕ) (w : View) → j ≢ id → StandsIn views j t → StandsIn (set views id w) j t
 stands_else views id j t w ne st = (st.0, set_else views id j w ne ∙ st.1, st.2, st.3)
 
@@ -70,8 +71,8 @@ pub stands_last : (views : List View) (t : ℕ) (w : View) → w.spent ≡ false
     StandsIn (views ++ w ∷ []) (length views) t
 stands_last views t w alive has = (w, at_last views w (length views) refl, alive, has)
 
--- The part of the invariant that is about a single view, with number j. (A view is a seat's knowledge of the run.) If
--- the view is in use, it matches the events. The events that it has seen are a prefix of all events.
+-- The part of the invariant that is about view number j (what a seat knows about the run). If the view is in use, it
+-- matches the events. The events that the view has seen are a prefix of all events.
 abbrev pub Fits : Table → Opening → List Event → (ℕ → ℕ) → ℕ → View → Type 0
 Fits m k log so j v = (v.spent ≡ false → MatchesLog m k log so j v) × StartsWith log v.seen
 

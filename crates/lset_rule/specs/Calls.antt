@@ -1,5 +1,5 @@
--- The steps of a call: how each step, and a whole call, changes the view of the caller's seat. A seat is a per-thread
--- handle to the set; its view is its knowledge of the run.
+-- How each step of a call, and a whole call, changes the view of the caller's seat. A seat is one thread's access to
+-- the set; its view is what it knows about the run.
 use Rattle.std.specs.Prelude.{◌≡◌, ℕ, ◌+◌, List, [], ◌∷◌, ◌++◌, length, Option, Some, None}
 use Rattle.atomic_table.specs.Table.{Me, Step}
 use Rattle.lset_words.specs.declared.Call.{Call}
@@ -15,8 +15,8 @@ use Rattle.lset_rule.specs.Pasts.{called}
 use Rattle.lset_rule.specs.Runs.{StartsWith, own, under_after, end_of}
 use Rattle.lset_rule.specs.Views.{Stands}
 
--- Returns the view of a seat (its knowledge of the run) after its thread has started call c. The view was v before, and
--- `log` contains all events before the start.
+-- Returns the view of a seat (what the seat knows about the run) after its thread has started call c. `v` is the view
+-- before the start, and `log` contains all events before the start.
 abbrev pub begun_view : Table → List Event → Call → View → View
 begun_view m log c v = record v {
   local = m.begin c v.local;
@@ -24,15 +24,15 @@ begun_view m log c v = record v {
   seen = log ++ Begin v.thread c ∷ [];
 }
 
--- Returns a record of completed calls after event n. If the event ends the pending call (the reply is Some x), the
+-- Returns the record of completed calls after event n. If the event ends the pending call (the reply is `Some x`), the
 -- call is appended to the record r.
 abbrev pub record_after : Past → Option Reply → Option PendingCall → ℕ → Past
 record_after r (Some x) (Some u) n = called r (own u x n)
 record_after r (Some x) None n = r
 record_after r None u n = r
 
--- Returns the view of a seat (its knowledge of the run) after a step of its thread that saw the value n. The view was v
--- before, and `log` contains all events before the step.
+-- Returns the view of a seat (what the seat knows about the run) after a step of its thread that saw the value n. `v`
+-- is the view before the step, and `log` contains all events before the step.
 abbrev pub gone_view : Table → List Event → ℕ → View → View
 gone_view m log n v = let f = m.feed v.local n in record v {
   local = f.local;
@@ -41,22 +41,24 @@ gone_view m log n v = let f = m.feed v.local n in record v {
   seen = log ++ Go v.thread ∷ [];
 }
 
--- Describes how a step that sees the value n changes the view of its seat (its knowledge of the run) from v to w. Some
--- `log` has all events before the step, and starts with the events that v had seen. The view w has seen these events
--- and the step. In some run, a thread with this private state sees the value n next (`Sees`).
+-- Holds if a step that sees the value n can change the view of its seat (what the seat knows about the run) from v to
+-- w. `log` contains all events before the step, and starts with the events that v had seen. The view w has seen the
+-- events of `log` and the step. `Sees` says that in some run, a thread with the private state in v next sees the value
+-- n.
 abbrev pub Goes : Table → View → ℕ → View → Type 0
 Goes m v n w = (log : List Event) × (on : StartsWith log v.seen) × Sees m v.local n × (w ≡ gone_view m log n v) × Stands m w
     × (seen_next m (end_of m v.shape log) v.thread ≡ n)
 
--- Describes how the first step of call c, which sees the value n, changes the view of its seat (its knowledge of the
--- run) from v to w. The call starts just before this step.
+-- Holds if the first step of call c, which sees the value n, can change the view of its seat (what the seat knows about
+-- the run) from v to w. The call starts just before its first step.
 abbrev pub Starts : Table → Call → View → ℕ → View → Type 0
 Starts m c v n w = (log : List Event) × (on : StartsWith log v.seen) × Sees m (m.begin c v.local) n
     × (let b = begun_view m log c v in w ≡ gone_view m b.seen n b) × Stands m w
     × (let b = begun_view m log c v in seen_next m (end_of m v.shape b.seen) v.thread ≡ n)
 
 -- `onward` and `starting` are `Goes` and `Starts` in the form that the crate `atomic_table` requires for an access to
--- the shared words. In addition, the access does not change which cells of the table the seat (per-thread handle) owns.
+-- the shared words. In addition, the access does not change which cells of the table the seat (one thread's access to
+-- the set) owns.
 abbrev pub onward : Table → Step (Unit {0}) → Me (Unit {0}) View → ℕ → Me (Unit {0}) View → Type 0
 onward m st me n me' = Goes m me.0 n me'.0 × (me'.1 ≡ me.1)
 
@@ -67,13 +69,13 @@ abbrev pub steps_of : Option PendingCall → ℕ
 steps_of None = 0
 steps_of (Some u) = u.steps
 
--- Holds if at most four parts of a seat's view (its knowledge of the run) have changed: the thread's private state, the
--- pending call, the record of completed calls, and the events seen.
+-- Holds if views v and w (what a seat knows about the run) differ at most in the private state of the seat's own
+-- thread, the pending call, the record of completed calls, and the events seen.
 abbrev pub Same : View → View → Type 0
 Same v w = (w.spent ≡ v.spent) × (w.shape ≡ v.shape) × (w.thread ≡ v.thread) × (w.others ≡ v.others)
     × (w.ours ≡ v.ours) × (w.theirs ≡ v.theirs)
 
--- Holds if call c is pending, and has changed the view of its seat (its knowledge of the run) from v to w. The call
+-- Holds if call c is pending, has changed the view of its seat (what the seat knows about the run) from v to w, and
 -- started after all events that v had seen.
 pub record IsMid (c : Call) (v w : View) : Type 0 where
   pub log : List Event
@@ -84,9 +86,9 @@ pub record IsMid (c : Call) (v w : View) : Type 0 where
   pub past : w.past ≡ v.past
   pub same : Same v w
 
--- Holds if a whole call c with reply r has changed the view of its seat (its knowledge of the run) from v to w. The
--- call started after all events that v had seen. Its last step is the last event that w has seen, and only this call
--- has been added to the seat's record.
+-- Holds if a whole call c with reply r has changed the view of its seat (what the seat knows about the run) from v to
+-- w. The call started after all events that v had seen. The last step of the call is the last event that w has seen,
+-- and only the call c has been added to the seat's record.
 pub record Makes (m : Table) (c : Call) (v : View) (r : Reply) (w : View) : Type 0 where
   pub log : List Event
   pub between : List Event

@@ -1,4 +1,4 @@
--- Removes the event numbers from a record of completed calls. Contracts use records without these numbers.
+-- Removes the event numbers from a record of completed calls. Contracts use records without event numbers.
 use Rattle.lset_rule.specs.declared.view.OwnCall.{OwnCall}
 use Rattle.lset_rule.specs.declared.view.Past.{Past, Fresh, Called', Gathered'}
 use Rattle.lset_words.specs.Records.{CallMade, Record, fresh, called, gathered}

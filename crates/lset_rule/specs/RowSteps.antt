@@ -1,5 +1,5 @@
--- One step of an interpreted call: what it requires of the seat (per-thread handle) and of the thread's state, and its
--- result.
+-- One step of an interpreted call: the requirements on the seat (one thread's access to the set) and on the thread's
+-- state, and the result.
 use Rattle.std.specs.Prelude.{◌≡◌, ℕ}
 use Rattle.atomic_table.specs.Seated.{TableId}
 use Rattle.lset_words.specs.Words.{Opening}
@@ -11,8 +11,8 @@ use Rattle.lset_rule.specs.Views.{IsOpen, Stands}
 use Rattle.lset_rule.specs.Calls.{Goes}
 use Rattle.lset_rule.specs.Seats.{TableSeat, IsOf, IsSeat}
 
--- The requirements of the next step of an interpreted call. Its seat s (per-thread handle) belongs to the table z and
--- has a pending call. The private state l of its thread occurs in some run.
+-- The requirements for the next step of an interpreted call: the call's seat s (one thread's access to the set) belongs
+-- to the table z and has a pending call, and the private state l of the seat's own thread occurs in some run.
 pub record MayStep (m : Table) (z : TableId) (k : Opening) (l : Local) (s : TableSeat) : Type 0 where
   pub place : IsOf z k s
   pub under_way : IsOpen s.me.0
@@ -20,8 +20,9 @@ pub record MayStep (m : Table) (z : TableId) (k : Opening) (l : Local) (s : Tabl
   pub held : l ≡ s.me.0.local
   pub occurs : Occurs m l
 
--- Holds if an interpreted call has taken its next step. The step changed its seat (per-thread handle) from s to s'. The
--- step table computes the outcome f from the thread's private state l and the value that the step saw.
+-- Holds if an interpreted call has taken its next step, which changed the call's seat (one thread's access to the set)
+-- from s to s'. The step table computes the outcome f from the thread's private state l and the value that the step
+-- saw.
 pub record HasStepped (m : Table) (l : Local) (s : TableSeat) (f : Fed) (s' : TableSeat) : Type 0 where
   pub place : IsSeat s s'
   pub seen : ℕ

@@ -12,9 +12,9 @@ use lset_steps::{Machine, OpenReads};
 use lset_words::{Call, Key, Reply};
 use std::marker::Brand;
 
-/// Expands to the code between two steps of a call: returns the reply if the call has ended, otherwise pauses.
+/// Expands to the code between two steps of a call: returns the reply if the call has ended, and pauses otherwise.
 ///
-/// This is a macro because a pause can block. If the interpreter called a function that can block here, the compiled
+/// The code is a macro because a pause can block. If the interpreter called a function that can block, the compiled
 /// code would not jump straight to the code of the next row.
 macro_rules! ends_or_pauses {
     ($last:expr, $pause:expr) => {
@@ -31,14 +31,14 @@ macro_rules! ends_or_pauses {
 
 /// Executes a whole call step by step, in at most `N::MOST` rounds of four steps each.
 ///
-/// `place` is an idle seat (per-thread handle) on the words `table`. `slots` are the thread's slots (nodes for keys
-/// that it adds), as its last call returned them. After each step that does not end the call, the interpreter calls
-/// `pause.failed` if the step has failed, and `pause.moved` otherwise. It also calls `pause.moved` when the call gets a
-/// lock that it has waited for. It never calls `pause.taken`.
+/// `place` is an idle seat (one thread's access to the set) on the words `table`. `slots` are the thread's slots (nodes
+/// reserved for its adds), as the thread's last call returned them. After each step that does not end the call, the
+/// interpreter calls `pause.failed` if the step has failed, and `pause.moved` otherwise. The interpreter also calls
+/// `pause.moved` when the call gets a lock that it has waited for, and never calls `pause.taken`.
 ///
 /// Returns the thread's slots after the call, and the reply. The call started after all events that the seat had seen,
-/// and has been added to the seat's record. Returns `None` if the call has not ended after these rounds. The call is
-/// then still pending and keeps its locks, and no other call can start from the seat.
+/// and has been added to the seat's record. Returns `None` if the call has not ended after `N::MOST` rounds. The call
+/// is then still pending and keeps its locks, and no other call can start from the seat.
 pub fn interpret_within<M: Machine, P: Pause, N: Rounds>(
     table: &Words<M>,
     place: &mut TableSeat,
@@ -73,10 +73,11 @@ pub fn interpret_within<M: Machine, P: Pause, N: Rounds>(
 }
 
 /// Executes a whole `contains` of `key` step by step, without blocking. `M` is a list that marks nodes before it
-/// unlinks them. Therefore its walk reaches each node at most once (`OpenReads`).
+/// unlinks them, so a walk reaches each node at most once (`OpenReads`).
 ///
-/// `place` is an idle seat (per-thread handle) on the words `table`, and `slots` are the thread's slots, as the
-/// thread's last call returned them. Returns the thread's slots after the call, and the reply.
+/// `place` is an idle seat (one thread's access to the set) on the words `table`. `slots` are the thread's slots (nodes
+/// reserved for its adds), as the thread's last call returned them. Returns the thread's slots after the call, and the
+/// reply.
 pub fn interpret_read<M: OpenReads>(
     table: &Words<M>,
     place: &mut TableSeat,

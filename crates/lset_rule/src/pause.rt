@@ -3,29 +3,29 @@
 use crossbeam_utils::Backoff;
 use std::cell::Cell;
 
-/// The code that a call runs between two of its steps. No contract depends on this code: it cannot access the shared
-/// words or the seat (per-thread handle), and affects only how long a call lasts.
+/// The code that a call runs between two of its steps. No contract depends on the code of a pause: it cannot access the
+/// shared words or the seat (one thread's access to the set), and affects only how long a call lasts.
 ///
-/// Each outcome of a step has its own function, because the compiled code reads a byte after each call of a function
-/// that can yield the processor. If only `failed` can yield, no byte is read after other steps.
+/// Each outcome of a step has its own function, because the compiled code reads a byte after each call to a function
+/// that can yield the processor. If only `failed` can yield, no byte is read after steps that succeed.
 pub trait Pause {
     /// Called after a step that succeeded without ending the call. `thread` is the number of the calling thread.
     fn moved(&self, thread: u32);
 
-    /// Called after a step that failed without ending the call. Such a step is a compare-and-exchange that did not find
-    /// the expected value, for example because a lock is held. `thread` is the number of the calling thread.
+    /// Called after a step that failed without ending the call. A failed step is a compare-and-exchange that did not
+    /// find the expected value, for example because a lock is held. `thread` is the number of the calling thread.
     fn failed(&self, thread: u32);
 
     /// Called instead of `moved` when a call gets a lock that it has waited for. Only the loops of the four lists with
-    /// locks call this function. The interpreter (`interpret_within`) calls `moved` instead. `thread` is the number of
-    /// the calling thread.
+    /// locks call `taken`. The interpreter (`interpret_within`) calls `moved` instead. `thread` is the number of the
+    /// calling thread.
     fn taken(&self, thread: u32) {
         self.moved(thread)
     }
 }
 
 /// The maximum number of `Backoff::spin` calls after a failed step. With 16 calls, a thread executes 1,024 pause
-/// instructions. In that time the holder of a lock makes many calls, and the cache line of the lock stays with the
+/// instructions. Meanwhile, the holder of a lock makes many calls, and the cache line of the lock stays with the
 /// holder's processor.
 const MOST_WAITS: u32 = 16;
 

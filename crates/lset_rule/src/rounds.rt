@@ -5,8 +5,8 @@ use crate::slots::OwnSlots;
 use lset_words::Reply;
 use std::sync::Wait;
 
-/// A bound on the rounds of each loop of a call. If a loop has not ended after this many rounds, it stops and the call
-/// has no reply.
+/// A bound on the number of rounds of each loop of a call. A loop that has not ended after `MOST` rounds stops, and the
+/// call has no reply.
 pub trait Rounds {
     /// The maximum number of rounds of a loop.
     const MOST: u64;
@@ -19,8 +19,8 @@ impl Rounds for Countless {
     const MOST: u64 = u64::MAX;
 }
 
-/// Returns `answer`, the result of a call with at most [`Countless`] rounds (2^64 - 1). Waits forever if `answer` is
-/// `None`.
+/// Returns the value in `answer`, the result of a call with at most [`Countless`] rounds (2^64 - 1). Waits forever if
+/// `answer` is `None`.
 #[inline(always)]
 pub fn or_wait_forever<R: Wait>(rt: &R, answer: Option<(OwnSlots, Reply)>) -> (OwnSlots, Reply)
     ensures { answer ≡ Some result }

@@ -13,7 +13,7 @@ pub(crate) struct Stepped {
     pub failed: bool,
 }
 
-/// Returns whether a step with this action that saw the value `seen` was a failed exchange.
+/// Returns whether a step with the action `action` that saw the value `seen` was a failed exchange.
 #[inline(always)]
 pub(crate) fn has_failed(action: Action, seen: u64) -> bool {
     match action {
@@ -43,7 +43,7 @@ fn row_step<M: Machine, const PC: u8>(
 }
 
 /// Executes the next step of a call at a row without a match arm in [`one_step`]. Each call site passes its own number
-/// `SITE`, only to prevent inlining: the compiler inlines a function that has a single call site. If this function were
+/// `SITE`, only to prevent inlining: the compiler inlines a function that has a single call site. If `other_step` were
 /// inlined, the thread's private state would be written to memory at every step.
 fn other_step<M: Machine, const SITE: u8>(
     table: &Words<M>,
@@ -63,9 +63,9 @@ fn other_step<M: Machine, const SITE: u8>(
 
 /// Executes the next step of a call, with code that is compiled for the call's row of the step table.
 ///
-/// `place` is a seat (per-thread handle) on the words `table`, with a pending call. `local` is the state of its thread.
-/// Each call site passes its own number `SITE`. Each row of the five lists' step tables has a match arm. A row of
-/// another table can be without a match arm; its step is then slower.
+/// `place` is a seat (one thread's access to the set) on the words `table`, with a pending call. `local` is the private
+/// state of the seat's own thread. Each call site passes its own number `SITE`. Each row of the five lists' step tables
+/// has a match arm. A row of another step table can be without a match arm, and its step is then slower.
 #[inline(always)]
 pub(crate) fn one_step<M: Machine, const SITE: u8>(
     table: &Words<M>,

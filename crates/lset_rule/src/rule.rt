@@ -1,6 +1,6 @@
-//! The invariant of the shared words and all seats, and how each action changes a view (a seat's knowledge of the run).
-//! A seat is a per-thread handle: one thread calls the set through it. A receipt contains the events that one seat has
-//! seen, for another seat.
+//! The invariant of the shared words and all seats, and how each action changes a view. A seat is one thread's access
+//! to the set; its view is what it knows about the run. A receipt contains the events that one seat has seen, and is
+//! used by another seat.
 ghost use Rattle.lset_words.specs.declared.Call.{Call};
 ghost use Rattle.lset_words.specs.declared.Call.TheVariants.{Contains};
 ghost use Rattle.lset_rule.specs.Rule.{Holds, opener, left_view, right_view, joined, nobody, learned, without_thread, informed};
@@ -12,8 +12,8 @@ use lset_steps::Machine;
 use std::marker::{Brand, PhantomData};
 
 /// The invariant of the shared words of a list `M`. The events of all threads so far are a run of `M` that ends with
-/// these words. The view of each seat (its knowledge of the run) matches this run. When the set is opened, a single
-/// seat has all threads.
+/// the words in memory, and the view of each seat (what the seat knows about the run) matches the run. When the set is
+/// opened, a single seat has all threads.
 pub struct Follows<M> {
     machine: PhantomData<M>,
 }
@@ -34,7 +34,7 @@ impl Asking for Brand {
     ghost call = { Contains (record { 0 = 0 }) };
 }
 
-/// How a step of a call, other than the first step, changes the view of its seat (the seat's knowledge of the run).
+/// How a step of a call, except the first step, changes the view of its seat (what the seat knows about the run).
 pub struct Step<M> {
     machine: PhantomData<M>,
 }
@@ -43,8 +43,8 @@ impl<M: Machine> Play<(), View> for Step<M> {
     ghost then = { onward M.table };
 }
 
-/// How the first step of a call changes the view of its seat (the seat's knowledge of the run). The call starts with
-/// this step.
+/// How the first step of a call changes the view of its seat (what the seat knows about the run). The call starts with
+/// its first step.
 pub struct FirstStep<M, J> {
     machine: PhantomData<M>,
     asking: PhantomData<J>,
@@ -54,8 +54,8 @@ impl<M: Machine, J: Asking> Play<(), View> for FirstStep<M, J> {
     ghost then = { starting M.table J.call };
 }
 
-/// The views of both seats (their knowledge of the run) after a split. A spare thread of the old seat becomes the
-/// thread of the new seat.
+/// The views of two seats (what each seat knows about the run) after a split, in which a spare thread of the old seat
+/// becomes the thread of the new seat.
 pub struct SplitSeat;
 
 impl Split<View> for SplitSeat {
@@ -64,8 +64,8 @@ impl Split<View> for SplitSeat {
     ghost right = { right_view };
 }
 
-/// The view of a seat (its knowledge of the run) after another seat was merged into it: the seat now also knows the
-/// other seat's threads and record.
+/// The view of a seat (what the seat knows about the run) after another seat was merged into it. The seat then also has
+/// the other seat's threads and record.
 pub struct JoinSeats;
 
 impl Join<View> for JoinSeats {
@@ -74,7 +74,7 @@ impl Join<View> for JoinSeats {
     ghost spent = { nobody };
 }
 
-/// The views of a seat and a receipt (their knowledge of the run) after the seat issues the receipt, or after the
+/// The views of a seat and a receipt (what each knows about the run) after the seat issues the receipt, or after the
 /// receipt is copied. The seat's view does not change. The receipt has seen the same events as the seat, and has no
 /// threads.
 pub struct GiveReceipt;
@@ -85,8 +85,8 @@ impl Split<View> for GiveReceipt {
     ghost right = { without_thread };
 }
 
-/// The view of a seat (its knowledge of the run) after it uses a receipt: the seat has then seen all events that the
-/// seat or the receipt had seen.
+/// The view of a seat (what the seat knows about the run) after it uses a receipt: the seat has then seen all events
+/// that the seat or the receipt had seen.
 pub struct TakeReceipt;
 
 impl Join<View> for TakeReceipt {
@@ -95,9 +95,9 @@ impl Join<View> for TakeReceipt {
     ghost spent = { nobody };
 }
 
-/// How the first load of a seat changes the seat's view (its knowledge of the run) after a merge or after it uses a
-/// receipt. The load shows that the seat has seen both lists of events: its own, and that of the other seat or the
-/// receipt.
+/// How the first load of a seat after a merge, or after the use of a receipt, changes the seat's view (what the seat
+/// knows about the run). The load shows that the seat has seen two lists of events: its own, and that of the merged
+/// seat or the receipt.
 pub struct Learn<M> {
     machine: PhantomData<M>,
 }

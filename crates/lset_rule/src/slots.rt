@@ -1,5 +1,4 @@
-//! The slots of a thread (nodes for the keys that it can still add), and the other state that a thread keeps between
-//! two calls.
+//! The slots of a thread (nodes reserved for its adds), and the other state that a thread keeps between two calls.
 ghost use Rattle.std.specs.Prelude.{◌≡◌};
 ghost use Rattle.lset_steps.specs.Steps.{idle};
 ghost use Rattle.lset_rule.specs.OwnSlots.{slots_of, resting};
@@ -7,7 +6,7 @@ ghost use Rattle.lset_rule.specs.OwnSlots.{slots_of, resting};
 use lset_steps::Local;
 use lset_words::{Call, Key, Layout};
 
-/// The state that a thread keeps between two calls: its number, the number of its slots (nodes for keys that it adds),
+/// The state that a thread keeps between two calls: its number, the number of its slots (nodes reserved for its adds),
 /// and how many slots it has used. The rest of its private state does not affect the next call.
 #[derive(Clone, Copy)]
 pub struct OwnSlots {
@@ -17,7 +16,7 @@ pub struct OwnSlots {
 }
 
 impl OwnSlots {
-    /// Returns the slots of thread `thread` (nodes for keys that it adds) before its first call.
+    /// Returns the slots of thread `thread` (nodes reserved for its adds) before its first call.
     pub fn unused(layout: &Layout, thread: u32) -> OwnSlots
         ensures { result ≡ slots_of (idle layout.now.quota thread) }
     {
@@ -39,7 +38,8 @@ impl OwnSlots {
         }
     }
 
-    /// Returns the private state of a thread that has these slots (nodes for keys that it adds) and no pending call.
+    /// Returns the private state of a thread that has the given slots (nodes reserved for its adds) and no pending
+    /// call.
     pub(crate) fn resting(self) -> Local
         ensures { result ≡ resting self }
     {

@@ -1,4 +1,4 @@
-//! The view of a seat: its knowledge of the run, as data for contracts. (A seat is a thread's handle to the set.) No
+//! The view of a seat (one thread's access to the set): what the seat knows about the run, as data for contracts. No
 //! views exist at run time.
 ghost use Rattle.std.specs.Prelude.{◌≡◌};
 ghost use Rattle.lset_words.specs.Words.{Opening};
@@ -8,8 +8,8 @@ use lset_words::{Call, Reply};
 use std::collections::LinkedList;
 use std::marker::Model;
 
-/// What a set was opened with: the number of threads, the number of keys that each thread can add (its quota), and the
-/// opening keys (the keys at the start). These never change.
+/// The parameters with which a set was opened: the number of threads, the quota (how many successful adds each thread
+/// may make), and the opening keys. The parameters never change.
 #[derive(Drop)]
 pub struct Opened {
     threads: u32,
@@ -24,8 +24,8 @@ impl Model for Opened {
 }
 
 impl Opened {
-    /// Returns the opening of a set that contains `keys` at the start. The set has `threads` threads, and each of them
-    /// can add `quota` keys.
+    /// Returns the parameters of a set that opens with the keys `keys` and `threads` threads, each of which may make
+    /// `quota` successful adds.
     pub fn new(threads: u32, quota: u32, keys: Vec<u32>) -> Opened
         ensures { result ≡ record { threads = threads; quota = quota; keys = keys.items } }
     {
@@ -37,7 +37,7 @@ impl Opened {
     }
 }
 
-/// A completed call in the record of a seat (per-thread handle).
+/// A completed call in the record of a seat (one thread's access to the set).
 pub struct OwnCall {
     pub call: Call,
     pub reply: Reply,
@@ -56,31 +56,31 @@ pub struct PendingCall {
     pub steps: u64,
 }
 
-/// The record of a seat (per-thread handle): its completed calls, and the records of the seats merged into it
-/// (gathered), oldest first.
+/// The record of a seat (one thread's access to the set): its completed calls, and the records of the seats that were
+/// merged into it (gathered), oldest first.
 pub enum Past {
-    /// The record of the thread with this number, which has completed no calls yet.
+    /// The record of the thread with the given number, which has completed no calls yet.
     Fresh(u32),
     /// An earlier record of a seat, and the call that the seat's own thread completed next.
     Called(&'static Past, OwnCall),
-    /// An earlier record of a seat (per-thread handle), and the record of another seat that was then merged into this
-    /// seat.
+    /// An earlier record of a seat (one thread's access to the set), and the record of another seat that was then
+    /// merged into the first seat.
     Gathered(&'static Past, &'static Past),
 }
 
-/// A spare thread: an idle thread that a seat (per-thread handle) has in addition to its own thread.
+/// A spare thread: an idle thread that a seat (one thread's access to the set) has in addition to its own thread.
 pub struct SpareThread {
     pub thread: u32,
     pub local: Local,
 }
 
-/// A view: the knowledge of a seat (per-thread handle) about the run.
+/// A view: what a seat (one thread's access to the set) knows about the run.
 pub struct View {
-    /// Whether the view has no threads. This is true for the view of a receipt, and for a seat that was merged into
-    /// another seat. For such a view, the invariant states only which events it has seen.
+    /// Whether the view has no threads, because it belongs to a receipt, or to a seat that was merged into another
+    /// seat. For a view without threads, the invariant states only which events it has seen.
     pub spent: bool,
-    /// What the set was opened with: its number of threads, its quota (how many keys each thread can add), and its keys
-    /// at the start.
+    /// The parameters with which the set was opened: its number of threads, its quota (how many successful adds each
+    /// thread may make), and its opening keys.
     pub shape: Opened,
     /// The number of the seat's own thread: the thread that the seat calls as.
     pub thread: u32,
@@ -89,16 +89,15 @@ pub struct View {
     pub local: Local,
     /// The pending call of the seat's own thread.
     pub under: Option<PendingCall>,
-    /// The idle threads that the seat has in addition to its own. They came from seats that were merged into this
-    /// seat, or have not been split off yet.
+    /// The idle threads that the seat has in addition to its own thread. They came from merged seats, or have not been
+    /// split off yet.
     pub others: LinkedList<SpareThread>,
-    /// The seat's completed calls, and the records of the seats merged into it.
+    /// The seat's completed calls, and the records of the seats that were merged into it.
     pub past: Past,
     /// The events that the seat has seen, oldest first.
     pub seen: LinkedList<Event>,
-    /// The events that this seat had seen before another seat was merged into it, or before it used a receipt.
+    /// The events that the seat had seen before its last merge or its last use of a receipt.
     pub ours: LinkedList<Event>,
-    /// The events that the other seat had seen before it was merged into this seat, or the events of the receipt that
-    /// this seat used.
+    /// The events that the merged seat had seen before the last merge, or the events of the receipt that was used last.
     pub theirs: LinkedList<Event>,
 }

@@ -13,20 +13,20 @@ use atomic_table::{Seat, Shared};
 use lset_steps::{Action, Machine};
 use lset_words::Call;
 
-/// A seat on the shared words: a per-thread handle to the set. A seat is a zero-sized token; its view (its knowledge of
-/// the run) exists only in contracts.
+/// A seat on the shared words: one thread's access to the set. A seat is a zero-sized token; its view (what the seat
+/// knows about the run) exists only in contracts.
 pub type TableSeat = Seat<(), View>;
 
 /// The shared words of a set with the list `M`: the locks, the counts, and the keys and links of the nodes.
 pub type Words<M> = Shared<(), View, Opened, Follows<M>>;
 
-/// Executes a step of a pending call, other than its first step.
+/// Executes a step of a pending call, except the first step.
 ///
-/// `place` is a seat (per-thread handle) on the words `table` with a pending call. `action` is the action that the step
-/// table has at the call's current row. Returns the value that the step saw: the value that was loaded or stored, or
-/// the value that a compare-and-exchange found. (An exchange has succeeded if and only if it found the expected value.)
-/// The table's function `feed` computes the thread's next private state from this value. After the step, the seat has
-/// seen all events up to this step.
+/// `place` is a seat (one thread's access to the set) on the words `table`, with a pending call. `action` is the action
+/// that the step table has at the call's current row. Returns the value that the step saw: the value that was loaded or
+/// stored, or the value that a compare-and-exchange found. (An exchange succeeds exactly if it finds the expected
+/// value.) The step table's function `feed` computes the thread's next private state from the returned value. After the
+/// step, the seat has seen all events up to and including the step.
 #[inline(always)]
 pub fn step_on<M: Machine>(table: &Words<M>, place: &mut TableSeat, action: Action) -> u64
     requires place { IsOf table.now.table_id table.now.key place.old }
@@ -50,10 +50,10 @@ pub fn step_on<M: Machine>(table: &Words<M>, place: &mut TableSeat, action: Acti
 
 /// Starts a call and executes its first step. The call starts after all events that the seat had seen.
 ///
-/// `place` is an idle seat (per-thread handle) on the words `table`. The key of `call` must be smaller than the key of
-/// the tail. `action` is the action that the step table has at the call's first row. Returns the value that the step
-/// saw: the value that was loaded or stored, or the value that a compare-and-exchange found. The table's function
-/// `feed` computes the thread's next private state from this value.
+/// `place` is an idle seat (one thread's access to the set) on the words `table`. The key of `call` must be less than
+/// the key of the tail. `action` is the action that the step table has at the call's first row. Returns the value that
+/// the step saw: the value that was loaded or stored, or the value that a compare-and-exchange found. The step table's
+/// function `feed` computes the thread's next private state from the returned value.
 #[inline(always)]
 pub fn start_on<M: Machine, J: Asking>(
     table: &Words<M>,

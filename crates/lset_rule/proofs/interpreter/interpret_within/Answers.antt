@@ -18,8 +18,8 @@ loop-round-init g c = (
   c.start_on-seen.ensures.place,
 )
 
--- After the second step of a round, the interpreted call has reached the state that this step returned. `third` and
--- `fourth` state the same about the next two steps.
+-- After the second step of a round, the interpreted call has reached the state that the second step returned. `third`
+-- and `fourth` make the corresponding statements about the third and the fourth step.
 second : (g : Over) (c : After-one_step-second g) →
     Reached g.M.Machine.table c.args.call c.args.place.now c.one_step-second.result.fed c.one_step-second.new.place
 second g c =
