@@ -1,7 +1,7 @@
 -- Proof that a list with locks is free from livelock. Only a call that has decided what to change writes a word other
 -- than a lock, and the call then has at most 5 steps left. Between two writes to words other than locks, each thread
--- takes at most as many steps as a call that runs alone. A potential, computed from these two bounds on steps,
--- decreases with each counted step (each step that is not a failed attempt to take a lock).
+-- takes at most as many steps as a call that runs alone. A potential, computed from the two bounds on steps, decreases
+-- with each counted step (each step that is not a failed attempt to take a lock).
 use Rattle.std.specs.Prelude.{◌≡◌, ◌≢◌, ℕ, ◌+◌, ◌*◌, ◌%◌, ◌<◌, ◌≤◌, ◌⊎◌, List, if◌then◌else◌, ◌==◌, nat_lt, true, false, refl}
 use Rattle.std.specs.Prelude.{slice_index, slice_set}
 use Rattle.std.proofs.Common.{arith, inl, inr, sym, ◌∙◌, ap, subst, suc}

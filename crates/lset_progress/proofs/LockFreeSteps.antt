@@ -1,5 +1,5 @@
--- Proofs about what a step of LockFreeList that does not end its call can change in the nodes. Such a step never links
--- a node, because an `add` links its node in its last step.
+-- Proofs about what a step of LockFreeList that does not end its call can change in the nodes. A step that does not end
+-- its call never links a node, because an `add` links its node in its last step.
 use Rattle.std.specs.Prelude.{◌≡◌, ◌≢◌, ℕ, ◌<◌, ◌≤◌, ◌⊎◌, Bool, true, false, Option, Some, None, ◌||◌, refl}
 use Rattle.std.proofs.Common.{arith, inl, inr, sym, ◌∙◌, ap, subst, suc}
 use Rattle.lset_words.proofs.Numbers.{same_or_not}

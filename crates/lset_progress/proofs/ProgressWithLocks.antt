@@ -33,7 +33,7 @@ pub record Shows (T : Table) (S : Shape) (most : Sizes → ℕ) : Type 0 where
   pub calm_alone : (op : Opening) (last k t : ℕ) (es : ℕ → Event) → Run T op es last → k ≤ last
       → NoOtherHolds (sizes op) (state_at T op es k) t → S.calm (state_at T op es k).words (local_of (state_at T op es k) t)
 
--- Returns the value that an exchange expects to find in its word. For any other action, returns `other`.
+-- Returns the value that an exchange expects to find in the word, or `other` if the action is not an exchange.
 abbrev expected : Action → ℕ → ℕ
 expected (Exchange x old new) other = old
 expected a other = other

@@ -30,8 +30,8 @@ IsJudgeKept opening calls None = calls ≡ []
 IsJudgeKept opening calls (Some j) =
     IsJudgeOf all_threads opening calls j × IsLatest calls (moment_of j.stream) × (length calls ≤ moment_of j.stream)
 
--- Holds if the keys increase strictly, there are at most 2^32 of them, and there are at most k of them for each key k
--- that can be appended.
+-- Holds if `keys` increases strictly, has at most 2^32 elements, and has at most k elements for each key k that can be
+-- appended.
 pub record AreKeys (keys : List ℕ) : Type 0 where
   pub increase : IsStrictlyIncreasing keys
   pub below : (k : ℕ) → is_above keys k ≡ true → length keys ≤ k

@@ -43,8 +43,7 @@ impl<M: Machine> Play<(), View> for Step<M> {
     ghost then = { onward M.table };
 }
 
-/// How the first step of a call changes the view of its seat (what the seat knows about the run). The call starts with
-/// its first step.
+/// How the start of a call and its first step change the view of the call's seat (what the seat knows about the run).
 pub struct FirstStep<M, J> {
     machine: PhantomData<M>,
     asking: PhantomData<J>,

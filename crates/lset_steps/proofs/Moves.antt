@@ -1,5 +1,5 @@
--- Moves (the changes that one step can make to the nodes of a list), and assertions about earlier moments. Only proofs
--- use these definitions.
+-- Moves (the changes that one step can make to the nodes of a list), and assertions about earlier moments, for proofs
+-- only.
 use Rattle.std.specs.Prelude.{◌≡◌, ◌≢◌, ℕ, ◌+◌, ◌*◌, ◌/◌, ◌%◌, ◌<◌, ◌≤◌, ◌⊎◌, Bool, true, false, Option, Some, None}
 use Rattle.lset_words.specs.declared.Key.{Key}
 use Rattle.lset_steps.specs.Chain.{View, InChain, InContent, IsOrdered, Seen}
@@ -21,7 +21,7 @@ pub record Quiet (v w : View) : Type 0 where
   pub grows : (i : ℕ) → v.published i → w.published i
   pub published_from : (i : ℕ) → w.published i → v.published i
 
--- An insertion: links the new node `own` with key `k` between `pred` and the next node.
+-- An insertion of the new node `own`, which has key `k`, between `pred` and the node after `pred`.
 pub record Inserts (v w : View) (pred own k : ℕ) : Type 0 where
   pub keys : (i : ℕ) → v.published i → w.key i ≡ v.key i
   pub links : (i : ℕ) → v.published i → i ≢ pred → w.link i ≡ v.link i
@@ -39,7 +39,8 @@ pub record Inserts (v w : View) (pred own k : ℕ) : Type 0 where
   pub own_published : w.published own
   pub published_from : (i : ℕ) → w.published i → v.published i ⊎ (i ≡ own)
 
--- A step that marks node `b`, which has key `k`, as removed. `v` and `w` are the nodes before and after the step.
+-- A step that marks node `b`, which has key `k`, as removed. `v` and `w` are the views (nodes and locks) before and
+-- after the step.
 pub record Marks (v w : View) (b k : ℕ) : Type 0 where
   pub keys : (i : ℕ) → v.published i → w.key i ≡ v.key i
   pub links : (i : ℕ) → v.published i → i ≢ b → w.link i ≡ v.link i
@@ -100,7 +101,7 @@ pub record Had (vs : ℕ → View) (first now k : ℕ) : Type 0 where
   pub upto : at ≤ now
   pub has : InContent (vs at) k
 
--- Holds if key k was not in the set at some moment from `first` to `now`.
+-- Holds if key k was absent from the set at some moment from `first` to `now`.
 pub record Lacked (vs : ℕ → View) (first now k : ℕ) : Type 0 where
   pub at : ℕ
   pub from : first ≤ at

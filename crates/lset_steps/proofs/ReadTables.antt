@@ -1,4 +1,4 @@
--- Lemmas about step tables with rows 20 to 25 of `ReadRows` for `contains` and `ceiling`.
+-- Lemmas about step tables that have the rows of `ReadRows` (rows 20 to 25, for `contains` and `ceiling`).
 use Rattle.std.specs.Prelude.{◌≡◌, ◌⊎◌, ℕ, None}
 use Rattle.std.proofs.Common.{inl, inr, sym, subst}
 use Rattle.lset_words.specs.declared.Call.{Call}

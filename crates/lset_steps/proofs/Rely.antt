@@ -1,5 +1,5 @@
--- The rely condition of lists that write links only while the thread holds node locks: the properties that a step of
--- one thread preserves for another thread.
+-- The rely condition of lists in which a thread writes links only while it holds node locks: the properties that a step
+-- of one thread preserves for all other threads.
 use Rattle.std.specs.Prelude.{◌≡◌, ◌≢◌, ℕ, ◌+◌, ◌*◌, ◌<◌, ◌⊎◌, Bool, Option, List, slice_index, slice_set, refl}
 use Rattle.std.proofs.Common.{arith, inl, inr, sym, ◌∙◌, ap}
 use Rattle.lset_words.proofs.Numbers.{same_or_not}

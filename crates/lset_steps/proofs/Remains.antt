@@ -1,5 +1,5 @@
--- The rely condition of every list, with or without locks: the properties that a step of one thread preserves for
--- another thread.
+-- The rely condition of every list, with or without locks: the properties that a step of one thread preserves for all
+-- other threads.
 use Rattle.std.specs.Prelude.{◌≡◌, ◌≢◌, ℕ, ◌+◌, ◌*◌, ◌%◌, ◌<◌, Bool, Option, List, refl}
 use Rattle.std.proofs.Common.{arith, inl, sym}
 use Rattle.lset_words.specs.Words.{slot_node, Sizes}

@@ -88,7 +88,7 @@ pub record StepLaws (T : Table) (op : Opening) (es : ℕ → Event) (k t : ℕ) 
   pub same_call : (T.feed l (seen_next T s t)).local.call ≡ l.call
   -- The step changes the set's keys by exactly `change`.
   pub content : Changed change (views T op es k) (views T op es (suc k))
-  -- The thread's pending call is allowed to make this change.
+  -- The thread's pending call may make the change `change`.
   pub by_call : MayChange op.quota l.used l.call (has_changed (log_of T op es) t k) change
   pub counts : (T.feed l (seen_next T s t)).local.used ≡ count_after change l.used
   -- The call ends exactly if the step has a reply, and the reply, if any, is correct.

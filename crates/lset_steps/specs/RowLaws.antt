@@ -1,4 +1,4 @@
--- The behavior of single rows of a step table. Proofs use these laws instead of the whole table.
+-- The behavior of single rows of a step table. Proofs use the laws of single rows instead of the whole table.
 use Rattle.std.specs.Prelude.{◌≡◌, ℕ, ◌/◌, Bool, Option, None}
 use Rattle.lset_words.specs.declared.Key.{Key}
 use Rattle.lset_words.specs.declared.Call.{Call}
@@ -23,7 +23,7 @@ nothing l seen = None
 -- Holds if `contains` and `ceiling` begin at rows 20 to 25 of the step table, which take no lock.
 pub record HasReading (T : Table) : Type 0 where
   pub begins : (call : Call) (l : Local) → T.begin call l ≡ begun_reading call l
-  -- Row 20 of the step table: a `contains` loads the link of a node. It starts at the head.
+  -- Row 20 of the step table: a `contains`, which starts at the head, loads the link of a node.
   pub row_20 : Does T 20 (λ l. Load (link_index l.curr)) (λ l seen. continued (record l { pc = 21; curr = seen / 2 })) nothing
   -- Row 21 of the step table: a `contains` loads the key of the next node, and compares it with the call's own key.
   pub row_21 : Does T 21 (λ l. Load (key_index l.curr)) read_key nothing

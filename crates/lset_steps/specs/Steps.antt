@@ -132,7 +132,7 @@ pub record Run (T : Table) (op : Opening) (es : ℕ → Event) (last : ℕ) : Ty
   pub opens : Opens op
   pub enabled : (k : ℕ) → k < last → Enabled (state_at T op es k) (es k)
 
--- Converts a list of events to a function from an event's number, counted from 0, to the event.
+-- Returns the function that maps each event's number, counted from 0, to the event.
 abbrev pub event_at : List Event → ℕ → Event
 event_at es k = slice_index_or es k (Go 0)
 

@@ -84,9 +84,9 @@ pub fn named_change<M: Machine>()
     ensures { NamedChange M.table }
 {}
 
-/// Lemma: a call that ends replies `True` if it has changed the set. Otherwise its reply is correct for the keys that
-/// the set has at some moment of the call. (Herlihy and Wing's linearizability; the moments are those of O'Hearn and
-/// others' hindsight.)
+/// Lemma: the reply of a call that ends is correct. It is `True` if the call has changed the set, and otherwise it is
+/// correct for the keys that the set has at some moment of the call. (Herlihy and Wing's linearizability; the moments
+/// are those of O'Hearn and others' hindsight.)
 pub fn replies_fit<M: Machine>()
     ensures { RepliesFit M.table }
 {}

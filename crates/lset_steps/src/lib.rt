@@ -138,7 +138,8 @@ pub trait Machine {
 /// A machine (a list algorithm as a table of steps) with a `contains` that takes no lock and writes nothing. Therefore
 /// a `contains` never waits for another thread (Herlihy and Shavit's wait-free `contains`).
 pub trait OpenReads: Machine {
-    /// Returns the maximum number of steps that a `contains` takes, whatever the other threads do. Each step is a load.
+    /// Returns the maximum number of steps that a `contains` takes, whatever the other threads do. Each step of a
+    /// `contains` is a load.
     fn bound(layout: &Layout) -> u64
         ensures { result ≡ most_reads layout.now }
     {

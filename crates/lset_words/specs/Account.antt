@@ -42,8 +42,8 @@ MayChange quota count call changed None = Unit {0}
 MayChange quota count call changed (Some (k, true)) = (call ≡ Add k) × (changed ≡ false) × (count < quota)
 MayChange quota count call changed (Some (k, false)) = (call ≡ Remove k) × (changed ≡ false)
 
--- Holds if the last argument is the smallest key of the set `content` that is not less than `k`, or is `None` and the
--- set has no such key.
+-- Holds if the last argument is the smallest key in `content` that is not less than `k`, or is `None` and every key in
+-- `content` is less than `k`.
 abbrev pub IsCeiling : Content → ℕ → Option ℕ → Type 0
 IsCeiling content k None = (j : ℕ) → k ≤ j → content j → ⊥
 IsCeiling content k (Some x) = (k ≤ x) × content x × ((j : ℕ) → k ≤ j → j < x → content j → ⊥)

@@ -26,7 +26,7 @@ pub record IsCall (threads : ℕ) (x : CallRecord) : Type 0 where
 pub record Follows (y x : CallRecord) : Type 0 where
   -- `y` begins before `x`.
   pub increasing : y.begun < x.begun
-  -- The two calls begin and end at different moments.
+  -- `x` and `y` begin and end at different moments.
   pub begins_alone : IfSome y.ended (λ (e : ℕ × Reply). e.0 ≢ x.begun)
   pub ends_alone : IfSome x.ended (λ (e : ℕ × Reply). (e.0 ≢ y.begun) × IfSome y.ended (λ (d : ℕ × Reply). e.0 ≢ d.0))
   -- If one thread makes both calls, `y` ends before `x` begins.
@@ -42,7 +42,7 @@ pub record IsHistory (threads : ℕ) (calls : List CallRecord) : Type 0 where
   pub each : All (IsCall threads) calls
   pub pairs : AllPairs Follows calls
 
--- Holds if the first call ends before the second begins.
+-- Holds if the call `earlier` ends before the call `later` begins.
 abbrev pub Precedes : CallRecord → CallRecord → Type 0
 Precedes earlier later = IsSomeAnd earlier.ended (λ (e : ℕ × Reply). e.0 < later.begun)
 

@@ -19,7 +19,7 @@ pub enum Effect {
     Changes(Presence),
     /// The call found its key present or absent, and changed nothing.
     Sees(Presence),
-    /// The reply shows nothing about the key: the call is a `ceiling`, or a set never gives the call such a reply.
+    /// The reply shows nothing about the key, because the call is a `ceiling`, or the reply is impossible for the call.
     Other,
 }
 

@@ -2,8 +2,8 @@
 
 use crate::{Call, Reply};
 
-/// A call of a history (Herlihy and Wing): its thread, the call, the moment when it begins, and the moment when it ends
-/// with its reply. A moment is a logical time, counted from 1. A call without an end is pending.
+/// A call of a history (Herlihy and Wing): the thread, the call, the moment when the call begins, and the moment when
+/// the call ends with its reply. A moment is a logical time, counted from 1. A call without an end is pending.
 #[derive(Clone, Copy, Debug, PartialEq, Eq)]
 pub struct CallRecord {
     pub thread: u32,
