@@ -52,9 +52,9 @@ pub fn fine_calls_end_alone()
     ensures { CallsEndAlone fine fine_steps }
 {}
 
-/// Theorem: if no other thread holds a lock of an OptimisticList with N nodes, a call that runs alone ends within `8N +
-/// 9` steps. The call starts again at most once, because validation fails only if another thread has changed nodes that
-/// the call read. (Solo termination, of Herlihy and Shavit's optimistic list.)
+/// Theorem: if no other thread holds a lock of an OptimisticList with N nodes, a call that runs alone ends within
+/// `8N + 9` steps. The call starts again at most once, because validation fails only if another thread has changed
+/// nodes that the call read. (Solo termination, of Herlihy and Shavit's optimistic list.)
 #[tactic(auto, using(crate::proofs::OptimisticProgress::optimistic_calls_end))]
 pub fn optimistic_calls_end_alone()
     ensures { CallsEndAlone optimistic optimistic_steps }

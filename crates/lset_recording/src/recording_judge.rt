@@ -22,9 +22,9 @@ const FIRST_LINE: u64 = 1;
 /// The verdict on a recording, counts of its calls, and whether the recording was cut off.
 #[derive(Debug, Drop)]
 pub struct RecordingAnswer {
-    /// Whether the recorded calls are linearizable, which means that the calls, made one by one in some order (calls that
-    /// do not overlap keep their order), return the recorded replies and leave the final keys. If the calls are not
-    /// linearizable, the verdict has the reason.
+    /// Whether the recorded calls are linearizable, which means that the calls, made one by one in some order (calls
+    /// that do not overlap keep their order), return the recorded replies and leave the final keys. If the calls are
+    /// not linearizable, the verdict has the reason.
     pub verdict: Verdict,
     /// The number of calls in the recording.
     pub calls: u64,
