@@ -1,8 +1,8 @@
 //! Progress of the five lists, as laws about the runs of their step tables. Each law is the contract of an empty
 //! function. The laws hold for every schedule, except that freedom from deadlock assumes a fair schedule.
 //!
-//! In the bounds, N is the number of nodes: the head, the tail, one node for each slot (successful add that a thread
-//! may make), and one node for each opening key.
+//! In the bounds, N is the number of nodes: the head, the tail, one node for each successful add that each thread may
+//! make, and one node for each opening key.
 #![tactic(auto)]
 
 ghost use Rattle.std.specs.Prelude.{Bool};

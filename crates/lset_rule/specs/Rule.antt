@@ -28,8 +28,8 @@ IsQuiet v es = AllByRecursion (λ e. ¬ (HasThread v (thread_of e))) es
 
 -- Holds if v, the view of seat j (what the seat knows about the run), matches the events of all threads. The view has
 -- seen a prefix of all events, and only threads of other seats executed the later events. Seat j shares no thread with
--- any other seat. After a join or the use of a receipt, the view stores two more prefixes of all events, `ours` and
--- `theirs`.
+-- any other seat. After a join or the use of a receipt (the events that another seat has seen), the view stores two
+-- more prefixes of all events, `ours` and `theirs`.
 pub record MatchesLog (m : Table) (k : Opening) (log : List Event) (seat_of : ℕ → ℕ) (j : ℕ) (v : View) : Type 0 where
   pub shape : v.shape ≡ k
   pub rest : List Event
@@ -47,8 +47,9 @@ StandsIn views j t = (v : View) × (get_elem? views j ≡ some v) × (v.spent �
 
 -- The invariant: some run ends with the words in memory, and the view of each seat (what the seat knows about the run)
 -- matches the events of the run. Each thread belongs to exactly one seat. If a seat is dropped, its view remains. A
--- view is spent if it belongs to a receipt, or to a seat that was merged into another seat. A spent view has no
--- threads, but the events that it has seen are also a prefix of the run.
+-- view is spent if it belongs to a receipt (the events that a seat has seen, for use by another seat), or to a seat
+-- that was merged into another seat. A spent view has no threads, but the events that it has seen are also a prefix of
+-- the run.
 pub record Holds (m : Table) (k : Opening) (s : table.State (Unit {0}) View) : Type 0 where
   pub log : List Event
   pub ran : IsRunOf m k log
@@ -122,8 +123,8 @@ informed v w = record v {
 }
 
 -- Returns the view of a seat (what the seat knows about the run) after another seat has joined it. The seat gets the
--- other seat's threads and record, and learns of the other seat's events as if the other seat were a receipt. The view
--- of the other seat is spent.
+-- other seat's threads and record, and learns of the events that the other seat has seen. The view of the other seat is
+-- spent.
 abbrev pub joined : View → View → View
 joined v w = record (informed v w) {
   others = v.others ++ record { thread = w.thread; local = w.local } ∷ w.others;
@@ -138,9 +139,9 @@ nobody = record (opener (record { threads = 0; quota = 0; keys = [] })) { spent 
 abbrev pub without_thread : View → View
 without_thread v = record v { spent = true }
 
--- Holds if the first load after a seat joins another seat or uses a receipt can have the given effect. The load shows
--- that both lists of events that the seat keeps are prefixes of the events that the seat has seen. The seat then drops
--- both lists.
+-- Holds if the first load after a seat (one thread's access to the set) joins another seat or uses a receipt can have
+-- the given effect. The load shows that both lists of events that the seat keeps are prefixes of the events that the
+-- seat has seen. The seat then drops both lists.
 abbrev pub learned : Table → Step (Unit {0}) → Me (Unit {0}) View → ℕ → Me (Unit {0}) View → Type 0
 learned m st me n me' =
     (me'.0 ≡ record me.0 { ours = []; theirs = [] }) × Stands m me'.0

@@ -41,13 +41,13 @@ pub record Stands (m : Table) (v : View) : Type 0 where
   -- Each spare thread is idle, and has the private state that the view (what a seat knows about the run) stores.
   pub others : AreIdle (at_end m v.shape v.seen) v.thread v.past v.others
   pub in_range : (t : ℕ) → HasThread v t → t < v.shape.threads
-  -- The record of calls belongs to the seat's own thread. The seat's record and the records that were merged into it
-  -- belong to different threads, all of which the seat has.
+  -- The record of calls belongs to the own thread of the seat (one thread's access to the set). The seat's record and
+  -- the records that were merged into it belong to different threads, all of which the seat has.
   pub of_thread : root v.past ≡ v.thread
   pub apart : Apart v.past
   pub named : (u : ℕ) → IsIn u v.past → HasThread v u
-  -- If a record was merged in before a call by the seat's own thread, all calls in the merged record ended before the
-  -- call started. The condition also applies inside each merged record.
+  -- If another record was merged into the record before a call by the record's own thread, all calls in the merged
+  -- record ended before the call started. The condition also applies inside each merged record.
   pub ordered : InOrder v.past
   -- All calls in the record have ended, and they ended before the pending call started.
   pub ended : Before (length v.seen + 1) v.past

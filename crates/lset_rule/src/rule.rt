@@ -74,8 +74,8 @@ impl Join<View> for JoinSeats {
 }
 
 /// The views of a seat and a receipt (what each knows about the run) after the seat issues the receipt, or after the
-/// receipt is copied. The seat's view does not change. The receipt has seen the same events as the seat, and has no
-/// threads.
+/// receipt is copied. The seat's view does not change. The receipt contains the events that the seat has seen, and has
+/// no threads.
 pub struct GiveReceipt;
 
 impl Split<View> for GiveReceipt {

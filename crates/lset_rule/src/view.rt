@@ -61,7 +61,8 @@ pub struct PendingCall {
 pub enum Past {
     /// The record of the thread with the given number, which has completed no calls yet.
     Fresh(u32),
-    /// An earlier record of a seat, and the call that the seat's own thread completed next.
+    /// An earlier record of a seat (one thread's access to the set), and the call that the seat's own thread completed
+    /// next.
     Called(&'static Past, OwnCall),
     /// An earlier record of a seat (one thread's access to the set), and the record of another seat that was then
     /// merged into the first seat.
@@ -76,28 +77,32 @@ pub struct SpareThread {
 
 /// A view: what a seat (one thread's access to the set) knows about the run.
 pub struct View {
-    /// Whether the view has no threads, because it belongs to a receipt, or to a seat that was merged into another
-    /// seat. For a view without threads, the invariant states only which events it has seen.
+    /// Whether the view has no threads, because it belongs to a receipt (the events that a seat has seen), or to a seat
+    /// that was merged into another seat. For a view without threads, the invariant states only which events it has
+    /// seen.
     pub spent: bool,
     /// The parameters with which the set was opened: its number of threads, its quota (how many successful adds each
     /// thread may make), and its opening keys.
     pub shape: Opened,
-    /// The number of the seat's own thread: the thread that the seat calls as.
+    /// The number of the seat's own thread: the thread that makes the calls of the seat.
     pub thread: u32,
     /// The private state of the seat's own thread: its row in the step table, and the nodes and values that it has
     /// read.
     pub local: Local,
     /// The pending call of the seat's own thread.
     pub under: Option<PendingCall>,
-    /// The idle threads that the seat has in addition to its own thread. They came from merged seats, or have not been
-    /// split off yet.
+    /// The idle threads that the seat (one thread's access to the set) has in addition to its own thread. They came
+    /// from merged seats, or have not been split off yet.
     pub others: LinkedList<SpareThread>,
-    /// The seat's completed calls, and the records of the seats that were merged into it.
+    /// The completed calls of the seat (one thread's access to the set), and the records of the seats that were merged
+    /// into it.
     pub past: Past,
-    /// The events that the seat has seen, oldest first.
+    /// The events that the seat (one thread's access to the set) has seen, oldest first.
     pub seen: LinkedList<Event>,
-    /// The events that the seat had seen before its last merge or its last use of a receipt.
+    /// The events that the seat had seen before its last merge, or before its last use of a receipt (the events that
+    /// another seat has seen).
     pub ours: LinkedList<Event>,
-    /// The events that the merged seat had seen before the last merge, or the events of the receipt that was used last.
+    /// The events that the merged seat had seen before the last merge, or the events of the receipt that the seat used
+    /// last.
     pub theirs: LinkedList<Event>,
 }

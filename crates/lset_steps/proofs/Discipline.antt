@@ -29,8 +29,9 @@ use Rattle.lset_steps.proofs.Hindsight.{hindsight}
 use Rattle.lset_steps.proofs.Openings.{opening_local, none_used, opening_ordered, opening_memory}
 
 -- The type of a proof outline, which has an assertion for each row of a thread's step table (Owicki and Gries). The
--- arguments are the quota, the thread, the views (nodes and locks) at all moments so far, the moment when the call
--- began, the current moment, the current view, whether the call has changed the set, and the thread's private state.
+-- arguments are the quota (the successful adds that a thread may make), the thread, the views (nodes and locks) at all
+-- moments so far, the moment when the call began, the current moment, the current view, whether the call has changed
+-- the set, and the thread's private state.
 abbrev pub Outline : Type 1
 Outline = ℕ → ℕ → (ℕ → View) → ℕ → ℕ → View → Bool → Local → Type 0
 

@@ -78,7 +78,8 @@ abbrev pub UnmarkedInChain : Bool → View → Type 0
 UnmarkedInChain true v = (b : ℕ) → v.published b → v.link b % 2 ≡ 0 → InChain v b
 UnmarkedInChain false v = (b : ℕ) → v.published b → v.link b % 2 ≡ 0
 
--- [Content]: holds if `change` is exactly the change of the set's keys from view `v` to view `w`.
+-- [Content]: holds if `change` is exactly the change of the set's keys from view `v` (the nodes and locks before) to
+-- view `w` (the nodes and locks after).
 abbrev pub Changed : Option (Key × Bool) → View → View → Type 0
 Changed change v w = Changes change (InContent v) (InContent w)
 
@@ -91,9 +92,10 @@ counts_of vs moment thread = (vs moment).used thread
 abbrev pub FitsIn : ℕ → View → ℕ → Call → Reply → Type 0
 FitsIn quota v thread call reply = Fits quota (InContent v) (v.used thread) call reply
 
--- [Unlinked stays]: compares the published node i (one that has been in the chain) in view `v` and in a later view `w`.
--- The node is still published in `w` and has the same key. If the node is unlinked in `v`, it is unlinked in `w` and
--- has the same link. In a list that marks nodes, a node that is marked in `v` has the same link in `w`.
+-- [Unlinked stays]: compares the published node i (one that has been in the chain) in view `v` (nodes and locks) and in
+-- a later view `w`. The node is still published in `w` and has the same key. If the node is unlinked in `v`, it is
+-- unlinked in `w` and has the same link. In a list that marks nodes, a node that is marked in `v` has the same link in
+-- `w`.
 pub record UnlinkedStays (marks : Bool) (v w : View) (i : ℕ) : Type 0 where
   pub published : w.published i
   pub key : w.key i ≡ v.key i

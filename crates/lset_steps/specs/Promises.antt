@@ -1,6 +1,6 @@
 -- The consequences of the law of a machine (a list algorithm as a table of steps), each with its own name. In all of
--- them, `op` has the threads, quota, and opening keys of the set, the run consists of the first `last` events of `es`,
--- and `k` is a moment (the state after `k` events).
+-- them, `op` has the number of threads, the quota (successful adds per thread), and the opening keys of the set, the
+-- run consists of the first `last` events of `es`, and `k` is a moment (the state after `k` events).
 use Rattle.std.specs.Prelude.{◌≡◌, ◌≢◌, ℕ, zero, suc, ◌+◌, ◌%◌, ◌^◌, ◌<◌, ◌≤◌, ◌⊎◌, true, false, if◌then◌else◌, ◌==◌, List, []}
 use Rattle.std.specs.Prelude.{◌∷◌, ◌++◌, map, Option, Some, Contains, slice_index}
 use Rattle.std.specs.List.Sorted.{IsStrictlyIncreasing}

@@ -16,8 +16,9 @@ use Rattle.lset_steps.specs.declared.rows.Targets.{Targets}
 abbrev pub own_slot : Local → ℕ
 own_slot l = slot_node l.quota l.thread l.used
 
--- Returns the private state of a thread that has just begun a call at row `pc`. The thread keeps its number, its quota,
--- and its number of used slots (nodes reserved for adds). All other fields are as in an idle thread.
+-- Returns the private state of a thread that has just begun a call at row `pc`. The thread keeps its number, its quota
+-- (successful adds that it may make), and its number of used slots (nodes reserved for adds). All other fields are as
+-- in an idle thread.
 abbrev pub begun : ℕ → Call → Local → Local
 begun pc call l = record (idle l.quota l.thread) { used = l.used; call = call; pc = pc }
 

@@ -115,8 +115,8 @@ abbrev pub Enters : ℕ → ℕ → Log → Contents → Counts → ℕ → Entr
 Enters threads quota log contents counts k (began t call) = Begins threads log contents counts k t
 Enters threads quota log contents counts k (stepped t change reply) = Steps threads quota log contents counts k t change reply
 
--- Holds if `contents` and `counts` are the account of a run's first `last` events, which means that they agree with the
--- opening keys and with each entry of the log.
+-- Holds if `contents` (the keys at each moment) and `counts` (the successful adds at each moment) are the account of a
+-- run's first `last` events, which means that they agree with the opening keys and with each entry of the log.
 pub record Account (o : Opening) (last : ℕ) (log : Log) (contents : Contents) (counts : Counts) : Type 0 where
   -- Before the first event, the set contains exactly the opening keys. The opening keys increase strictly.
   pub increasing : IsStrictlyIncreasing o.keys

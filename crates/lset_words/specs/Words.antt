@@ -46,7 +46,8 @@ pub record Opens (o : Opening) : Type 0 where
   pub increasing : IsStrictlyIncreasing o.keys
   pub low : All (λ (k : ℕ). k < 2 ^ 32) o.keys
 
--- Holds if the error names the first size that is outside its limits, in the order threads, quota, opening keys.
+-- Holds if the error names the first size that is outside its limits, in the order threads, quota (successful adds per
+-- thread), opening keys.
 abbrev pub RefusesSizes : Sizes → LayoutFault → Type 0
 RefusesSizes s fault.Threads = (s.threads ≡ 0) ⊎ (MOST_THREADS < s.threads)
 RefusesSizes s fault.Quota = (0 < s.threads) × (s.threads ≤ MOST_THREADS) × (MOST_QUOTA < s.quota)
