@@ -141,9 +141,9 @@ module _ {sz : Sizes} {ws : List ℕ} {used : ℕ → ℕ} {t : ℕ} {vs : ℕ �
   abbrev size : ℕ
   size = node_count sz
 
-  -- Holds if a step with the outcome f ends its call or leaves the call with fewer remaining steps (`Then`). If the
-  -- chain had no marked node during a `ceiling`, the chain still has no marked node. k is the private state before the
-  -- step, and ws' are the words after the step.
+  -- Holds if a step with the outcome f ends its call or leaves the call with fewer remaining steps (`Then`), and if a
+  -- step of a `ceiling` whose chain has no marked node leaves the chain without marked nodes. k is the private state
+  -- before the step, and ws' are the words after the step.
   abbrev After : Local → List ℕ → Fed → Type 0
   After k ws' f = Then shape size key ws k Any key ws' f
       × (((r : Reply) × (f.answer ≡ Some r)) ⊎ ((23 ≤ k.pc → Plain ws) → 23 ≤ f.local.pc → Plain ws'))

@@ -61,8 +61,9 @@ pub fn optimistic_calls_end_alone()
 {}
 
 /// Theorem: if no other thread holds a lock of a LazyList with N nodes, a call that runs alone ends within `4N + 15`
-/// steps. The theorem includes `ceiling`, which starts again at a marked node, because a thread that has marked a node
-/// holds the node's lock until it has unlinked the node. (Solo termination, of Heller and others' lazy list.)
+/// steps. The theorem includes `ceiling`, although a `ceiling` starts again at a marked node: a thread that has marked
+/// a node holds the node's lock until it has unlinked the node, so no node of the chain is marked. (Solo termination,
+/// of Heller and others' lazy list.)
 #[tactic(auto, using(crate::proofs::LazyProgress::lazy_calls_end))]
 pub fn lazy_calls_end_alone()
     ensures { CallsEndAlone lazy lazy_steps }

@@ -1,4 +1,4 @@
--- Defines how the text of a recording is read, line by line. The result is the recording or the first error.
+-- How the text of a recording is read, line by line. The result is the recording or the first error.
 use Rattle.std.specs.Prelude.{◌≡◌, ℕ, ◌+◌, ◌<◌, ◌^◌, nat_lt, Bool, true, false, List, [], ◌∷◌, ◌++◌, length, codes, Option, Some, None, ◌⊎◌, IfSome}
 use Rattle.std.specs.Prelude.{Result, Ok, Err, if◌then◌else◌}
 use Rattle.std.specs.Str.{bytes_eq}

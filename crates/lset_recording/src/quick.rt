@@ -1,6 +1,6 @@
-//! A fast path for the lines of completed calls (most lines of a long recording). Each function reads a line in one
-//! pass, or returns `None` if the line does not contain a completed call. The caller then reads the line without the
-//! fast path.
+//! A fast path for the lines of completed calls (most lines of a long recording). Each function reads in one pass, and
+//! returns `None` if the line, valid or not, is not the line of a completed call. The caller then reads the line
+//! without the fast path.
 
 ghost use Rattle.std.specs.Prelude.{◌≡◌, ◌≤◌, ◌++◌, ◌∷◌, IfSome, List, ℕ, Ok, true, codes};
 ghost use Rattle.std.specs.Fmt.{decimal};

@@ -117,7 +117,8 @@ module _ {v w : View} {q t : ℕ} (r : Rely v w q t) where
   pub own_link_on : (x : ℕ) → v.used t < q → v.link (slot_node q t (v.used t)) ≡ x → w.link (slot_node q t (w.used t)) ≡ x
   own_link_on x room e = rw r.used (r.own_link room ∙ e)
 
--- Holds if a step is allowed, and writes the link of a node in the chain only if its thread holds the node's lock.
+-- Holds if a step is allowed, and writes the link of a node in the chain only if the thread that takes the step holds
+-- the node's lock.
 abbrev pub LockedStep : (marks : Bool) (sz : Sizes) (t : ℕ) (ws : List ℕ) (used : ℕ → ℕ) (a : Action) (ws' : List ℕ) (used' : ℕ →
     ℕ)
     (change : Option (Key × Bool)) → Type 0

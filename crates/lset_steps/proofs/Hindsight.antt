@@ -1,6 +1,6 @@
--- Hindsight (after O'Hearn and others): if a node was in the chain at some moment of a call, then at some moment of the
--- call, the node was in the chain with the link that it has now. Therefore the result of a walk without locks was
--- correct at some moment of the call.
+-- Hindsight (after O'Hearn and others): if a node was in the chain at some moment of a call, and has a certain link
+-- now, then at some moment of the call, the node was in the chain with that link. Therefore the result of a walk
+-- without locks was correct at some moment of the call.
 use Rattle.std.proofs.Common.{◌≡◌, ◌≢◌, ℕ, zero, suc, ◌+◌, ◌-◌, ◌/◌, ◌%◌, ◌<◌, ◌≤◌, ◌⊎◌, inl, inr, [], sym, refl, ap, subst, ◌∙◌, arith}
 use Rattle.lset_steps.specs.Chain.{View, InChain, IsOrdered, Seen}
 use Rattle.lset_steps.proofs.Moves.{KeepsNodes, Course, InPast, Had, Lacked}
@@ -42,8 +42,8 @@ unmarked_before vs n b m t r l h p even = elim (even_or_not ((vs m).link b)) [
     even_or_not x = grind arith
 
 -- Lemma (hindsight): if a node was in the chain at moment `m`, then at some moment from `m` to a later moment `t`, the
--- node was in the chain with the link that it has at `t`. Proof by induction on the moments, because a link changes
--- only while its node is in the chain.
+-- node was in the chain with the link that it has at `t`. Proof by induction on the moments, because the link of a node
+-- changes only while the node is in the chain.
 hindsight-by : (vs : ℕ → View) (n b d m t : ℕ) → Course vs n → t ≡ m + d → t ≤ n → InChain (vs m) b
     → Seen vs m t b ((vs t).link b)
 hindsight-by vs n b zero m t r e l i =

@@ -12,7 +12,7 @@ use Rattle.lset_words.specs.SequentialSet.{SetState, Answered, IsLegal}
 abbrev pub no_call : CallRecord
 no_call = record { thread = 0; call = call.Contains (record { 0 = 0 }); begun = 0; ended = None }
 
--- Returns the call with the given number in a history, counted from 0.
+-- Returns call number `number` of a history, counted from 0.
 abbrev pub call_numbered : List CallRecord → ℕ → CallRecord
 call_numbered history number = slice_index_or history number no_call
 

@@ -24,7 +24,7 @@ pub enum Effect {
 }
 
 impl Call {
-    /// Returns the effect of the call if it returns `reply`. An `add` that returns `Full` found its key absent.
+    /// Returns the effect of the call when its reply is `reply`. An `add` that returns `Full` found its key absent.
     pub fn effect(self, reply: Reply) -> Effect
         ensures { result ≡ effect_of self reply }
     {
