@@ -68,7 +68,7 @@ turns_rest left p lacks short =
     let one = slice_split_none (λ b. eqb b 10) p lacks in
     rw (append-nil p, one, few) refl
 
--- ---- Lemmas about a turn of a session: an answered line, or the reason why the session ends
+-- Lemmas about the turns of a session
 
 pub turns_quit : (left : ℕ) (e : Exchange) (q : Request) (later : List Turn) → turn_of e ≡ line q → q ≡ request.Quit
     → turns_after left q later ≡ turn_of e ∷ []
@@ -133,8 +133,8 @@ heard_long left left' q p' r w w' n whole lacks many wrote = record {
   count = omega arith;
 }
 
--- Assumptions of the lemmas below: a session in state t has read a newline. Its current line is now complete and has
--- the request q, which the session answers.
+-- Assumptions of the lemmas below: a session in state `t` has read a newline, which completes a line that contains the
+-- request `q`. The session answers `q`.
 module _ (t : Talk) (talk : IsTalk t) (left' : ℕ) (p' : List ℕ) (r r' : Record) (w w' : Option (List ℕ)) (n' : ℕ)
     (e : Exchange) (q : Request) (asked : q ≡ request_of (pending_of t)) (is : turn_of e ≡ line q)
     (recorded : r' ≡ with_calls r (call_of e)) (count : n' ≡ t.calls + counted q) where

@@ -9,11 +9,11 @@ inner_of d = d.inner
 abbrev pub is_failed : {T : Type 0} → Device T → Bool
 is_failed d = d.failed
 
--- Holds if a proper prefix of the text was written.
+-- Holds if only a proper prefix of `text` was written.
 abbrev pub CutShort : Option (List ℕ) → Option (List ℕ) → List ℕ → Type 0
 CutShort old new text = (front : List ℕ) × (b : ℕ) × (cut : List ℕ) × (text ≡ front ++ b ∷ cut) × Appends old new front
 
--- Holds if the whole text was written and `whole` is true, or if only a proper prefix of the text was written and
--- `whole` is false.
+-- Holds if `whole` is true and the whole text was written, or `whole` is false and only a proper prefix of the text was
+-- written.
 abbrev pub Writes : Bool → Option (List ℕ) → Option (List ℕ) → List ℕ → Type 0
 Writes whole old new text = MatchBool whole (Appends old new text) (CutShort old new text)

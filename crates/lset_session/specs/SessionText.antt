@@ -1,5 +1,5 @@
--- [Session text]: the requests in the lines of a session, and the answers to them. The definitions cut all bytes of the
--- input into lines at once.
+-- [Session text]: the requests in the lines of a session, and the answers to the requests. The definitions cut the
+-- whole input into lines at once.
 use Rattle.std.specs.Prelude.{ℕ, ◌-◌, ◌==◌, nat_lt, List, [], ◌∷◌, ◌++◌, map, length, codes, if◌then◌else◌}
 use Rattle.std.specs.Fmt.{decimal}
 use Rattle.std.specs.List.{flat_map}
@@ -23,7 +23,7 @@ use Rattle.lset_session.specs.declared.sessions.EndReason.TheVariants as why
 
 -- ---- The request in a line
 
--- Returns the pattern of a request line: the name of a call, and a key.
+-- Returns the pattern of a request line that consists of the name of a call and a key.
 abbrev pub call_line : List ℕ → (Key → Call) → LineKind Request
 call_line name call = (word name ∷ any ∷ [], λ t. request.Call (call (record { 0 = t.1.0 })))
 
@@ -36,28 +36,28 @@ request_lines =
 abbrev pub request_of_pieces : List (List ℕ) → Request
 request_of_pieces pieces = result_unwrap_or (first_of Two Line request_lines pieces) request.Bad
 
--- Returns the request in a line, passed without its newline.
+-- Returns the request in `line`, which does not include the newline.
 unfoldable pub request_of : List ℕ → Request
 request_of line = request_of_pieces (cut_at 32 line)
 
 -- ---- The requests in the bytes of a session
 
--- A turn of a session: a line with its request, a line that is too long, or the notice that the limit of answered lines
--- is reached.
+-- A turn of a session: a line with its request, a line that is too long, or the notice that the session has answered
+-- the maximum number of lines.
 pub data Turn : Type 0 where
   line : Request → Turn
   long : Turn
   limit : Turn
 
--- Returns the turns of a session that starts with a line with this request. `later` contains the turns of the following
--- lines. No turn follows QUIT. If `left` is 1, the session can answer only this line, and the turn for the limit
--- follows.
+-- Returns the turns of a session whose first line contains the given request. `later` contains the turns of the
+-- following lines. No turn follows `QUIT`. If `left` is 1, the session can answer only the first line, and the notice
+-- of the limit follows.
 abbrev pub turns_after : ℕ → Request → List Turn → List Turn
 turns_after left request.Quit later = line request.Quit ∷ []
 turns_after left other later = line other ∷ (if left == 1 then limit ∷ [] else later)
 
--- Returns the turns of an input that was cut into lines. The session can answer `left` lines. The last part of the
--- input has no newline, and causes a turn only if it is too long.
+-- Returns the turns of a session that can answer `left` lines. The input is given as a list of lines. The part of the
+-- input after the last newline causes a turn only if that part is too long.
 abbrev pub turns_at : ℕ → List (List ℕ) → List Turn
 turns_at left [] = []
 turns_at left (rest ∷ []) = if nat_lt LONGEST_LINE (length rest) then long ∷ [] else []
@@ -68,7 +68,7 @@ turns_at left (first ∷ next ∷ more) =
 unfoldable pub turns_of : List ℕ → List Turn
 turns_of bytes = turns_at MOST_LINES (cut_at 10 bytes)
 
--- Returns the reason why a session ends with this turn, or `otherwise` if it does not end.
+-- Returns the reason why a session ends with the given turn, or `otherwise` if the turn does not end the session.
 abbrev pub end_after : Turn → EndReason → EndReason
 end_after (line request.Quit) otherwise = why.Quit
 end_after (line other) otherwise = otherwise
@@ -103,7 +103,7 @@ reply_word reply.Full = codes "FULL"
 reply_word (reply.At k) = codes "AT " ++ decimal k.0
 reply_word reply.Nothing = codes "NONE"
 
--- Returns the bytes that a session writes to answer one line, with the newline.
+-- Returns the answer that a session writes to one line, including the newline.
 abbrev pub answer_of : Exchange → List ℕ
 answer_of (made c) = ended (reply_word c.reply)
 answer_of bad = ended (codes "BAD")

@@ -69,7 +69,7 @@ impl<O: Sink> Buffer<O> {
     }
 
     /// Copies as much of `text` into the buffer as fits, and returns the number of bytes copied. If the buffer is full,
-    /// first writes the answers in it. Returns `None` if this write fails.
+    /// first writes the buffered answers, and returns `None` if writing them fails.
     fn write(&mut self, text: &[u8]) -> Option<usize>
         ensures { IfSome result (λ n. (n ≤ length text.now) × (0 < length text.now → 0 < n)) }
     {
@@ -136,13 +136,13 @@ impl<O: Sink> Sink for Buffered<'_, O> {
     }
 }
 
-/// Serves one client as `session` does, but buffers up to 4,096 bytes of answers. Writes them before each read of
-/// `reader`, when the buffer is full, and at the end of the session. `reader` and `writer` must not have failed, and
-/// `seat` (a per-thread handle) must belong to `set`.
+/// Serves one client as `session` does, but buffers up to 4,096 bytes of answers. The buffered answers are written
+/// before each read of `reader`, when the buffer is full, and at the end of the session. `reader` and `writer` must not
+/// have failed, and `seat` (a per-thread handle) must belong to `set`.
 ///
 /// If a write fails, the session ends with `WriteFault` and writes nothing more. The bytes written are then a prefix of
-/// the answers. A call counts as made even if its answer was not written. Blocks when its set, its reader or its writer
-/// does. Does not allocate.
+/// the answers. A call is counted even if its answer was not written. Blocks if `set`, `reader` or `writer` blocks.
+/// Does not allocate.
 pub fn buffered_session<R: Wait, I: Source + Drop, O: Sink + Drop, S: SetCalls>(
     rt: &R,
     reader: I,

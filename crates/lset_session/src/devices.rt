@@ -10,10 +10,10 @@ pub trait Source {
     /// The bytes that have not been read yet, if they are known.
     ghost remaining: { Self → Option (List ℕ) };
 
-    /// States whether a read has failed, that is, has returned `None`.
+    /// Returns `true` if a read has failed, that is, has returned `None`.
     ghost has_failed: { Self → Bool };
 
-    /// Reads bytes to the start of `buffer` and returns their number. Returns 0 only at the end of the input or if
+    /// Reads bytes into the start of `buffer` and returns their number. Returns 0 only at the end of the input or if
     /// `buffer` is empty, and `None` if the read fails.
     fn read(&mut self, buffer: &mut [u8]) -> Option<usize>
         requires works { has_failed self.old ≡ false }
@@ -29,7 +29,7 @@ pub trait Sink {
     /// The bytes that have been written, if they are known.
     ghost written: { Self → Option (List ℕ) };
 
-    /// States whether a write has failed, that is, has returned `None`.
+    /// Returns `true` if a write has failed, that is, has returned `None`.
     ghost has_failed: { Self → Bool };
 
     /// Writes a prefix of `text` and returns its length, which is at least 1 unless `text` is empty. Returns `None` if

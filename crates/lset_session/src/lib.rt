@@ -1,6 +1,6 @@
 //! Sessions: a client sends one request per line, and the session answers each request. A session reads from any
-//! `Source`, writes to any `Sink`, and calls any set that implements `SetCalls`. It calls through one seat of the set,
-//! a per-thread handle.
+//! `Source`, writes to any `Sink`, and calls any set that implements `SetCalls`. A session makes all its calls through
+//! one seat (a per-thread handle) of the set.
 #![tactic(auto)]
 
 mod buffered;

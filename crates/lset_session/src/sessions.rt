@@ -1,5 +1,5 @@
-//! Sessions: a session reads lines from a reader, makes the calls in them on a set, and writes the answers to a writer.
-//! The session calls from one seat of the set. A seat is a per-thread handle: one thread calls the set through it.
+//! Sessions: a session reads lines from a reader, executes the call in each line on a set, and writes the answers to a
+//! writer. A session makes all its calls through one seat (a per-thread handle) of the set.
 ghost use Rattle.std.specs.Prelude.{◌≡◌, ◌≤◌, ◌↔◌, ◌∷◌, [], Bool, true, false, IsTrue, if◌then◌else◌, length, None};
 ghost use Rattle.lset_words.specs.Records.{with_calls};
 ghost use Rattle.lset_session.specs.Devices.{Writes};
@@ -50,7 +50,7 @@ struct Talk {
     calls: u64,
 }
 
-/// Returns the answer line for a call with this reply. The longest such line is `AT 4294967295`.
+/// Returns the answer line for a call that returned `reply`. The longest such line is `AT 4294967295`.
 fn reply_line(reply: Reply) -> ArrayString<14>
     ensures { result.bytes ≡ ended (reply_word reply) }
 {
@@ -69,7 +69,8 @@ fn reply_line(reply: Reply) -> ArrayString<14>
     line
 }
 
-/// Executes the call of a request and writes the answer. Returns whether the whole answer was written.
+/// Answers a request line: executes the line's call and writes the reply, or writes `BYE` or `BAD`. Returns whether the
+/// whole answer was written.
 fn answer<R: Wait, W: Sink, S: SetCalls>(
     rt: &R,
     writer: &mut W,
@@ -96,7 +97,7 @@ fn answer<R: Wait, W: Sink, S: SetCalls>(
 }
 
 /// Writes `text`, the last line of a session. Returns the reason why the session ends: `why` if the whole line was
-/// written, and otherwise `WriteFault`.
+/// written, otherwise `WriteFault`.
 fn last_line<W: Sink>(writer: &mut W, text: &[u8], why: EndReason) -> EndReason
     requires works { W.has_failed writer.old ≡ false }
     ensures { (whole : Bool) × (result ≡ (if whole then why else EndReason.WriteFault))
@@ -120,8 +121,8 @@ fn count_of(request: Request) -> u64
     }
 }
 
-/// Answers the current line, which is complete. If the session ends with this line, returns the reason, otherwise
-/// `None`.
+/// Answers the current line, which is complete. Returns the reason why the session ends after the line, or `None` if
+/// the session continues.
 fn line_in<R: Wait, W: Sink, S: SetCalls>(
     rt: &R,
     writer: &mut W,
@@ -154,7 +155,8 @@ fn line_in<R: Wait, W: Sink, S: SetCalls>(
     None
 }
 
-/// Processes one byte of the input. If the session ends with this byte, returns the reason, otherwise `None`.
+/// Processes one byte of the input. Returns the reason why the session ends with `byte`, or `None` if the session
+/// continues.
 fn byte_in<R: Wait, W: Sink, S: SetCalls>(
     rt: &R,
     writer: &mut W,
@@ -183,7 +185,8 @@ fn byte_in<R: Wait, W: Sink, S: SetCalls>(
     None
 }
 
-/// Processes the bytes of one read. If the session ends within these bytes, returns the reason, otherwise `None`.
+/// Processes the bytes of one read. Returns the reason why the session ends within `bytes`, or `None` if the session
+/// continues.
 fn bytes_in<R: Wait, W: Sink, S: SetCalls>(
     rt: &R,
     writer: &mut W,
@@ -209,8 +212,9 @@ fn bytes_in<R: Wait, W: Sink, S: SetCalls>(
     None
 }
 
-/// Serves one client: reads lines from `reader`, makes their calls from `seat` (a per-thread handle), which must belong
-/// to `set`, and writes an answer for each line to `writer`. `reader` and `writer` must not have failed.
+/// Serves one client: reads lines from `reader`, executes the call in each line, and writes an answer to each line to
+/// `writer`. The calls are made through `seat` (a per-thread handle), which must belong to `set`. `reader` and `writer`
+/// must not have failed.
 ///
 /// Each line ends with a newline. A line `ADD k`, `REMOVE k`, `CONTAINS k` or `CEILING k` is answered with `TRUE`,
 /// `FALSE`, `FULL`, `AT x` (the key x) or `NONE` (no key). `QUIT` is answered with `BYE`, and any other line with
@@ -223,7 +227,7 @@ fn bytes_in<R: Wait, W: Sink, S: SetCalls>(
 /// - `Limit`: 1,000,000 lines were answered, the last was not `QUIT`, and `LIMIT` was written;
 /// - `ReadFault`, `WriteFault`: a read or a write failed. The calls made until then are counted.
 ///
-/// Can block when its set, its reader or its writer does. Does not allocate.
+/// Blocks if `set`, `reader` or `writer` blocks. Does not allocate.
 pub fn session<R: Wait, I: Source, O: Sink, S: SetCalls>(
     rt: &R,
     reader: &mut I,
