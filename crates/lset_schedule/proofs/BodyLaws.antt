@@ -1,5 +1,5 @@
--- Proof: the lines after a header and the content read from these lines determine each other, for every kind of text
--- with event lines (schedules and drafts).
+-- Proof: the lines after a header determine the content that is read from them, and the content determines the lines.
+-- Applies to every kind of text with event lines (schedules and drafts).
 use Rattle.std.proofs.Common.{◌≡◌, ℕ, ◌+◌, ◌<◌, ◌≤◌, ◌^◌, inl, inr, Bool, true, false, cond, ltb, List, [], ◌∷◌, ◌++◌, map}
 use Rattle.std.proofs.Common.{length, Result, Ok, Err, refl, sym, ap, subst, ◌∙◌, arith, append_assoc, codes}
 use Rattle.std.specs.Fmt.{decimal}
@@ -44,8 +44,8 @@ room_for_events : {L : Type 0} (b : Bool) (s t : BodyValue L) → cond b (Err To
 room_for_events true s t is = absurd cc
 room_for_events false s t is = (refl, ok_is s t is)
 
--- Holds if the content s can be written in version v of the format: s is within the limits, and version v can express
--- the lines and the opening keys (keys at the start) of s.
+-- Holds if the content `s` can be written in version `v` of the format: `s` is within the limits, and `v` has the lines
+-- and the opening keys (keys at the start) that `s` contains.
 pub record HasText {L : Type 0} (text : EventLines L) (v : Version) (Good : L → Type 0) (s : BodyValue L) : Type 0 where
   pub opens : Opens (record { threads = s.header.threads; quota = s.header.quota; keys = s.keys })
   pub opening : HasOpening v s.keys
@@ -106,7 +106,7 @@ module _ {L : Type 0} (text : EventLines L) (v : Version) (title : List ℕ) (pi
 
   -- ---- Lemmas about a single line
 
-  -- Holds if the content t can be written, and its text is the text of s followed by the line x.
+  -- Holds if the content `t` can be written, and its text consists of the text of `s` and the additional line `x`.
   abbrev Adds : BodyValue L → List ℕ → BodyValue L → Type 0
   Adds s x t = HasText text v Good t × (text_lines t ≡ text_lines s ++ x ∷ [])
 
@@ -169,7 +169,7 @@ module _ {L : Type 0} (text : EventLines L) (v : Version) (title : List ℕ) (pi
         line_found_lacks v Event item_pieces IsItem kinds x i.0 known i.1,
       )
 
-  -- ---- Proof that a written text can be read
+  -- Proof that each written text can be read
 
   event_step : (s : BodyValue L) (l : L) → Good l → sum_by text.count s.lines + text.count l ≤ MOST_EVENTS
       → with_line text v s (line_text l) ≡ Ok (record s { lines = s.lines ++ l ∷ [] })
@@ -207,7 +207,7 @@ module _ {L : Type 0} (text : EventLines L) (v : Version) (title : List ℕ) (pi
       has.opens has.opening (λ front k two room low above. key_step t.header front k two low room above))
       (events_lead t t.lines has.lines has.few)
 
-  -- ---- Proof for whole texts
+  -- Proof for complete texts
 
   starts : (h : Header) → IsHeader h → HasText text v Good (no_lines h)
   starts h is = record {

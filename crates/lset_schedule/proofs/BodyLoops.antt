@@ -1,5 +1,5 @@
--- Lemmas about the loop that reads the lines after the header: the line that an error names, and the reason why no
--- line of a text has the error `Memory`.
+-- Lemmas about the loop that reads the lines after the header. They determine which line an error names, and show that
+-- no line causes the error `Memory` by its content.
 use Rattle.std.proofs.Common.{arith, ◌≡◌, ℕ, ◌+◌, inl, inr, Bool, true, false, cond, ltb, List, [], ◌∷◌, length, Option, Some}
 use Rattle.std.proofs.Common.{None, Result, Err, refl, codes}
 use Rattle.std.specs.Prelude.{MatchOption}
@@ -40,7 +40,7 @@ not_due text One ls line not = first_as event One Event text.kinds (cut_at 32 li
 not_due text Two [] line not = absurd (not refl refl)
 not_due text Two (l ∷ ls) line not = first_as event Two Event text.kinds (cut_at 32 line)
 
--- ---- The checks of a line never return `Memory`
+-- The checks of a line never return `Memory`
 
 either_fails : {A : Type 0} (b : Bool) (r s : Result A Cause) → (r ≡ Err Memory → ⊥) → (s ≡ Err Memory → ⊥)
     → cond b r s ≡ Err Memory → ⊥

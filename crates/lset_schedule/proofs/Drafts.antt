@@ -1,4 +1,4 @@
--- The invariant of `generate` between two turns. A turn draws at most one event.
+-- The invariant of the loop of `generate`. Each turn of the loop draws at most one event.
 use Rattle.std.proofs.Common.{◌≡◌, ℕ, zero, suc, List, [], ◌∷◌, map, slice_index_or, refl, ◌≢◌, ◌+◌, ◌^◌, ◌<◌, ◌≤◌, ◌⊎◌, inl, inr, IsTrue, ◌↔◌, false, ◌++◌, length}
 use Rattle.std.proofs.Common.{length-append, sym, ap, subst, ◌∙◌, arith}
 use Rattle.std.specs.List.{range_with_len, AllByRecursion, count_by, sum_by}
@@ -35,16 +35,16 @@ opening_rests n q t = idle_rests q t (range_with_len 0 n)
 abbrev pub Resting : State → ℕ → Type 0
 Resting s n = (t : ℕ) → t < n → (local_of s t).pc ≡ 0
 
--- Holds if `generate` has not begun its first turn (in a turn, it draws at most one event). No event has happened yet,
--- and all calls can still begin.
+-- Holds if `generate` has not begun its first turn. (Each turn draws at most one event.) No event has happened yet, and
+-- all calls can still begin.
 pub record IsUnbegun (turns n calls left : ℕ) (lines : List Line) (s : State) : Type 0 where
   pub turn : turns ≡ 0
   pub all_left : left ≡ calls
   pub none : lines ≡ []
   pub rest : Resting s n
 
--- The invariant of `generate` after `turns` turns, when `left` calls can still begin. The events of the lines are a run
--- that leads to the state in w.
+-- The invariant of `generate` after `turns` turns, when `left` more calls can begin. The events in `lines` are a run of
+-- the list, and the run leads to the state in `w`.
 pub record IsDraft (T : Table) (n q calls keys turns left : ℕ) (lines : List Line) (w : WorldState) : Type 0 where
   pub sized : w.sizes ≡ sizes (empty n q)
   pub run : RunsTo T (empty n q) (events_of_lines lines) w.state

@@ -8,8 +8,8 @@ use Rattle.rand_core.specs.Stream.{Stream}
 use Rattle.lset_words.specs.declared.Call.{Call}
 use Rattle.lset_schedule.specs.Draws.{drawn_call, drawn_calls}
 
--- Returns the calls in `drawn`, followed by the next `left` calls that the random numbers s select. Also returns the
--- remaining random numbers.
+-- Returns the calls in `drawn`, followed by `left` more calls that the random numbers `s` select. Also returns the
+-- unused random numbers.
 abbrev pub with_others : ℕ → ℕ → List Call → Stream → List Call × Stream
 with_others keys left drawn s = (drawn ++ (drawn_calls keys left s).0, (drawn_calls keys left s).1)
 

@@ -1,4 +1,5 @@
--- Proof: a text that can be read as a schedule is the text of this schedule, and the text of each schedule can be read.
+-- Proof: if a text can be read as a schedule, it is the text of that schedule, and reading the text of a schedule
+-- yields that schedule.
 use Rattle.std.proofs.Common.{◌≡◌, ℕ, ◌<◌, ◌^◌, inl, inr, List, [], ◌∷◌, ◌++◌, map, false, Result, Ok, Err, refl, ap, subst, ◌∙◌}
 use Rattle.std.proofs.Common.{sym, arith}
 use Rattle.std.specs.Prelude.{IfOk, MatchResult, ◌≢◌}
@@ -60,7 +61,7 @@ pub no_opening : (v : Version) (l : Line) → IsLine v l → have_form v opening
 no_opening v (Begin t c) is = refl
 no_opening v (Go t n) is = refl
 
--- ---- Proof for whole schedules
+-- Proof for complete schedules
 
 title_lacks : (v : Version) → Lacks 10 (title v)
 title_lacks One = Lacks-from_test 10 (title One) refl
@@ -84,7 +85,7 @@ reads_text p is =
     let parts : List (List ℕ) = header_lines (title v) (header_in p) ++ rest in
     ap plan_of again.0 ∙ ap (λ w. plan_in w parts) (version_again schedules refl v (header_in p) rest) ∙ rw again.1 refl
 
--- ---- Proof of the contract of each function that reads a schedule
+-- Proofs of the contracts of the functions that read a schedule
 
 is_memory : (c : Cause) → (c ≢ Memory → ⊥) → c ≡ Memory
 is_memory Memory h = refl

@@ -14,7 +14,7 @@ use Rattle.lset_schedule.specs.declared.value.Line.TheVariants as line
 use Rattle.lset_schedule.specs.declared.gen_fault.GenFault.{GenFault}
 use Rattle.lset_schedule.specs.declared.gen_fault.GenFault.TheVariants.{Threads, Quota, Keys, Memory}
 
--- Returns the events of a line. Each step of a `go` line is one event.
+-- Returns the events of a line. A `go` line is one event for each of its steps.
 abbrev pub events_of_line : Line → List Event
 events_of_line (line.Begin t call) = event.Begin t call ∷ []
 events_of_line (line.Go t steps) = replicate steps (event.Go t)
@@ -27,8 +27,8 @@ abbrev pub is_begin : Line → Bool
 is_begin (line.Begin t call) = true
 is_begin (line.Go t steps) = false
 
--- Holds if a line is one event of one of the threads. If the event begins a call, the key of the call is below `keys`,
--- and version 1 of the format can express this call.
+-- Holds if a line is a single event of a thread below `threads`. If the event begins a call, the key of the call must
+-- be below `keys`, and version 1 of the format must have the call.
 abbrev pub IsGeneratedLine : ℕ → ℕ → Line → Type 0
 IsGeneratedLine threads keys (line.Begin t call) = (t < threads) × ((key_of call).0 < keys) × HasCall One call
 IsGeneratedLine threads keys (line.Go t steps) = (t < threads) × (steps ≡ 1)
@@ -37,29 +37,29 @@ abbrev pub StartsWithBegin : List Line → Type 0
 StartsWithBegin [] = ⊥
 StartsWithBegin (l ∷ ls) = is_begin l ≡ true
 
--- Holds if thread t has no pending call after these events, on a set that is empty at the start.
+-- Holds if thread `t` has no pending call after the events `es`, on a set that is initially empty.
 abbrev pub NoneOpenAfter : Table → ℕ → ℕ → List Event → ℕ → Type 0
 NoneOpenAfter T threads quota es t = (local_of (state_at T (empty threads quota) (event_at es) (length es)) t).pc ≡ 0
 
--- The properties of each list of lines that `generate` returns for these arguments.
+-- The properties of every list of lines that `generate` returns for the given arguments.
 pub record IsGenerated (T : Table) (threads quota calls keys : ℕ) (lines : List Line) : Type 0 where
-  -- Each line is one event of one thread.
+  -- Each line is a single event of one of the threads.
   pub each : AllByRecursion (IsGeneratedLine threads keys) lines
   -- The events are a run of the list: each event is enabled when it happens.
   pub run : Run T (empty threads quota) (event_at (events_of_lines lines)) (length (events_of_lines lines))
   pub first : 0 < calls → StartsWithBegin lines
   pub few : count_by is_begin lines ≤ calls
-  -- With a single thread, all `calls` calls have begun and ended, unless the maximum number of events was reached.
+  -- With a single thread, all `calls` calls have begun and completed, unless the maximum number of events was reached.
   pub alone : threads ≡ 1
       → (length lines ≡ MOST_GENERATED)
       ⊎ ((count_by is_begin lines ≡ calls) × NoneOpenAfter T threads quota (events_of_lines lines) 0)
 
--- Holds if `generate` accepts these arguments.
+-- Holds if `generate` accepts the given arguments.
 abbrev pub IsAccepted : ℕ → ℕ → ℕ → Type 0
 IsAccepted threads quota keys = IsWithin (record { threads = threads; quota = quota; opening = 0 }) × (0 < keys)
 
--- Holds if `generate` can return this error for these arguments: the error of the first check that fails, or `Memory`
--- if no check fails.
+-- Holds if `generate` can return the given error for the given arguments: the error of the first check that fails, or
+-- `Memory` if no check fails.
 abbrev pub Refuses : ℕ → ℕ → ℕ → GenFault → Type 0
 Refuses threads quota keys Threads = (threads ≡ 0) ⊎ (MOST_THREADS < threads)
 Refuses threads quota keys Quota = (0 < threads) × (threads ≤ MOST_THREADS) × (MOST_QUOTA < quota)

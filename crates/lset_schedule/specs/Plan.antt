@@ -26,7 +26,7 @@ pub record Plan : Type 0 where
   pub opening : List ℕ
   pub lines : List Line
 
--- Returns a schedule with this version, header, opening keys (keys at the start) and lines.
+-- Returns the schedule with the given version, header, opening keys (keys at the start) and lines.
 abbrev pub planned : Version → Header → List ℕ → List Line → Plan
 planned v h keys lines = record {
   version = v;
@@ -43,8 +43,8 @@ view s = planned s.version (record { kind = s.kind; threads = s.threads; quota =
 abbrev pub header_in : Plan → Header
 header_in p = record { kind = p.kind; threads = p.threads; quota = p.quota }
 
--- Returns what the set of a schedule is opened with: the number of threads, the quota (the most successful adds of a
--- thread), and the opening keys (the keys at the start).
+-- Returns the arguments that open the set of a schedule: the number of threads, the quota (the maximum number of
+-- successful adds of a thread), and the opening keys (the keys at the start).
 abbrev pub opening_in : Plan → Opening
 opening_in p = record { threads = p.threads; quota = p.quota; keys = p.opening }
 
@@ -67,13 +67,13 @@ schedule_lines p = header_lines (title p.version) (header_in p) ++ (opening_line
 abbrev pub schedule_text : Plan → List ℕ
 schedule_text p = text_of (schedule_lines p)
 
--- Returns the number of the line with the first event in the text of a schedule. Lines are numbered from 1.
+-- Returns the line number of the first event in the text of a schedule. Lines are numbered from 1.
 abbrev pub first_event_line : Plan → ℕ
 first_event_line p = first_line + length p.opening
 
 -- ---- The limits of a schedule
 
--- Returns how many events a line counts as: the number of steps for a `go` line, else 1.
+-- Returns the number of events that a line counts as: the number of steps for a `go` line, otherwise 1.
 abbrev pub event_count : Line → ℕ
 event_count (Begin thread call) = 1
 event_count (Go thread steps) = steps
@@ -82,25 +82,25 @@ abbrev pub IsLine : Version → Line → Type 0
 IsLine version (Begin thread call) = (thread < 2 ^ 32) × ((key_of call).0 < 2 ^ 32) × HasCall version call
 IsLine version (Go thread steps) = (thread < 2 ^ 32) × (1 ≤ steps) × (steps ≤ MOST_STEPS)
 
--- The limits of a schedule. A text is read as a schedule only if the schedule is within these limits.
+-- The limits of a schedule. Every schedule that is read from a text satisfies them.
 pub record IsSchedule (p : Plan) : Type 0 where
   pub opens : Opens (opening_in p)
   pub opening : HasOpening p.version p.opening
   pub lines : AllByRecursion (IsLine p.version) p.lines
   pub few : sum_by event_count p.lines ≤ MOST_EVENTS
 
--- ---- The calls that a version of the format has
+-- The calls that each version of the format has
 
 abbrev pub HasCallOfLine : Version → Line → Type 0
 HasCallOfLine version (Begin thread call) = HasCall version call
 HasCallOfLine version (Go thread steps) = Unit {0}
 
--- Holds if the format version of a schedule can express each call that the schedule begins.
+-- Holds if the format version of a schedule has all calls that the schedule begins.
 abbrev pub HasCallsOfVersion : Plan → Type 0
 HasCallsOfVersion p = AllByRecursion (HasCallOfLine p.version) p.lines
 
--- Holds if a schedule can be written in its format version. The version must have all calls of the schedule and, if the
--- schedule has opening keys (keys at the start), lines for them. `IsSchedule` implies this condition (see
--- proofs/VersionLaws.antt).
+-- Holds if a schedule can be written in its format version. The version must have all calls that the schedule begins.
+-- If the schedule has opening keys (keys at the start), the version must also have lines for opening keys. Every
+-- schedule that satisfies `IsSchedule` can be written (see proofs/VersionLaws.antt).
 abbrev pub HasWordsOfVersion : Plan → Type 0
 HasWordsOfVersion p = HasOpening p.version p.opening × HasCallsOfVersion p

@@ -1,5 +1,5 @@
--- Defines the result of reading a schedule: its value, or the first error. Lines are read from the first to the last,
--- and the checks of a line have a fixed order.
+-- The result of reading a schedule: its value, or the first error. Lines are read from the first to the last, and each
+-- line is checked in a fixed order.
 use Rattle.std.specs.Prelude.{◌≡◌, ◌≢◌, ℕ, ◌+◌, ◌<◌, ◌≤◌, nat_lt, List, [], ◌∷◌, ◌++◌, length, map, codes, Result, Ok, Err}
 use Rattle.std.specs.Prelude.{if◌then◌else◌, ◌⊎◌}
 use Rattle.std.specs.List.{sum_by}
@@ -28,7 +28,7 @@ use Rattle.lset_schedule.specs.Plan.{Plan, planned, IsSchedule, title, schedule_
 
 -- ---- Reading the lines after the header: opening keys, then event lines
 
--- A kind of text with event lines: the patterns of these lines, and the number of events that each line counts as.
+-- A kind of text with event lines: the patterns of the event lines, and the number of events that each line counts as.
 pub record EventLines (L : Type 0) : Type 0 where
   pub kinds : List (LineKind L)
   pub count : L → ℕ
@@ -50,15 +50,15 @@ pub data Item (L : Type 0) : Type 0 where
 abbrev pub opening_kind : {L : Type 0} → LineKind (Item L)
 opening_kind = (opening_form, λ t. opens t.1.0)
 
--- Returns the possible patterns of the next line after the event lines ls. An opening key (a key at the start) is
+-- Returns the possible patterns of the line that follows the event lines `ls`. An opening key (a key at the start) is
 -- possible only in version 2, and only before all event lines.
 abbrev pub kinds_after : {L : Type 0} → EventLines L → Version → List L → List (LineKind (Item L))
 kinds_after text One ls = map (kind_as event) text.kinds
 kinds_after text Two [] = opening_kind ∷ map (kind_as event) text.kinds
 kinds_after text Two (l ∷ ls) = map (kind_as event) text.kinds
 
--- Returns the content of a text after the next line, or the error of this line. Each opening key (key at the start)
--- must be greater than the previous one. The numbers of opening keys and events are limited.
+-- Returns the content of a text after one more line, or the error in the line. Each opening key (key at the start) must
+-- be greater than the previous opening key. The numbers of opening keys and events are limited.
 abbrev pub with_item : {L : Type 0} → EventLines L → BodyValue L → Item L → Result (BodyValue L) Cause
 with_item text s (opens k) =
     if nat_lt (length s.keys) MOST_OPENING then (if is_above s.keys k then Ok (record s { keys = s.keys ++ k ∷ [] }) else Err Opening)
@@ -73,7 +73,7 @@ with_line text version s line = line_in version Event (kinds_after text version 
 abbrev pub grammar : {L : Type 0} → EventLines L → Version → Grammar (BodyValue L)
 grammar text version = record { step = with_line text version; ends = Ok }
 
--- Returns the grammar of texts of this version that begin with the line `title`.
+-- Returns the grammar of texts of the given version. The first line of such a text is `title`.
 abbrev pub texts : {L : Type 0} → EventLines L → Version → List ℕ → TextGrammar (BodyValue L)
 texts text version title = record { title = title; start = no_lines; lines = grammar text version }
 
@@ -91,13 +91,13 @@ events = record { kinds = begin_kind ∷ go_kind ∷ []; count = event_count }
 abbrev pub schedules : Version → TextGrammar (BodyValue Line)
 schedules version = texts events version (title version)
 
--- Reads the lines of a text as a schedule of this version.
+-- Reads the lines of a text as a schedule of the given version.
 abbrev pub plan_in : Version → List (List ℕ) → Result Plan LineFault
 plan_in version parts = text_from (schedules version) parts >>= λ told. Ok (planned version told.header told.keys told.lines)
 
--- Returns the format version of a schedule. It is version 2 if the first line of its text is the title of version 2,
--- else version 1. A title of version 2 without a newline counts as version 2. Either version rejects such a text with
--- the same error.
+-- Returns the format version of a schedule: version 2 if the first line of the text is the title of version 2, else
+-- version 1. A title of version 2 without a newline counts as version 2. Either version rejects a text that consists of
+-- a title without a newline, with the same error.
 abbrev pub version_told : List (List ℕ) → Version
 version_told parts = version_in (title Two) parts
 
@@ -107,20 +107,20 @@ plan_of parts = plan_in (version_told parts) parts
 abbrev pub reading : List ℕ → Result Plan LineFault
 reading bytes = plan_of (cut_at 10 bytes)
 
--- Reading inverts writing: a text that can be read as a schedule is the text of this schedule, and the text of each
--- schedule can be read.
+-- Reading inverts writing: if a text can be read as a schedule, it is the text of that schedule, and reading the text
+-- of a schedule yields that schedule.
 abbrev pub SchedulesReadBack : Type 0
 SchedulesReadBack = (p : Plan) (bytes : List ℕ)
     → (IsSchedule p → reading (schedule_text p) ≡ Ok p)
     × (reading bytes ≡ Ok p → IsSchedule p × (bytes ≡ schedule_text p))
 
--- Holds if a function returned the result `read`, or an allocation failed. `view` maps the value that the function
--- returned to the value in `read`.
+-- Holds if a function returned the result `read`, or if an allocation failed. `view` converts the function's value to
+-- the value in `read`.
 abbrev pub Gives : {X Y : Type 0} → (X → Y) → Result X LineFault → Result Y LineFault → Type 0
 Gives view (Ok x) read = read ≡ Ok (view x)
 Gives view (Err e) read = e.cause ≢ Memory → read ≡ Err e
 
--- Holds if `line` is a complete line after the header, and this line and all lines before it have no error.
+-- Holds if `line` is a complete line after the header, and neither `line` nor any line before it has an error.
 abbrev pub IsGoodAfterHeader : {X : Type 0} → List ℕ → Result X LineFault → ℕ → Type 0
 IsGoodAfterHeader bytes read line = (last_of_header < line) × lines.IsGoodLine 1 (cut_at 10 bytes) read line
 
@@ -136,8 +136,8 @@ told t = record { header = t.header; keys = t.opening.items; lines = t.lines.ite
 abbrev pub Counts : {L : Type 0} → EventLines L → TextBody L → Type 0
 Counts text t = (t.total ≡ sum_by text.count t.lines.items) × (t.total ≤ MOST_EVENTS)
 
--- Holds if a reader has processed a line as the grammar demands. The reader has extended its content, has returned the
--- error of the line, or has failed to allocate at a line without errors.
+-- Holds if a reader has processed a line as the grammar demands: the reader has extended its content, has returned the
+-- error in the line, or has failed to allocate memory for a line without errors.
 abbrev pub Takes : {L X : Type 0} → Result (BodyValue L) Cause → BodyValue L → Result X Cause → Type 0
 Takes next now (Ok x) = next ≡ Ok now
 Takes {L = L} next now (Err cause) = (next ≡ Err cause) ⊎ ((cause ≡ Memory) × (s : BodyValue L) × (next ≡ Ok s))

@@ -31,14 +31,14 @@ use lset_text::{Cause, Header, LineFault, Version, cut, is_above, number, read_h
 use lset_words::MOST_OPENING;
 use std::alloc::Global;
 
-/// An event line of a schedule or a draft. Schedules and drafts are texts with opening keys (the keys at the start),
-/// followed by event lines. Each kind of text has its own type of event lines.
+/// An event line of a schedule or a draft. A schedule or a draft consists of a header, opening keys (the keys at the
+/// start) and event lines. Schedules and drafts have different types of event lines.
 pub trait EventLine: Copy {
     /// The patterns of event lines, and the number of events that each line counts as.
     ghost lines: { EventLines Self };
 
-    /// Reads an event line, without its newline, of a text of this version. Returns `Event` if the line matches no
-    /// pattern, and `Number` if a field that must be a number is not a number, or is out of range.
+    /// Reads an event line of a text of format `version`, passed without its newline. Returns `Event` if the line
+    /// matches no pattern, and `Number` if a number in the line is malformed or out of range.
     fn read(version: Version, line: &[u8]) -> Result<Self, Cause>
         ensures { result ≡ line_in version Cause.Event lines.kinds line.now };
 
@@ -47,7 +47,7 @@ pub trait EventLine: Copy {
         ensures { result ≡ lines.count self };
 }
 
-/// Returns the second field `K` if the line is `opening K`, else `None`.
+/// Returns the second field `K` if the line is `opening K`, otherwise `None`.
 fn opening_piece(line: &[u8]) -> Option<&[u8]>
     ensures { MatchOption result (have_form Version.Two opening_form (cut_at 32 line.now) ≡ false)
         (λ key. cut_at 32 line.now ≡ codes "opening" ∷ key.now ∷ []) }
@@ -76,8 +76,8 @@ impl<L: EventLine> Body<L> {
         }
     }
 
-    /// Returns the second field `K` if the line is `opening K` and can be the line of an opening key (a key at the
-    /// start), else `None`. Opening keys are in version 2 only, and before all event lines.
+    /// Returns the second field `K` if the line is `opening K` and an opening key (a key at the start) is allowed at
+    /// this position, otherwise `None`. Opening keys are allowed only in version 2, and only before all event lines.
     fn key_due<'a>(&self, version: Version, line: &'a [u8]) -> Option<&'a [u8]>
         ensures { MatchOption result
             (line_in version Cause.Event (kinds_after L.lines version self.now.lines.items) line.now
@@ -140,7 +140,7 @@ impl<L: EventLine> Body<L> {
     }
 }
 
-/// Reads the lines after the header of a text of this version. Returns their content or the first error.
+/// Reads the lines after the header of a text of format `version`. Returns the content of the text, or the first error.
 fn read_body<L: EventLine>(
     alloc: Global,
     version: Version,
@@ -168,7 +168,8 @@ fn read_body<L: EventLine>(
     Ok(body)
 }
 
-/// Reads a text of this version, which begins with the line `title`. Returns its content or its first error. Allocates.
+/// Reads a text of format `version`, which begins with the line `title`. Returns the content of the text, or the first
+/// error. Allocates.
 #[tactic(auto, unfolding(lset_text::specs::Texts::text_from))]
 pub fn read_text<L: EventLine>(
     alloc: Global,

@@ -13,7 +13,7 @@ pub struct Body<L> {
     pub header: Header,
     pub opening: Vec<u32>,
     pub lines: Vec<L>,
-    /// The sum of `EventLine::count` over all lines: the total number of events that they count as.
+    /// The total number of events: the sum of `EventLine::count` over all lines.
     pub(crate) total: u32,
     ghost within: { IsHeader header },
     ghost increasing: { IsStrictlyIncreasing opening.items },

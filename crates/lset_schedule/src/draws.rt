@@ -11,8 +11,8 @@ use rand_core::{Rng, SeedableRng};
 use rand_pcg::Pcg32;
 use std::alloc::{AllocError, Global};
 
-/// Returns the call that two random numbers select: `a` selects the kind (`add`, `remove` or `contains`), and `b` the
-/// key, which is below `keys`.
+/// Returns the call that two random numbers select: `a` selects the kind (`add`, `remove` or `contains`), and `b`
+/// selects the key, which is below `keys`.
 #[tactic(auto, unfolding(crate::specs::Draws::chosen))]
 fn chosen(keys: u32, a: u32, b: u32) -> Call
     requires { 0 < keys }
@@ -28,7 +28,7 @@ fn chosen(keys: u32, a: u32, b: u32) -> Call
     }
 }
 
-/// Draws a random call with a key below `keys`, which must be at least 1.
+/// Draws a random call with a random key below `keys`. `keys` must be at least 1.
 #[tactic(auto, unfolding(crate::specs::Draws::drawn_call))]
 pub(crate) fn draw_call<R: Rng>(keys: u32, rng: &mut R) -> Call
     requires { 0 < keys }
@@ -41,7 +41,7 @@ pub(crate) fn draw_call<R: Rng>(keys: u32, rng: &mut R) -> Call
     chosen(keys, a, b)
 }
 
-/// Draws `calls` random calls with keys below `keys`, which must be at least 1.
+/// Draws `calls` random calls with random keys below `keys`. `keys` must be at least 1.
 fn draw_calls<R: Rng>(
     alloc: Global,
     calls: u32,
@@ -73,8 +73,7 @@ fn program(
     draw_calls(alloc, calls, keys, &mut rng)
 }
 
-/// Returns the layout of a set that is empty at the start. Fails with the error that `generate` and `programs` return
-/// for the same arguments.
+/// Returns the layout of an initially empty set. Returns the first error that `generate` finds in the same arguments.
 pub(crate) fn layout_to_draw(threads: u32, quota: u32, keys: u32) -> Result<Layout, GenFault>
     ensures sizes { IfOk result (λ l. l ≡ record { threads = threads; quota = quota; opening = 0 }) }
     ensures accepted { IfOk result (λ _. IsAccepted threads quota keys) }
@@ -89,9 +88,10 @@ pub(crate) fn layout_to_draw(threads: u32, quota: u32, keys: u32) -> Result<Layo
     }
 }
 
-/// Draws a random program of `calls` calls for each of `threads` threads, 1 to 64. The same arguments always return the
-/// same programs. Each thread has its own random generator, seeded with the wrapping sum of `seed` and the thread's
-/// number. Two random numbers select a call: one number its kind, the other its key below `keys`. Allocates.
+/// Draws a random program (list of calls) of `calls` calls for each of `threads` threads, 1 to 64. The same arguments
+/// always return the same programs. Each thread has its own random generator, seeded with the wrapping sum of `seed`
+/// and the thread's number. Two random numbers select each call: the first selects the kind, the second the key below
+/// `keys`. Allocates.
 ///
 /// # Errors
 ///

@@ -5,7 +5,7 @@ use lset_words::{MOST_QUOTA, MOST_THREADS};
 use std::alloc::{AllocError, AllocFailed};
 use thiserror::Error;
 
-/// The error of `generate` or `programs`. If several variants apply, the first of them is returned.
+/// The error of `generate` or `programs`. If several errors apply, the first variant is returned.
 #[derive(Clone, Copy, Debug, PartialEq, Eq, Error)]
 pub enum GenFault {
     /// The number of threads is 0 or above 64.

@@ -16,7 +16,7 @@ use rand_core::{Rng, SeedableRng};
 use rand_pcg::Pcg32;
 use std::alloc::{AllocError, Global};
 
-/// Returns the line of a schedule for one event.
+/// Returns the line of a schedule that consists of the given event.
 fn line_of(event: Event) -> Line
     ensures { result ≡ line_of_event event }
 {
@@ -26,7 +26,7 @@ fn line_of(event: Event) -> Line
     }
 }
 
-/// Returns the number of calls that can still begin after this event, if `left` calls could begin before the event.
+/// Returns how many calls can still begin after `event`, if `left` calls could begin before it.
 fn left_by(left: u32, event: Event) -> u32
     ensures { result ≡ left_after left event }
 {
@@ -49,8 +49,8 @@ fn has_open_call<M: Machine>(world: &World<M>, threads: u32) -> bool
     false
 }
 
-/// Returns whether the generator is finished after `events` events: the maximum is reached, or no call is pending and
-/// no further call can begin.
+/// Returns whether the generator is finished after `events` events: either the maximum number of events is reached, or
+/// no call is pending and no further call can begin.
 fn is_over<M: Machine>(world: &World<M>, threads: u32, events: usize, left: u32) -> bool
     requires threads { world.now.sizes.threads ≡ threads }
     requires locals { length world.now.state.locals ≡ threads }
@@ -62,8 +62,8 @@ fn is_over<M: Machine>(world: &World<M>, threads: u32, events: usize, left: u32)
     left == 0 && !has_open_call(world, threads)
 }
 
-/// Returns the event of a turn for `thread`: a step if the thread has a pending call, else the start of a random call.
-/// Returns `None` if the thread has no pending call and `left`, the number of calls that can still begin, is 0.
+/// Returns the event of a turn for `thread`: a step if the thread has a pending call, otherwise the start of a random
+/// call. Returns `None` if the thread has no pending call and `left`, the number of calls that can still begin, is 0.
 fn next_event<M: Machine, R: Rng>(
     world: &World<M>,
     thread: u32,
@@ -85,7 +85,7 @@ fn next_event<M: Machine, R: Rng>(
     Some(Event::Begin(thread, draw_call(keys, rng)))
 }
 
-/// Executes one event, which must be enabled, on the list.
+/// Executes one event on the list. The event must be enabled.
 fn make<M: Machine>(world: &mut World<M>, event: Event)
     requires enabled { Enabled world.old.state event }
     requires threads { length world.old.state.locals ≡ world.old.sizes.threads }
@@ -128,13 +128,13 @@ fn generated_lines<M: Machine, R: Rng>(
 }
 
 /// Draws a random schedule of at most 10,000 events, one on each line. The same arguments always return the same
-/// schedule. Its list is `M`, its version is 1, and `replay` accepts each of its events.
+/// schedule. The schedule is for the list `M` and has version 1, and `replay` accepts each of its events.
 ///
 /// `threads` must be 1 to 64, `quota` 0 to 16,384, and `keys` at least 1. All random numbers come from one generator,
-/// seeded with `seed`. The schedule is drawn in turns, at most 100,000. Each turn draws a thread. If the thread has a
+/// seeded with `seed`. The schedule is drawn in at most 100,000 turns. Each turn draws a thread. If the thread has a
 /// pending call, the call takes a step. Otherwise, if fewer than `calls` calls have begun, the thread begins a call,
-/// and two more numbers select its kind and its key below `keys`. The schedule ends when no call is pending and none
-/// can begin. Allocates.
+/// and two more random numbers select the kind of the call and its key below `keys`. The schedule ends when no call is
+/// pending and no more calls can begin. Allocates.
 ///
 /// # Errors
 ///

@@ -1,5 +1,5 @@
-//! Schedules: lists of events. An event starts a call, or is a step of a thread's pending call. This crate reads and
-//! writes the text of schedules, and draws random schedules.
+//! Schedules: lists of events. An event starts a call of a thread, or is a step of the thread's pending call. This
+//! crate reads and writes the text of schedules, and draws random schedules.
 #![tactic(auto)]
 
 mod body; // reads opening keys and event lines

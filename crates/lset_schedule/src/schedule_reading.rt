@@ -77,7 +77,7 @@ impl EventLine for Line {
     }
 }
 
-/// Returns the format version of a schedule, which depends only on the first line of its text.
+/// Returns the format version of a schedule. It depends only on the first line of the schedule's text.
 fn told_version(bytes: &[u8]) -> Version
     ensures { result ≡ version_told (cut_at 10 bytes.now) }
 {
@@ -104,30 +104,31 @@ fn schedule(alloc: Global, bytes: &[u8]) -> Result<Schedule, ScheduleFault>
 ///
 /// # Errors
 ///
-/// Returns the first line with an error, and the error. A line that has bytes but no newline has the cause `NotEnded`.
-/// For other lines, the first cause in the order of `Cause` applies. If a header line is missing, the cause is the same
-/// as for a wrong line in its place. In version 1, a line that exists only in version 2 has the cause `Event`. In
-/// either version, an opening key below an event has the cause `Event`. The cause is `Number` if a thread or a key is
-/// not a number up to 4294967295, or if the number of steps is not from 1 to 10000. It is `TooMany` if there are more
-/// than 1,000,000 events or 1,048,576 opening keys. If an allocation fails, the cause is `Memory`, at a line without
-/// another error.
+/// Returns the number of the first line with an error, and the cause of the error. A line that has bytes but no newline
+/// has the cause `NotEnded`. For other lines, the first cause in the order of `Cause` applies. A missing header line
+/// has the same cause as a wrong line in its place. In version 1, a line that exists only in version 2 has the cause
+/// `Event`. In either version, an opening key after an event line has the cause `Event`. The cause is `Number` if a
+/// thread or a key is not a number up to 4294967295, or if the number of steps is not from 1 to 10000. The cause is
+/// `TooMany` if there are more than 1,000,000 events or 1,048,576 opening keys. If an allocation fails, the cause is
+/// `Memory`, at a line without another error.
 #[tactic(auto, using(crate::proofs::ScheduleTextLaws::found_in, crate::proofs::ScheduleTextLaws::only_in))]
 pub fn read_schedule(alloc: Global, bytes: &[u8]) -> Result<Schedule, ScheduleFault>
-    // If a schedule is returned, it is within the limits, and the bytes are its text.
+    // If a schedule is returned, it is within the limits, and `bytes` is the text of the schedule.
     ensures found { IfOk result (λ s. IsSchedule (view s) × (bytes.now ≡ schedule_text (view s))) }
-    // If the text is that of a schedule within the limits, the result is this schedule, unless an allocation fails.
+    // If `bytes` is the text of a schedule within the limits, that schedule is returned, unless an allocation fails.
     ensures only { (p : Plan) → IsSchedule p → bytes.now ≡ schedule_text p
         → MatchResult result (λ s. view s ≡ p) (λ e. e.cause ≡ Cause.Memory) }
-    // The result is the result that `reading` defines, unless an allocation fails.
+    // The result is the one that `reading` defines, unless an allocation fails.
     ensures exact { Gives view result (reading bytes.now) }
-    // The error `Memory` names a line after the header. This line and all lines before it have no other error.
+    // The error `Memory` names a line after the header. Neither the named line nor any line before it has another
+    // error.
     ensures memory { IfErr result (λ e. e.cause ≡ Cause.Memory → IsGoodLine bytes.now e.line) }
 {
     schedule(alloc, bytes)
 }
 
-/// Lemma: reading inverts writing. A text that can be read as a schedule is the text of this schedule, and the text of
-/// every schedule can be read.
+/// Lemma: reading inverts writing. If a text can be read as a schedule, it is the text of that schedule, and reading
+/// the text of a schedule yields that schedule.
 pub fn schedules_read_back()
     ensures { SchedulesReadBack }
 {}

@@ -38,9 +38,10 @@ fn put_lines(out: &mut String, lines: &[Line]) -> Result<(), AllocError>
     Ok(())
 }
 
-/// Returns the text of a schedule. No other text is read as this schedule. Returns `AllocError` if an allocation fails.
+/// Returns the text of a schedule. Different schedules have different texts. Returns `AllocError` if an allocation
+/// fails.
 ///
-/// The schedule may contain only calls that its version has. In version 1, it may not have opening keys (keys at the
+/// The schedule must contain only calls that its version has. In version 1, it must have no opening keys (keys at the
 /// start). Schedules from `read_schedule` and `generate` satisfy these conditions.
 pub fn write_schedule(alloc: Global, schedule: &Schedule) -> Result<Vec<u8>, AllocError>
     requires { HasWordsOfVersion (view schedule.now) }

@@ -5,9 +5,9 @@ use crate::{FIRST_LINE, TITLE_ONE, TITLE_TWO};
 use lset_text::{Header, Version};
 use lset_words::{Call, Kind};
 
-/// A line of a schedule. `Begin(thread, call)`: the thread begins the call. `Go(thread, steps)`: the pending call of
-/// the thread takes this many steps, 1 to 10,000. A `Begin` can have any call, but `write_schedule` accepts only calls
-/// that the schedule's version has.
+/// A line of a schedule. `Begin(thread, call)`: the thread begins the call. `Go(thread, steps)`: the thread's pending
+/// call takes `steps` steps, 1 to 10,000. A `Begin` can contain any call, but `write_schedule` accepts only calls that
+/// the schedule's version has.
 #[derive(Clone, Copy, Debug, PartialEq, Eq)]
 pub enum Line {
     Begin(u32, Call),
@@ -26,7 +26,7 @@ impl Line {
     }
 }
 
-/// Returns the title line of a schedule of this version, without the newline.
+/// Returns the title line, without the newline, of a schedule of the given version.
 pub(crate) fn title(version: Version) -> &'static str
     ensures { result.now ≡ title version }
 {
@@ -36,11 +36,10 @@ pub(crate) fn title(version: Version) -> &'static str
     }
 }
 
-/// A schedule of at most 1,000,000 events: the version of its format; the kind of list; the number of threads, 1 to
-/// 64; the quota (the most successful adds of a thread), 0 to 16,384; the opening keys (the keys at the start), at
-/// most 1,048,576 and in strictly increasing order; and its lines. A line's thread can be any `u32`. A schedule of
-/// version 1 can be written only if it has no opening keys and begins no `ceiling`, since that version has no lines
-/// for them.
+/// A schedule of at most 1,000,000 events. It consists of the version of its format; the kind of list; the number of
+/// threads, 1 to 64; the quota (the maximum number of successful adds of a thread), 0 to 16,384; the opening keys (the
+/// keys at the start), at most 1,048,576 and in strictly increasing order; and the lines. A line's thread can be any
+/// `u32`. A schedule of version 1 can be written only if it has no opening keys and begins no `ceiling`.
 #[derive(Debug, Drop)]
 pub struct Schedule {
     pub version: Version,
@@ -52,7 +51,7 @@ pub struct Schedule {
 }
 
 impl Schedule {
-    /// Returns a schedule with this version, header, opening keys (keys at the start) and lines.
+    /// Returns the schedule with the given version, header, opening keys (keys at the start) and lines.
     pub(crate) fn of_header(
         version: Version,
         header: Header,
@@ -71,8 +70,8 @@ impl Schedule {
         }
     }
 
-    /// Returns the number of the line with the first event in the schedule's text. Lines are numbered from 1. If the
-    /// schedule has no events, returns the number that the line of a first event would have.
+    /// Returns the line number of the first event in the schedule's text. Lines are numbered from 1. If the schedule
+    /// has no events, returns the line number that a first event would have.
     pub fn first_event_line(&self) -> u64
         ensures { result ≡ first_event_line (view self.now) }
     {
