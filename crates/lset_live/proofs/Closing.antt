@@ -1,5 +1,5 @@
--- Proof: the seat passed to `close` (a per-thread handle) holds all seats of the set. Therefore it has seen all events
--- that determine the final keys.
+-- Proof: the seat passed to `close` (a per-thread handle) holds all seats of the set. Therefore the seat has seen all
+-- events that determine the final keys.
 use Rattle.std.proofs.Common.{◌≡◌, inl, ℕ, zero, suc, ◌+◌, ◌/◌, ◌<◌, false, List, [], ◌∷◌, map, length, None, refl, sym, ap, ◌∙◌}
 use Rattle.std.proofs.Common.{subst, arith}
 use mathlib.Core.Option.{some, some-injective, some-ne-none}
@@ -35,8 +35,8 @@ use Rattle.lset_live.proofs.OrderKeepsRecord.{calls_by_is}
 use Rattle.lset_rule.proofs.RecordsOfRuns.{none_in}
 use Rattle.lset_live.proofs.SeenExplained.{own, order, explains, turns, kept}
 
--- The nodes that can be reached from the head do not depend on how many slots (nodes for keys to add) the threads have
--- used. Neither do the keys of these nodes.
+-- The nodes that can be reached from the head, and the keys of these nodes, do not depend on how many of the threads'
+-- slots (nodes reserved for adds) are in use.
 module _ (sz : Sizes) (ws : List ℕ) (used other : ℕ → ℕ) where
   same_segment : (i : ℕ) (ns : List ℕ) (j : ℕ) → Segment (view sz ws used) i ns j → Segment (view sz ws other) i ns j
   same_segment i [] j s = s
@@ -59,7 +59,7 @@ one_segment v i (n ∷ ns) (m ∷ ms) s t = λ j. (s.0 ∙ sym t.0) j ∷ one_se
 pub one_content : (v : ChainView) (keys others : List ℕ) → IsContent v keys → IsContent v others → keys ≡ others
 one_content v keys others c d = c.0.2 ∙ (ap (keys_in v) (one_segment v 0 c.0.0 d.0.0 c.0.1 d.0.1) ∙ sym d.0.2)
 
--- ---- A seat (per-thread handle) that holds the seats of all threads has seen the whole run
+-- Lemmas about a seat (per-thread handle) that holds all seats of the set
 module _ (T : Table) (law : Lawful T) (v : View) (st : Stands T v) (idle : v.under ≡ None) (linear : RunsAreLinearizable T)
     (full : length v.others + 1 ≡ v.shape.threads) where
   abbrev k : Opening

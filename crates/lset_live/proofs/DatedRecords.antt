@@ -1,4 +1,5 @@
--- Lemmas that compare two forms of a record of completed calls: with the event numbers of the calls, and without them.
+-- Lemmas that compare two forms of a record of completed calls: one with the event numbers of the calls, and one
+-- without event numbers.
 use Rattle.std.proofs.Common.{◌≡◌, ℕ, List, [], ◌∷◌, ◌++◌, map, refl, sym, ap, ◌∙◌}
 use Rattle.std.proofs.lemmas.List.{map-append}
 use Rattle.lset_words.specs.SequentialSet.{Answered}
@@ -9,7 +10,7 @@ use Rattle.lset_rule.proofs.RecordsOfRuns as dated
 use Rattle.lset_words.specs.Records.{HasOwnCalls, own_calls, calls_by, placed_by}
 use Rattle.lset_rule.specs.Dated.{call_of, record_of}
 
--- Converts a completed call of thread u to an entry of an order (a list of calls with their replies).
+-- Converts a completed call of thread `u` to an entry of an order (a list of calls with their replies).
 abbrev pub said_by : ℕ → OwnCall → Answered
 said_by u c = placed_by u (call_of c)
 

@@ -1,4 +1,4 @@
--- The invariant of the walk of `Closed::keys` along the nodes of a closed set.
+-- The invariant of the loop in which `Closed::keys` visits the nodes of a closed set.
 use Rattle.std.proofs.Common.{◌≡◌, ◌≢◌, ℕ, suc, ◌+◌, ◌-◌, ◌/◌, ◌%◌, ◌<◌, ◌≤◌, ◌⊎◌, true, false, inl, inr, refl, ap, ◌∙◌}
 use Rattle.std.proofs.Common.{List, [], ◌∷◌, ◌++◌, length, sym, subst, arith}
 use lib.Dec.{eqb}
@@ -15,8 +15,7 @@ use Rattle.lset_steps.proofs.WalkedTo.{WalkedTo, unmarked_key, walk_starts, walk
 use Rattle.lset_live.specs.Closes.{LastWords, HasLaws, HasKeys, most_keys}
 use Rattle.lset_live.proofs.Closing.{same_content}
 
--- Holds if the walk over the nodes has reached node `curr`, and `items` lists the keys of the unmarked nodes before
--- `curr`.
+-- Holds if the loop has reached node `curr`, and `items` contains the keys of the unmarked nodes before `curr`.
 pub record Walks (c : LastWords) (items : List ℕ) (curr : ℕ) : Type 0 where
   pub laws : HasLaws c
   pub walked : WalkedTo (view c.sizes c.words laws.used) items curr
@@ -58,7 +57,7 @@ pub ends : (c : LastWords) (items : List ℕ) (curr : ℕ) → curr ≡ 1 → Wa
 ends c items curr e w = same_content c.sizes c.words w.laws.used (λ t. 0) items
     (walk_ends (view c.sizes c.words w.laws.used) w.laws.ordered items curr e w.walked)
 
--- ---- The walk ends within its bound, because no node occurs twice on the way from the head to the tail
+-- The loop ends within its bound, because no node occurs twice between the head and the tail
 module _ (v : View) (ord : IsOrdered v) where
   abbrev Between : ℕ → ℕ → ℕ → Type 0
   Between low high q = v.published q × (low ≤ v.key q) × (v.key q < high)

@@ -1,5 +1,5 @@
--- Lemmas about moving items from one list to another, one by one. In this way, seats (per-thread handles) are passed to
--- threads and returned by them.
+-- Lemmas about moving items from one list to another, one by one. Seats (per-thread handles) are moved to threads and
+-- back by such loops.
 use Rattle.std.proofs.Common.{◌≡◌, ℕ, ◌+◌, List, [], ◌∷◌, ◌++◌, map, sum_by, All, refl, sym, ap, ◌∙◌, subst, append_assoc, arith}
 use Rattle.std.proofs.lemmas.List.{map-append}
 use Rattle.std.proofs.lemmas.List.Sums.{sum_by-cons}

@@ -11,7 +11,7 @@ use Rattle.lset_rule.specs.Dated.{record_of}
 use Rattle.lset_live.specs.Seats.{SeatValue, SetValue, IsOpened, new_seat}
 use Rattle.lset_words.specs.Words.{Opening}
 
--- Returns the value that contracts use for a seat (per-thread handle).
+-- Returns the value that represents a seat (per-thread handle) in contracts.
 abbrev pub value_of : Seat (Unit {0}) View → SeatValue
 value_of s = record {
   set = record { table = s.table_id; shape = s.me.0.shape };

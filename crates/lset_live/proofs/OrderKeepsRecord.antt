@@ -1,5 +1,5 @@
--- Proof: a linearization of a history has the calls of a thread in the thread's own order, if the thread has no pending
--- call. Each call follows all calls that ended before it started.
+-- Proof: if a thread has no pending call, a linearization of a history contains the thread's calls in the order in
+-- which the thread made them. Each call follows all calls that ended before it started.
 use Rattle.std.proofs.Common.{◌≡◌, ◌≢◌, ◌⊎◌, inl, inr, ⊎_elim, ℕ, zero, suc, ◌+◌, ◌<◌, ◌≤◌, ◌==◌, Bool, true, false, cond, List}
 use Rattle.std.proofs.Common.{[], ◌∷◌, ◌++◌, map, length, get_or, Option, Some, None, refl, sym, ap, ◌∙◌, subst, arith}
 use Rattle.std.proofs.Common.{append-nil, append_assoc}
@@ -35,7 +35,7 @@ pairs_rec R (x ∷ xs) a = (
   pairs_rec R xs (λ i j d l m. a (suc i) (suc j) d (omega arith) (omega arith)),
 )
 
--- Returns the numbers of thread u's calls in a history. The first call in the history has the number n.
+-- Returns the numbers of thread `u`'s calls in a history whose first call has the number `n`.
 abbrev numbers_of : ℕ → ℕ → List CallRecord → List ℕ
 numbers_of u n [] = []
 numbers_of u n (x ∷ xs) = cond (x.thread == u) (n ∷ numbers_of u (suc n) xs) (numbers_of u (suc n) xs)
@@ -138,7 +138,7 @@ pub map_said : (u : ℕ) (ds : List OwnCall) → map said (map (ended_record u) 
 map_said u [] = refl
 map_said u (d ∷ ds) = ap (λ l. said_by u d ∷ l) (map_said u ds)
 
--- Returns whether the entry p of an order is a call of thread u.
+-- Returns whether the entry `p` of an order is a call of thread `u`.
 abbrev of_placed : List CallRecord → ℕ → Placed → Bool
 of_placed H u p = (call_numbered H p.call).thread == u
 
@@ -202,7 +202,8 @@ all_passing : (Q : Placed → Type 0) (b : Placed → Bool) (P : List Placed) �
     AllByRecursion (λ p. Q p × (b p ≡ true)) (filter b P)
 all_passing Q b P a = all_both Q (λ p. b p ≡ true) (filter b P) (all_filter Q b P a) (all_left b P)
 
--- Assumptions of the lemmas below: P is a linearization of the history H, and the calls of each thread do not overlap.
+-- Assumptions of the lemmas below: `P` is a linearization of the history `H`, and the calls of each thread do not
+-- overlap.
 module _ (q : ℕ) (s : SetState) (H : List CallRecord) (P : List Placed) (L : Linearizes q s H P)
     (turns : (i j : ℕ) → i < j → j < length H → (call_numbered H i).thread ≡ (call_numbered H j).thread → Precedes (call_numbered H i) (call_numbered H j)) where
   abbrev rec_of : Placed → CallRecord
@@ -218,7 +219,7 @@ module _ (q : ℕ) (s : SetState) (H : List CallRecord) (P : List Placed) (L : L
       ∙ (sym same ∙ ap (λ (p : Placed). p.call) (sym (get_or_default P i b a l ∙ e))))))
       ne) (cases_order i j)
 
-  -- Holds if p is an entry of the order P, and its call is in the history H.
+  -- Holds if `p` is an entry of the order `P`, and the call of `p` is in the history `H`.
   abbrev There : Placed → Type 0
   There p = (p.call < length H) × Contains P p
 
@@ -426,7 +427,7 @@ ended_records : (n v : ℕ) (ds : List OwnCall) → AllByRecursion (EndsBefore n
 ended_records n v [] a = tt
 ended_records n v (d ∷ ds) a = (a.0, ended_records n v ds a.1)
 
--- ---- Proof that the order agrees with the order of the calls in a seat's record
+-- The order agrees with the order of the calls in a seat's record
 module _ (q : ℕ) (s : SetState) (H : List CallRecord) (P : List Placed) (L : Linearizes q s H P)
     (turns : (i j : ℕ) → i < j → j < length H → (call_numbered H i).thread ≡ (call_numbered H j).thread → Precedes (call_numbered H i) (call_numbered H j)) (D : ℕ → List OwnCall) where
   keeps_items : (r : Past) → Apart r → InOrder r → ((u : ℕ) → IsIn u r → of_thread u H ≡ map (ended_record u) (D u)) →

@@ -1,5 +1,5 @@
--- Lemmas about the threads that made the calls in the record of a seat (per-thread handle) and in the records merged
--- into it.
+-- Lemmas about which threads made the calls in a record. The record belongs to a seat (per-thread handle), and includes
+-- the records that were merged into it.
 use Rattle.std.proofs.Common.{◌≡◌, ◌≢◌, inl, inr, ⊎_elim, ℕ, ◌<◌, ◌==◌, Bool, true, false, cond, [], ◌∷◌, ◌++◌}
 use Rattle.std.proofs.Common.{refl, sym, ap, ◌∙◌, subst, append-nil}
 use Rattle.std.specs.List.{AllByRecursion}

@@ -1,4 +1,4 @@
--- Proof: the reply of each call is one that the sequential set can return for this kind of call.
+-- Proof: the reply of each call is a possible reply of the sequential set to a call of that kind.
 use Rattle.std.proofs.Common.{◌≡◌, ℕ, ◌==◌, Bool, true, false, List, [], ◌∷◌, ◌++◌, subst, sym}
 use Rattle.std.specs.Prelude.{if◌then◌else◌, nat_lt}
 use Rattle.lset_words.specs.declared.Key.{Key}

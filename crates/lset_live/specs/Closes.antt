@@ -1,4 +1,4 @@
--- The words of a closed set, and the keys that they contain.
+-- The shared words (memory cells) of a closed set, and the keys that they contain.
 use Rattle.std.specs.Prelude.{◌≡◌, ℕ, ◌+◌, ◌*◌, ◌<◌, ◌≤◌, List, length}
 use Rattle.lset_words.specs.declared.TheConstants.{MOST_WORDS}
 use Rattle.lset_words.specs.Words.{lock_index, tail_word, word_count, Opening, sizes, Sizes}
@@ -9,13 +9,13 @@ use Rattle.lset_steps.specs.Steps.{Table}
 use Rattle.lset_steps.specs.Laws.{Lawful}
 use Rattle.lset_rule.specs.Runs.{end_of, IsRunOf}
 
--- The final words of a closed set, and the sizes of the set (its threads, its quota, and its number of keys at the
--- start).
+-- The final contents of the words (memory cells) of a closed set, and the sizes of the set: its number of threads, its
+-- quota, and its number of keys at the start.
 pub record LastWords : Type 0 where
   pub sizes : Sizes
   pub words : List ℕ
 
--- Holds if some run of some list ends with these words.
+-- Holds if some run of some list ends with the words (memory cells) in `c`.
 pub record IsLast (c : LastWords) : Type 0 where
   pub opening : Opening
   pub of_sizes : sizes opening ≡ c.sizes
@@ -25,17 +25,17 @@ pub record IsLast (c : LastWords) : Type 0 where
   pub run : IsRunOf machine opening events
   pub words : c.words ≡ (end_of machine opening events).words
 
--- [Content] of the words: `keys` are the keys of the unmarked nodes that can be reached from the head, in increasing
--- order.
+-- [Content] of the words (memory cells): `keys` are the keys of the unmarked nodes that can be reached from the head,
+-- in increasing order.
 abbrev pub HasKeys : LastWords → List ℕ → Type 0
 HasKeys c keys = IsContent (view c.sizes c.words (λ t. 0)) keys
 
--- Returns the maximum number of keys in a set: the opening keys (the keys at the start), plus as many keys as all
--- threads together can add.
+-- Returns the maximum number of keys in a set: the number of opening keys (the keys at the start), plus the number of
+-- keys that all threads together can add.
 abbrev pub most_keys : Sizes → ℕ
 most_keys s = s.threads * s.quota + s.opening
 
--- Facts about the words of a closed set. The proof of the walk along its nodes uses these facts.
+-- Facts about the words (memory cells) of a closed set, used by the proof of `Closed::keys`.
 pub record HasLaws (c : LastWords) : Type 0 where
   pub few : length c.words ≤ MOST_WORDS
   pub count : length c.words ≡ word_count c.sizes

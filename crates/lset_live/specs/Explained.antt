@@ -1,5 +1,5 @@
 -- Conditions in the contracts of running sets: about the calls of a set, and about closing a set. A seat is a
--- per-thread handle to the set; its record lists its completed calls.
+-- per-thread handle to a set. The seat's record lists the completed calls of the seat.
 use Rattle.std.specs.Prelude.{◌≡◌, ℕ, ◌+◌, ◌<◌, ◌≤◌, ◌⊎◌, List, [], ◌∷◌, ◌++◌, All, Some, length, map}
 use mathlib.Core.Option.{some}
 use lib.ListN.{get_elem?}
@@ -17,8 +17,8 @@ use Rattle.lset_words.specs.Records.{Record, Names, Keeps, called, calls_by, thr
 use Rattle.lset_live.specs.Seats.{SeatValue, SetValue}
 use Rattle.lset_words.specs.Words.{Opening}
 
--- Holds if call c of thread t has ended with reply r. The thread had seen the events `before` when the call started. It
--- has now seen the events `after`, and the last of them is the last step of the call.
+-- Holds if call `c` of thread `t` has ended with reply `r`. The thread had seen the events `before` when the call
+-- started. The thread has now seen the events `after`, and the last event in `after` is the last step of the call.
 pub record IsAnswered (T : Table) (k : Opening) (t : ℕ) (c : Call) (r : Reply) (before after : List Event) : Type 0 where
   pub others : List Event
   pub since : List Event
@@ -31,19 +31,19 @@ pub record IsAnswered (T : Table) (k : Opening) (t : ℕ) (c : Call) (r : Reply)
     ended = Some (length after, r);
   })
 
--- Holds if the events that a seat (per-thread handle) has seen are a run of the list. In addition, some order of the
--- run's calls linearizes the run's history and agrees with r, the record of the seat's calls. Calls of seats that were
--- not merged into this seat can be missing from the run.
+-- Holds if the events that a seat (per-thread handle) has seen are a run of the list, and the run's history has a
+-- linearization that agrees with `r`, the record of the seat's calls. The run can lack calls of seats that were not
+-- merged into the seat.
 pub record SeenIsLinearizable (T : Table) (k : Opening) (events : List Event) (r : Record) : Type 0 where
   pub run : IsRunOf T k events
   pub order : List Placed
   pub linearizes : Linearizes k.quota (opening_set k) (history_of T k events) order
   pub keeps : Keeps (map (answered (history_of T k events)) order) r
 
--- Holds if call c was made from the seat `old` (a per-thread handle), returned r, and changed the seat to `new`. The
--- new seat belongs to the same set and holds as many seats as before. Its record of calls is the old record followed by
--- exactly this call. The call started after all events that the old seat had seen. The events that the new seat has
--- seen are a run, and the calls of this run have a linearization that agrees with the new record.
+-- Holds if call `c` was made from the seat `old` (a per-thread handle), returned `r`, and changed the seat to `new`.
+-- The new seat belongs to the same set as the old seat, and holds as many seats. The new record of calls is the old
+-- record followed by exactly the call `c`. The call started after all events that the old seat had seen. The events
+-- that the new seat has seen are a run, and the calls of the run have a linearization that agrees with the new record.
 pub record HasAnswered (T : Table) (set : SetValue) (old : SeatValue) (c : Call) (r : Reply) (new : SeatValue) : Type 0 where
   pub of_set : new.set ≡ set
   pub held : new.held ≡ old.held
@@ -51,20 +51,20 @@ pub record HasAnswered (T : Table) (set : SetValue) (old : SeatValue) (c : Call)
   pub answered : IsAnswered T set.shape (thread_of old.past) c r old.events new.events
   pub explained : SeenIsLinearizable T set.shape new.events new.past
 
--- [Steps of the last call]: holds if, in these events, thread t has made at most `most` steps since it started its last
+-- [Steps of the last call]: holds if thread `t` has made at most `most` steps in `events` since it started its last
 -- call.
 abbrev pub HasMadeAtMost : ℕ → ℕ → List Event → Type 0
 HasMadeAtMost most t events = steps_since (event_at events) t (length events) ≤ most
 
--- Holds if thread u has one of these records, or a record that was merged into one of them.
+-- Holds if one of the given records, or a record that was merged into one of them, is a record of thread `u`.
 abbrev pub NamedIn : ℕ → List Record → Type 0
 NamedIn u [] = ⊥
 NamedIn u (r ∷ rs) = Names u r ⊎ NamedIn u rs
 
--- A legal order that has exactly the calls in the records, and leaves these keys in the set. The order keeps the
--- sequence of the calls in each record. If another seat was merged into a seat, the order has the calls of the other
--- seat before the later calls of this seat. Otherwise, the order need not keep real-time order between seats. In short:
--- the calls are sequentially consistent.
+-- A legal order that has exactly the calls in `records` and leaves the keys `keys` in the set. The order keeps the
+-- sequence of the calls in each record. If a seat was merged into another seat, the calls of the merged seat precede
+-- the other seat's later calls. Otherwise, the order need not keep real-time order between seats. In short: the calls
+-- are sequentially consistent.
 pub record IsOneLegalOrder (k : Opening) (records : List Record) (keys : List ℕ) : Type 0 where
   pub order : List Answered
   pub legal : IsLegal k.quota (opening_set k) order
@@ -73,10 +73,10 @@ pub record IsOneLegalOrder (k : Opening) (records : List Record) (keys : List �
   pub no_other : (u : ℕ) → u < k.threads → ¬ (NamedIn u records) → calls_by u order ≡ []
   pub leaves : (set_left (opening_set k) order).keys ≡ keys
 
--- A legal order that has exactly the calls in the records, and also linearizes the history of these events. If a call
--- ended before another call started, it precedes the other call. In the contracts, the events begin with all events
--- that the seats had seen. A seat that has received a receipt has seen all events of the seat that issued the receipt.
--- Therefore the order respects receipts just as it respects the merging of seats.
+-- A legal order that has exactly the calls in `records`, and also linearizes the history of `events`. A call that ended
+-- before another call started precedes the other call. In the contracts, `events` begins with all events that the seats
+-- had seen. A seat that has received a receipt has seen all events of the seat that issued the receipt. Therefore the
+-- order respects receipts just as it respects the merging of seats.
 pub record IsOneOrderInTime (T : Table) (k : Opening) (events : List Event) (records : List Record) (keys : List ℕ) : Type 0 where
   pub run : IsRunOf T k events
   pub placed : List Placed
@@ -84,16 +84,16 @@ pub record IsOneOrderInTime (T : Table) (k : Opening) (events : List Event) (rec
   pub one : IsOneLegalOrder k records keys
   pub is : one.order ≡ map (answered (history_of T k events)) placed
 
--- Holds if call a precedes call b in this order.
+-- Holds if call `a` precedes call `b` in `order`.
 pub record StandsBefore (order : List Answered) (a b : Answered) : Type 0 where
   pub first : List Answered
   pub between : List Answered
   pub last : List Answered
   pub is : order ≡ first ++ a ∷ (between ++ b ∷ last)
 
--- The law of receipts. A receipt contains the events `given`, and the last of them is the end of call c. Thread u
--- receives the receipt and later starts call d. In each order that linearizes the events up to the end of d, or a
--- longer list of events, c precedes d.
+-- The law of receipts. A receipt contains the events `given`, and the last of these events is the end of call `c`.
+-- Thread `u` receives the receipt and later starts call `d`. In each order that linearizes a run that includes the end
+-- of `d`, call `c` precedes call `d`.
 abbrev pub ReceiptsKeepOrder : Type 0
 ReceiptsKeepOrder = (T : Table) (k : Opening) (t u : ℕ) (c d : Call) (r a : Reply) (old given taken after events : List Event)
     → IsAnswered T k t c r old given → StartsWith taken given → IsAnswered T k u d a taken after → StartsWith events after

@@ -18,7 +18,7 @@ abbrev pub reply_of_ceiling : Option Key → Reply
 reply_of_ceiling None = reply.Nothing
 reply_of_ceiling (Some k) = reply.At k
 
--- Holds if an `add` can have this reply.
+-- Holds if the given reply is possible for an `add`.
 abbrev pub IsAddReply : Reply → Type 0
 IsAddReply reply.True = Unit {0}
 IsAddReply reply.False = Unit {0}
@@ -26,7 +26,7 @@ IsAddReply reply.Full = Unit {0}
 IsAddReply (reply.At k) = ⊥
 IsAddReply reply.Nothing = ⊥
 
--- Holds if a `remove` or a `contains` can have this reply.
+-- Holds if the given reply is possible for a `remove` or a `contains`.
 abbrev pub IsTruth : Reply → Type 0
 IsTruth reply.True = Unit {0}
 IsTruth reply.False = Unit {0}
@@ -34,7 +34,7 @@ IsTruth reply.Full = ⊥
 IsTruth (reply.At k) = ⊥
 IsTruth reply.Nothing = ⊥
 
--- Holds if a `ceiling` can have this reply.
+-- Holds if the given reply is possible for a `ceiling`.
 abbrev pub IsCeilingReply : Reply → Type 0
 IsCeilingReply reply.True = ⊥
 IsCeilingReply reply.False = ⊥

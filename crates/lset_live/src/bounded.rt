@@ -24,10 +24,11 @@ use lset_words::{Call, Reply};
 ///   and has ended. If `None` is returned, nothing is ensured.
 pub trait Bounded: Machine {
     /// Executes a call of any kind, with at most `N::MOST` rounds in each loop. (A `contains` of LazyList and
-    /// LockFreeList makes as many rounds as it needs.) `place` is an idle seat on the words `table`, and `slots` are
-    /// the slots of its thread (nodes for keys that it adds). Returns the slots after the call, and the reply.
+    /// LockFreeList makes as many rounds as it needs.) `place` is an idle seat (per-thread handle) on the words
+    /// `table`, and `slots` are the slots of the seat's thread (nodes reserved for its adds). Returns the slots after
+    /// the call, and the reply.
     ///
-    /// Returns `None` if a loop has made all its rounds. The call is then still pending and holds its locks, and no
+    /// Returns `None` if a loop has used up its rounds. The call is then still pending and holds its locks, and no
     /// other call can start from the seat.
     fn make_within<P: Pause, N: Rounds>(
         table: &Words<Self>,

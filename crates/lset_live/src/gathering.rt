@@ -1,5 +1,4 @@
-//! Merges several seats of a set into one seat (gathering). A seat is a per-thread handle: one thread calls the set
-//! through it.
+//! Merges several seats of a set into one seat (gathering). A seat is a per-thread handle to the set.
 ghost use Rattle.std.specs.Prelude.{◌≡◌, ◌+◌, ◌<◌, ◌≤◌, ◌↔◌, IfSome, IsTrue, Some, [], ◌∷◌, length, sum_by};
 ghost use Rattle.std.specs.Option.{option_map};
 ghost use Rattle.lset_words.specs.declared.TheConstants.{MOST_THREADS};
@@ -11,7 +10,8 @@ use crate::set::LiveSet;
 use lset_steps::Machine;
 
 impl<M: Machine> LiveSet<M> {
-    /// Returns whether `seats`, counting the seats merged into them, are all seats of the set.
+    /// Returns whether `seats` (per-thread handles), together with the seats merged into them, are all seats of the
+    /// set.
     pub fn is_held_by(&self, seats: &[Seat<M>]) -> bool
         ensures all { IsTrue result ↔ (sum_by (λ s. s.held) seats.now ≡ self.now.shape.threads) }
         ensures few { IsTrue result → (0 < length seats.now) × (length seats.now ≤ MOST_THREADS) }
@@ -27,8 +27,8 @@ impl<M: Machine> LiveSet<M> {
         total == most
     }
 
-    /// Merges `from` into `into` and returns the merged seat (per-thread handle). Returns `from` if `into` is `None`.
-    /// Both seats must belong to this set.
+    /// Merges the seat `from` (a per-thread handle) into the seat `into` and returns the merged seat. Returns `from` if
+    /// `into` is `None`. Both seats must belong to the set.
     pub fn gather_onto(&self, into: Option<Seat<M>>, from: Seat<M>) -> Seat<M>
         requires into { IfSome into (λ s. s.set ≡ self.now) }
         requires from { from.set ≡ self.now }

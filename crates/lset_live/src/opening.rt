@@ -1,4 +1,4 @@
-//! Opens sets, and creates their seats. A seat is a per-thread handle: one thread calls the set through it.
+//! Opens sets, and creates their seats. A seat is a per-thread handle to a set.
 ghost use Rattle.std.specs.Prelude.{◌≡◌, length, All, IfOk, IfErr};
 ghost use Rattle.std.specs.List.Sorted.{IsStrictlyIncreasing};
 ghost use Rattle.lset_words.specs.Words.{empty, Opens};
@@ -60,11 +60,10 @@ fn open_on<M: Machine>(
     Ok((set, seats))
 }
 
-/// Opens an empty set with `seats` seats (1 to `MOST_THREADS`). Seat `t` calls as thread `t`, and can add `quota` keys
-/// (0 to `MOST_QUOTA`). Allocates all memory of the set. After that, only the vector of the final keys can need an
-/// allocation.
+/// Opens an empty set with `seats` seats, one for each thread (1 to `MOST_THREADS`). Seat `t` calls as thread `t`, and
+/// can add `quota` keys (0 to `MOST_QUOTA`). Allocates all memory of the set, except for the vector of the final keys.
 ///
-/// Returns the first of these errors that applies:
+/// Returns the first error that applies:
 ///
 /// - `OpenFault::Seats`: `seats` is out of range;
 /// - `OpenFault::Quota`: `quota` is out of range;
@@ -89,12 +88,12 @@ pub fn open<M: Machine>(
     }
 }
 
-/// Opens a set that contains `keys`, with `seats` seats (1 to `MOST_THREADS`) that can add `quota` keys each (0 to
-/// `MOST_QUOTA`). There can be at most `MOST_OPENING` `keys`, in strictly increasing order. They do not count against
-/// any quota, and each seat can remove them. The final keys of a closed set can open another set, of any list. (In the
-/// literature, a list starts empty.)
+/// Opens a set that contains `keys`, with `seats` seats, one for each thread (1 to `MOST_THREADS`). Each seat can add
+/// `quota` keys (0 to `MOST_QUOTA`). `keys` must contain at most `MOST_OPENING` keys, in strictly increasing order. The
+/// opening keys do not count against any quota, and each seat can remove them. The final keys of a closed set can open
+/// another set, of any list. (In the literature, a list starts empty.)
 ///
-/// Returns the first of these errors that applies:
+/// Returns the first error that applies:
 ///
 /// - `OpenFault::Seats`: `seats` is out of range;
 /// - `OpenFault::Quota`: `quota` is out of range;

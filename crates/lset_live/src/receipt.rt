@@ -1,5 +1,5 @@
-//! Receipts. A receipt is a token that one thread sends to another. It records the events that a seat had seen when it
-//! issued the receipt. (A seat is a thread's handle to the set.)
+//! Receipts. A receipt is a token that one thread sends to another. It contains the events that a seat (a thread's
+//! handle to the set) had seen when the seat issued the receipt.
 ghost use Rattle.std.specs.Prelude.{◌≡◌};
 ghost use Rattle.lset_live.specs.Explained.{ReceiptsKeepOrder};
 ghost use Rattle.lset_rule.specs.Runs.{StartsWith};
@@ -10,8 +10,8 @@ use lset_rule::{GiveReceipt, Learn, TableSeat, TakeReceipt};
 use lset_steps::Machine;
 use std::marker::{Model, PhantomData};
 
-/// A receipt from a running set: the events that a seat had seen when it issued the receipt. No call can be made from
-/// a receipt.
+/// A receipt from a running set: the events that a seat (per-thread handle) had seen when the seat issued the receipt.
+/// No call can be made from a receipt.
 ///
 /// A thread sends a receipt to another thread by any channel. Once the receiver has passed the receipt to
 /// `LiveSet::after`, the receiver's later calls start after all events in the receipt. A receipt is zero-sized, can be
@@ -37,8 +37,8 @@ impl<M: Machine> Model for Receipt<M> {
 }
 
 impl<M: Machine> LiveSet<M> {
-    /// Returns a receipt for the events that `seat` (a per-thread handle) has seen. These include the events of the
-    /// seats merged into `seat` and of the receipts passed to it. `seat` must belong to this set, and does not change.
+    /// Returns a receipt for the events that `seat` (a per-thread handle) has seen, including the events of the seats
+    /// merged into `seat` and of the receipts passed to `seat`. `seat` must belong to the set, and does not change.
     /// Does not block or allocate.
     pub fn receipt(&self, seat: &mut Seat<M>) -> Receipt<M>
         requires { seat.old.set ≡ self.now }
@@ -52,8 +52,8 @@ impl<M: Machine> LiveSet<M> {
         }
     }
 
-    /// Returns a second receipt with the same events (those that the issuing seat had seen). `receipt` must belong to
-    /// this set. Does not block or allocate.
+    /// Returns a second receipt with the events of `receipt`, that is, the events that a seat (per-thread handle) had
+    /// seen. `receipt` must belong to the set. Does not block or allocate.
     pub fn copied(&self, receipt: &mut Receipt<M>) -> Receipt<M>
         requires { receipt.old.set ≡ self.now }
         ensures same { receipt.new ≡ receipt.old }
@@ -69,10 +69,10 @@ impl<M: Machine> LiveSet<M> {
         }
     }
 
-    /// Adds the events in `receipt` to the events that `seat` (a per-thread handle) has seen. Both must belong to this
-    /// set. The seat's later calls start after all events in the receipt. In each order that explains these calls, all
-    /// calls that had ended in the receipt's events precede the seat's later calls (`receipts_keep_order`). The seat's
-    /// record and the seats that it holds do not change. Does not block or allocate.
+    /// Adds the events in `receipt` to the events that `seat` (a per-thread handle) has seen. `seat` and `receipt` must
+    /// belong to the set. The seat's later calls start after all events in the receipt. In each order that explains the
+    /// run, all calls that had ended in the receipt's events precede the seat's later calls (`receipts_keep_order`).
+    /// The seat's record and the seats that it holds do not change. Does not block or allocate.
     pub fn after(&self, seat: &mut Seat<M>, receipt: Receipt<M>)
         requires seat { seat.old.set ≡ self.now }
         requires receipt { receipt.set ≡ self.now }
@@ -88,8 +88,8 @@ impl<M: Machine> LiveSet<M> {
 }
 
 /// States the law of receipts, as the contract of an empty function. If a call has ended in the events of a receipt,
-/// and a seat (per-thread handle) receives this receipt, the call precedes each later call of the seat. This is true in
-/// each order that linearizes the events up to the end of the later call, or any longer list of events.
+/// the call precedes each later call of a seat (per-thread handle) that receives the receipt. The law is true in each
+/// order that linearizes a run that includes the end of the later call.
 pub fn receipts_keep_order()
     ensures { ReceiptsKeepOrder }
 {}

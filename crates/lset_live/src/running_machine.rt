@@ -18,8 +18,8 @@ use std::sync::Wait;
 /// A list that is `Bounded` implements this trait without a body: `impl Running for MyList {}`.
 pub trait Running: Bounded {
     /// Executes a call of any kind, with as many rounds as it needs. Blocks, using the runtime `rt`, while another
-    /// thread holds a lock that the call needs. The other arguments, the precondition and the postcondition are the
-    /// same as in `Bounded::make_within`.
+    /// thread holds a lock that the call needs. See `Bounded::make_within` for the remaining arguments, the
+    /// precondition and the postcondition.
     fn make_on<R: Wait, P: Pause>(
         rt: &R,
         table: &Words<Self>,
@@ -48,11 +48,10 @@ impl Running for LockFreeList {}
 
 /// A list that threads call on shared words. Its `contains` does not block.
 ///
-/// A list with bounded reads (`OpenReads`) implements this trait without a body. It then uses the interpreter
+/// A list with bounded reads (`OpenReads`) implements this trait without a body. The list then uses the interpreter
 /// (`lset_rule::interpret_read`).
 pub trait OpenContains: Bounded + OpenReads {
-    /// Executes a `contains` of `key` in at most `OpenReads::bound` steps. Cannot block: it has no runtime to wait
-    /// with.
+    /// Executes a `contains` of `key` in at most `OpenReads::bound` steps. Cannot block, because it has no runtime.
     fn contains_now_on(
         table: &Words<Self>,
         place: &mut TableSeat,
@@ -88,7 +87,7 @@ impl OpenContains for LockFreeList {
     }
 }
 
-/// A list that threads call on shared words. Its calls can block, except `contains`, which never blocks.
+/// A list that threads call on shared words. All calls can block, except `contains`.
 pub trait RunningReads: Running + OpenReads + OpenContains {}
 
 impl RunningReads for LazyList {}

@@ -32,9 +32,10 @@ use std::marker::{Model, PhantomData};
 use std::sync::Wait;
 use thiserror::Error;
 
-/// A running set of the list `M`: Herlihy and Shavit's `Set`, with a limit on the keys that each thread can add (its
-/// quota). Threads share the set by `&`, and each thread calls from its own seat (per-thread handle). In contracts, a
-/// set is its table of words and what it was opened with: the number of threads, the quota and the keys at the start.
+/// A running set of the list `M`: Herlihy and Shavit's `Set`, with a limit on the number of keys that each thread can
+/// add (its quota). Threads share the set by `&`, and each thread calls the set through its own seat (per-thread
+/// handle). In contracts, a set is its table of words (memory cells) and what it was opened with: the number of
+/// threads, the quota and the keys at the start.
 #[derive(Drop)]
 pub struct LiveSet<M: Machine> {
     pub(crate) table: Table<(), View, Opened, Follows<M>, Global>,
@@ -55,8 +56,8 @@ impl<M: Machine> Model for LiveSet<M> {
     ghost view = { λ s. record { table = s.table.shared.table_id; shape = s.table.shared.key } };
 }
 
-/// The error of `LiveSet::close` if the seat does not hold all seats of the set. Contains the unchanged set and the
-/// unchanged seat.
+/// The error of `LiveSet::close` if the given seat (per-thread handle) does not hold all seats of the set. Contains the
+/// unchanged set and the unchanged seat.
 #[derive(Drop, Error)]
 #[error("the seat does not hold all seats of the set")]
 pub struct SeatsOut<M: Machine> {
@@ -74,7 +75,7 @@ impl<M: Machine> fmt::Debug for SeatsOut<M> {
 }
 
 impl<M: Machine> LiveSet<M> {
-    /// Returns the number of seats that the set was opened with, that is, of threads that can call it.
+    /// Returns the number of seats that the set was opened with, which is the number of threads that can call the set.
     pub fn seats(&self) -> u32
         ensures seats { result ≡ self.now.shape.threads }
         ensures range { (0 < result) × (result ≤ MOST_THREADS) }
@@ -90,8 +91,8 @@ impl<M: Machine> LiveSet<M> {
         self.quota
     }
 
-    /// Returns the maximum number of keys that the set can have: the keys at the start plus the keys that its threads
-    /// can add.
+    /// Returns the maximum number of keys that the set can have: the number of keys at the start plus the number of
+    /// keys that its threads can add.
     pub fn most_keys(&self) -> usize
         ensures { result ≡ most_keys (sizes self.now.shape) }
     {
@@ -100,13 +101,13 @@ impl<M: Machine> LiveSet<M> {
 }
 
 impl<M: Running> LiveSet<M> {
-    /// Executes the call from `seat`, which must belong to this set. Calls `pause` after each step of the call except
-    /// the last. Returns the reply.
+    /// Executes the call through `seat` (a per-thread handle), which must belong to the set, and returns the reply.
+    /// Calls `pause` after each step of the call except the last.
     ///
     /// Appends the call with its reply to the seat's record. The call starts after all events that the seat had seen.
-    /// Afterwards, the last step of the call is the last event that the seat has seen. All calls in these events have
-    /// a linearization (Herlihy and Wing) that agrees with the record. Can block while another thread holds a lock
-    /// that the call needs. Does not allocate.
+    /// Afterwards, the last step of the call is the last event that the seat has seen. All calls in the events that the
+    /// seat has seen have a linearization (Herlihy and Wing) that agrees with the record. Can block while another
+    /// thread holds a lock that the call needs. Does not allocate.
     pub fn call<R: Wait, P: Pause>(
         &self,
         rt: &R,
@@ -131,8 +132,8 @@ impl<M: Running> LiveSet<M> {
     }
 
     /// Adds `key`. Returns `True` if the key was absent and has been added, `False` if it was already present, and
-    /// `Full` if it was absent and the thread has used up its quota of adds. `seat` must belong to this set. Can block
-    /// while another thread holds a lock that the call needs. Does not allocate.
+    /// `Full` if it was absent but the thread has used up its quota of adds. `seat` (a per-thread handle) must belong
+    /// to the set. Can block while another thread holds a lock that the call needs. Does not allocate.
     pub fn add<R: Wait>(&self, rt: &R, seat: &mut Seat<M>, key: Key) -> Reply
         requires { seat.old.set ≡ self.now }
         ensures { HasAnswered M.table self.now seat.old (Add key) result seat.new }
@@ -140,8 +141,8 @@ impl<M: Running> LiveSet<M> {
         self.call(rt, seat, Call::Add(key), &Spin::new())
     }
 
-    /// Removes `key`. Returns `True` if the key was present, otherwise `False`. `seat` must belong to this set. Can
-    /// block while another thread holds a lock that the call needs. Does not allocate.
+    /// Removes `key`. Returns `True` if the key was present, otherwise `False`. `seat` (a per-thread handle) must
+    /// belong to the set. Can block while another thread holds a lock that the call needs. Does not allocate.
     pub fn remove<R: Wait>(&self, rt: &R, seat: &mut Seat<M>, key: Key) -> Reply
         requires { seat.old.set ≡ self.now }
         ensures { HasAnswered M.table self.now seat.old (Remove key) result seat.new }
@@ -149,8 +150,8 @@ impl<M: Running> LiveSet<M> {
         self.call(rt, seat, Call::Remove(key), &Spin::new())
     }
 
-    /// Returns `True` if `key` is present, otherwise `False`. `seat` must belong to this set. Can block while another
-    /// thread holds a lock that the call needs. Does not allocate.
+    /// Returns `True` if `key` is present, otherwise `False`. `seat` (a per-thread handle) must belong to the set. Can
+    /// block while another thread holds a lock that the call needs. Does not allocate.
     pub fn contains<R: Wait>(&self, rt: &R, seat: &mut Seat<M>, key: Key) -> Reply
         requires { seat.old.set ≡ self.now }
         ensures { HasAnswered M.table self.now seat.old (Contains key) result seat.new }
@@ -158,8 +159,9 @@ impl<M: Running> LiveSet<M> {
         self.call(rt, seat, Call::Contains(key), &Spin::new())
     }
 
-    /// Returns `At` with the smallest key at or above `key`, or `Nothing` if no such key is present. `seat` must belong
-    /// to this set. Can block while another thread holds a lock that the call needs. Does not allocate.
+    /// Returns `At` with the smallest key at or above `key`, or `Nothing` if there is no such key. `seat` (a per-thread
+    /// handle) must belong to the set. Can block while another thread holds a lock that the call needs. Does not
+    /// allocate.
     pub fn ceiling<R: Wait>(&self, rt: &R, seat: &mut Seat<M>, key: Key) -> Reply
         requires { seat.old.set ≡ self.now }
         ensures { HasAnswered M.table self.now seat.old (Ceiling key) result seat.new }
@@ -169,14 +171,13 @@ impl<M: Running> LiveSet<M> {
 }
 
 impl<M: Bounded> LiveSet<M> {
-    /// Executes the call from `seat` (a per-thread handle), which must belong to this set, with at most `N::MOST`
-    /// rounds in each loop of the call. Needs no runtime. In LazyList and LockFreeList, a `contains` walks without
-    /// blocking and makes as many rounds as it needs. Returns the seat and the reply, which satisfy the postcondition
-    /// of `call`.
+    /// Executes the call through `seat` (a per-thread handle), which must belong to the set, with at most `N::MOST`
+    /// rounds in each loop of the call. Needs no runtime. In LazyList and LockFreeList, a `contains` never blocks and
+    /// makes as many rounds as it needs. Returns the seat and the reply, which satisfy the postcondition of `call`.
     ///
-    /// Returns `None` if a loop has made all its rounds, for example while it waits for a lock. The call is then still
-    /// pending and holds its locks. The seat is consumed, and the set can never be closed. With [`Countless`] rounds,
-    /// no run reaches this case.
+    /// Returns `None` if a loop has used up its rounds, for example while the call waits for a lock. The call is then
+    /// still pending and holds its locks. The seat is consumed, and the set can never be closed. With [`Countless`]
+    /// rounds, no run reaches this case.
     pub fn call_within<P: Pause, N: Rounds>(
         &self,
         seat: Seat<M>,
@@ -211,9 +212,9 @@ impl<M: Bounded> LiveSet<M> {
 }
 
 impl<M: Machine> LiveSet<M> {
-    /// Merges the seat `from` (a per-thread handle) into the seat `into`: its record, the seats that it holds, and the
-    /// events that it has seen. Both seats must belong to this set. In each order that agrees with the record of
-    /// `into`, the calls of `from` precede the later calls of `into`.
+    /// Merges the seat `from` (a per-thread handle) into the seat `into`: the record of `from`, the seats that `from`
+    /// holds, and the events that `from` has seen. Both seats must belong to the set. In each order that agrees with
+    /// the record of `into`, the calls of `from` precede the later calls of `into`.
     pub fn gather(&self, into: &mut Seat<M>, from: Seat<M>)
         requires into { into.old.set ≡ self.now }
         requires from { from.set ≡ self.now }
@@ -235,11 +236,11 @@ impl<M: Machine> LiveSet<M> {
         into.held += held;
     }
 
-    /// Closes the set if `seat` holds all seats of the set. Otherwise returns the set and `seat` unchanged in
-    /// `SeatsOut`.
+    /// Closes the set if `seat` (a per-thread handle) holds all seats of the set. Otherwise returns the set and `seat`
+    /// unchanged in `SeatsOut`.
     ///
     /// Some legal order consists of exactly the calls in the seat's record, agrees with the record, and leaves the
-    /// final keys. This order also linearizes the history of the events that the seat has seen.
+    /// final keys. The order also linearizes the history of the events that the seat has seen.
     pub fn close(self, seat: Seat<M>) -> Result<Closed, SeatsOut<M>>
         requires { seat.set ≡ self }
         ensures all { IfOk result (λ c. seat.held ≡ self.shape.threads) }
@@ -275,8 +276,8 @@ impl<M: Machine> LiveSet<M> {
         })
     }
 
-    /// Closes the set and returns its final keys, in increasing order. `seat` must hold all seats of the set. Fails
-    /// only if an allocation fails.
+    /// Closes the set and returns its final keys, in increasing order. `seat` (a per-thread handle) must hold all seats
+    /// of the set. Returns an error only if an allocation fails.
     pub fn keys_left(self, seat: Seat<M>) -> Result<Vec<u32>, AllocError>
         requires seat { seat.set ≡ self }
         requires all { seat.held ≡ self.shape.threads }
@@ -289,9 +290,9 @@ impl<M: Machine> LiveSet<M> {
         closed.keys()
     }
 
-    /// Closes the set and writes its final keys, in increasing order, into the vector `room`, which must be empty with
-    /// a capacity of at least `most_keys`. Returns the vector. `seat` must hold all seats of the set. Does not allocate
-    /// and does not fail.
+    /// Closes the set, appends its final keys in increasing order to the vector `room`, and returns the vector. `room`
+    /// must be empty, with a capacity of at least `most_keys`. `seat` (a per-thread handle) must hold all seats of the
+    /// set. Does not allocate and does not fail.
     pub fn keys_left_in(self, seat: Seat<M>, room: Vec<u32>) -> Vec<u32>
         requires seat { seat.set ≡ self }
         requires all { seat.held ≡ self.shape.threads }
@@ -320,7 +321,8 @@ impl<M: Machine> LiveSet<M> {
 }
 
 impl<M: OpenContains> LiveSet<M> {
-    /// Returns whether `key` is in the set, without blocking or allocating. `seat` must belong to this set.
+    /// Returns whether `key` is in the set, without blocking or allocating. `seat` (a per-thread handle) must belong to
+    /// the set.
     ///
     /// The call is wait-free: whatever other threads do, it takes at most `bound` steps, each of them a load
     /// (`lset_steps::OpenReads`). Unlike `contains_now`, this function also exists for lists that are not `Running`.
@@ -342,8 +344,8 @@ impl<M: OpenContains> LiveSet<M> {
 }
 
 impl<M: RunningReads> LiveSet<M> {
-    /// Returns whether `key` is in the set, without blocking or allocating. `seat` must belong to this set. The call is
-    /// appended to the seat's record with the reply `True` or `False`.
+    /// Returns whether `key` is in the set, without blocking or allocating. `seat` (a per-thread handle) must belong to
+    /// the set. The call is appended to the seat's record with the reply `True` or `False`.
     ///
     /// The call is wait-free: whatever other threads do, it takes at most `bound` steps, each of them a load
     /// (`lset_steps::OpenReads`).

@@ -1,5 +1,5 @@
-//! Calls made from a seat (per-thread handle), each with its own result type. The same calls on `LiveSet` return a
-//! `Reply`.
+//! Calls through a seat (per-thread handle), each with its own result type. On `LiveSet`, the corresponding calls
+//! return a `Reply`.
 ghost use Rattle.std.specs.Prelude.{◌≡◌};
 ghost use Rattle.lset_words.specs.declared.Call.TheVariants.{Add, Remove, Contains, Ceiling};
 ghost use Rattle.lset_live.specs.Explained.{HasAnswered};
@@ -25,8 +25,8 @@ pub enum Added {
 }
 
 impl<M: Running> Seat<M> {
-    /// Adds `key` to `set`. Returns whether the key was added, was already present, or would exceed the quota. This
-    /// seat must belong to `set`.
+    /// Adds `key` to `set`. Returns whether the key was added, was already present, or would exceed the quota. The seat
+    /// must belong to `set`.
     ///
     /// Appends the call with its reply to the seat's record, as `LiveSet::add` does. A removed key still counts against
     /// the quota. Can block while another thread holds a lock that the call needs. Does not allocate.
@@ -46,7 +46,7 @@ impl<M: Running> Seat<M> {
         added_of(reply)
     }
 
-    /// Removes `key` from `set`, and returns whether it was present. This seat must belong to `set`.
+    /// Removes `key` from `set`, and returns whether the key was present. The seat must belong to `set`.
     ///
     /// Appends the call with the reply `True` or `False` to the seat's record, as `LiveSet::remove` does. Can block
     /// while another thread holds a lock that the call needs. Does not allocate.
@@ -64,7 +64,7 @@ impl<M: Running> Seat<M> {
         truth_of(reply)
     }
 
-    /// Returns whether `key` is in `set`. This seat must belong to `set`.
+    /// Returns whether `key` is in `set`. The seat must belong to `set`.
     ///
     /// Appends the call with the reply `True` or `False` to the seat's record, as `LiveSet::contains` does. Can block
     /// while another thread holds a lock that the call needs; `LiveSet::contains_now` never blocks. Does not allocate.
@@ -82,8 +82,8 @@ impl<M: Running> Seat<M> {
         truth_of(reply)
     }
 
-    /// Returns the smallest key of `set` at or above `key`, or `None` if no such key is present. This seat must belong
-    /// to `set`.
+    /// Returns the smallest key of `set` at or above `key`, or `None` if there is no such key. The seat must belong to
+    /// `set`.
     ///
     /// Appends the call with the reply `At` (of the returned key) or `Nothing` to the seat's record, as
     /// `LiveSet::ceiling` does. Can block while another thread holds a lock that the call needs. Does not allocate.
