@@ -1,4 +1,4 @@
--- Lemmas about the events of a schedule as one list, for the loop that executes them.
+-- Lemmas about the events of a schedule as one list. The proof of the loop that executes the events uses them.
 use Rattle.std.proofs.lemmas.Grind.{common_steps}
 use Rattle.std.proofs.Common.{◌≡◌, ℕ, zero, suc, drop, arith, ◌-◌, ◌+◌, ◌<◌, ◌≤◌, List, [], ◌∷◌, ◌++◌, replicate, length, get_or}
 use Rattle.std.proofs.Common.{sym, ap, ◌∙◌, add-one, length-drop, drop-cons}
@@ -13,9 +13,9 @@ use Rattle.lset_replay.specs.Follows.{ComesNext}
 pub as_many : (es : List LineEvent) → length (only_events es) ≡ length es
 as_many es = length-map es event_in
 
--- ---- Lemmas about the events that the loop has executed and the events that remain
+-- Lemmas about the executed events and the remaining events
 
--- Holds if the first k events of the list es were executed, and the events in `rest` remain.
+-- Holds if the first `k` events of the list `es` were executed, and the events in `rest` remain.
 pub record IsAhead (es : List LineEvent) (k : ℕ) (rest : List LineEvent) : Type 0 where
   pub within : k ≤ length es
   pub rest_is : drop k es ≡ rest
@@ -40,12 +40,12 @@ drop_more [] (suc k) next rest e = absurd (cc)
 drop_more (x ∷ es) zero next rest e = cc
 drop_more (x ∷ es) (suc k) next rest e = drop_more es k next rest e
 
--- A default line, used if the index of a line is out of range.
+-- A default line, for an index that is out of range.
 abbrev pub no_line : Line
 no_line = line.Begin 0 (call.Add (record { 0 = 0 }))
 
--- Returns the remaining events while the loop executes the events of line i (counted from 0): `times` events of line i,
--- then all events of later lines.
+-- Returns the remaining events while the loop executes the events of line `i` (counted from 0): `times` events of line
+-- `i`, then all events of later lines.
 abbrev pub rest_of : ℕ → List Line → ℕ → ℕ → LineEvent → List LineEvent
 rest_of n ls i times next = replicate times next ++ events_from (n + (i + 1)) (drop (i + 1) ls)
 

@@ -1,4 +1,4 @@
--- Proof: every enabled event of a run can be recorded, and afterwards the recorder still describes the run.
+-- Proof: every enabled event of a run can be recorded, and the recorder still describes the run after the event.
 use Rattle.std.proofs.Common.{◌≡◌, ℕ, suc, ◌+◌, ◌<◌, ◌⊎◌, inl, inr, List, sym, refl, subst, ap, ◌∙◌, add-one, arith}
 use Rattle.lset_words.specs.Account.{Account, Enters}
 use Rattle.lset_words.specs.Words.{Opening, Opens, sizes}
@@ -97,8 +97,8 @@ module _ (T : Table) (op : Opening) (events : List LineEvent) (k : ℕ) (w : Wor
   stopped cause.Memory w' made = tt
   stopped c w' made = made
 
-  -- The next event of a run can be recorded. The proof uses the account of the run (a record of how each event changes
-  -- the keys in the set).
+  -- The next event of a run can be recorded. The proof uses the account of the run (a description of how each event
+  -- changes the keys in the set).
   module _ (accounts : TellsKeys T) where
     open shown T op events use {log, contents, counts}
 
@@ -124,7 +124,7 @@ module _ (T : Table) (op : Opening) (events : List LineEvent) (k : ℕ) (w : Wor
             account low k (omega arith) r (ap (λ (o : Opening). o.threads) h.opening_is) h.trace t _ _ (entered (Go t) i) in
             (may.0, subst (λ (z : Told). MayChange (moments_of r.changes) (suc k) z.change) (sym says) may.1)
 
--- ---- Lemmas for the loop that executes the events
+-- Lemmas for the loop that executes the events
 
 -- Holds if all events before `rest` were executed and recorded.
 pub record IsOnWay (T : Table) (op : Opening) (events rest : List LineEvent) (w : WorldState) (r : Recorder) : Type 0 where

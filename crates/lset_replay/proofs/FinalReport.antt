@@ -38,13 +38,13 @@ use Rattle.lset_replay.proofs.FollowedRuns.{TellsKeys, shown, account_then, low_
 use Rattle.lset_replay.proofs.EventLists.{as_many}
 use Rattle.lset_schedule.specs.Plan.{Plan, opening_in}
 
--- ---- Lemmas: the calls, sorted by linearization point, have the order that the definition [Placement] requires
+-- Sorting the calls by linearization point yields the order that the definition [Placement] requires
 
 abbrev moment_of : Option Linearized → Option ℕ
 moment_of None = None
 moment_of (Some p) = Some p.moment
 
--- Returns whether a call has changed the set. The argument is the moment (event number) of the change, or None if the
+-- Returns whether a call has changed the set. The argument is the moment (event number) of the change, or `None` if the
 -- call made no change.
 changes : Option ℕ → Bool
 changes None = false
@@ -187,12 +187,11 @@ replay_is T accounts p w r order keys h o c =
       };
     }
 
--- ---- Lemmas: the order of a report explains its history
+-- The order in a report explains the report's history
 module _ (T : Table) (headline : PlacementExplainsRuns T) (op : Opening) (events : List Event) (history : List CallRecord)
     (order : List Placed) (keys : List ℕ)
     (h : IsReportOf T op events history order keys) where
-  -- The order in the report explains the run, because it is the placement: the calls sorted by their linearization
-  -- points.
+  -- The order in the report explains the run: the order consists of the calls, sorted by their linearization points.
   run_explained : ExplainsRun T op (event_at events) (length events) order
   run_explained =
       let found : (o : List Placed) × ExplainsRun T op (event_at events) (length events) o

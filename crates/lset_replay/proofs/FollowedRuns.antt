@@ -1,4 +1,4 @@
--- Lemmas about a run that was recorded.
+-- Lemmas about a recorded run.
 use Rattle.std.proofs.Common.{ℕ, List, sym, subst, arith}
 use Rattle.lset_words.specs.Log.{Log}
 use Rattle.lset_words.specs.Account.{Account, Contents, Counts}
@@ -18,8 +18,8 @@ use Rattle.lset_replay.proofs.ReplayKept.{Follows}
 use Rattle.lset_replay.proofs.KeyChanges.{HoldsKeys}
 use Rattle.lset_replay.proofs.RecorderReady.{follows}
 
--- A run without its words and private states. It has a log (the effect of each event). For each moment, it has the keys
--- in the set and the number of keys that each thread has added. A moment is the number of events so far.
+-- A run without its words and private states. It has a log (the effect of each event). For each moment (number of
+-- events so far), it has the keys in the set and the number of keys that each thread has added.
 pub record Shown : Type 1 where
   pub log : Log
   pub contents : Contents

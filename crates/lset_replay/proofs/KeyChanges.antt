@@ -15,7 +15,7 @@ use Rattle.lset_replay.specs.Trace.{MayChange}
 abbrev pub HoldsKeys : ℕ → Contents → Type 0
 HoldsKeys last contents = (k j : ℕ) → k ≤ last → contents k j → j < 2 ^ 32
 
--- Holds if the Boolean b decides the proposition C: C is true if b is true, and false if b is false.
+-- Holds if the Boolean `b` decides the proposition `C`: `C` is true if `b` is true, and false if `b` is false.
 abbrev pub Tells : Bool → Type 0 → Type 0
 Tells b C = (b ≡ true → C) × (b ≡ false → C → ⊥)
 

@@ -1,4 +1,4 @@
--- Lemmas: an event either appends a call to the list of calls, or changes the pending call of its thread.
+-- Lemmas: an event either appends a call to the list of calls, or changes the pending call of the event's thread.
 use Rattle.std.proofs.lemmas.Grind.{common_steps}
 use Rattle.std.proofs.Common.{◌≡◌, ◌≢◌, ℕ, zero, suc, ◌+◌, ◌<◌, ◌≤◌, ◌⊎◌, true, false, inl, inr, List, [], ◌∷◌, ◌++◌, length, map}
 use Rattle.std.proofs.Common.{set, sym, refl, subst, ap, ◌∙◌, arith}
@@ -23,11 +23,11 @@ pub length_stepped : (log : Log) (k t : ℕ) (change : Option Change) (reply : O
 length_stepped log k t change reply e = ap (λ z. length (calls_after (suc k) z (calls_at log k))) e
     ∙ length-map (calls_at log k) (step_of k t change reply)
 
--- Holds if the call x is pending, and has this thread, operation and start.
+-- Holds if the call `x` is pending, and has the given thread, operation and start.
 abbrev pub IsOpenAs : ℕ → Call → ℕ → TracedCall → Type 0
 IsOpenAs t call begun x = (x.thread ≡ t) × (x.ended ≡ None) × (x.call ≡ call) × (x.begun ≡ begun)
 
--- Holds if call number `number` is the pending call of thread t, with this operation and start.
+-- Holds if the call with the number `number` is the pending call of thread `t`, with the given operation and start.
 pub record OpenNumber (xs : List TracedCall) (t number : ℕ) (call : Call) (begun : ℕ) : Type 0 where
   pub below : number < length xs
   pub open_call : IsOpenAs t call begun (traced_at xs number)

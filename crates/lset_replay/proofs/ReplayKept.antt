@@ -25,16 +25,17 @@ use Rattle.lset_history.specs.Changes.{is_present, IsBounded}
 use Rattle.lset_history.proofs.ChangeLaws.{all_upto_later}
 use Rattle.lset_replay.proofs.KeyChanges.{Tells, changes_by, quiet_keys}
 
--- Holds if, after the first k events, o is the pending call of thread t, with its number, operation and start.
+-- Holds if, after the first `k` events, `o` is the pending call of thread `t`, with the number, operation and start of
+-- the call.
 pub record IsWatched (log : Log) (contents : Contents) (counts : Counts) (k t : ℕ) (o : OpenCall) : Type 0 where
   pub here : OpenNumber (calls_at log k) t o.number o.call o.begun
   pub since : o.begun ≤ k
-  -- As long as the pending call has not changed the set, its thread has added no key since the call started.
+  -- Until the pending call changes the set, the call's thread adds no key.
   pub steady : has_changed log t k ≡ false → (m : ℕ) → o.begun ≤ m → m ≤ k → counts m t ≡ counts k t
 
--- Holds if p is the linearization point of a call. If the call changed the set, the point is at this change. If a
--- completed call changed nothing, the point is the first moment (event number) during the call when its reply is
--- correct. A pending call without a change has no linearization point.
+-- Holds if `p` is the linearization point of a call. If the call changed the set, the point is the moment (event
+-- number) of the change. If a completed call changed nothing, the point is the first moment during the call when the
+-- call's reply is correct. A pending call without a change has no linearization point.
 abbrev pub PlaceBy : ℕ → Contents → Counts → TracedCall → Option ℕ → Option (ℕ × Reply) → Option Linearized → Type 0
 PlaceBy q contents counts x (Some m) ended p = p ≡ Some (changed_at m)
 PlaceBy q contents counts x None None p = p ≡ None
@@ -44,7 +45,7 @@ PlaceBy q contents counts x None (Some end) p =
 abbrev pub PlaceOf : ℕ → Contents → Counts → TracedCall → Option Linearized → Type 0
 PlaceOf q contents counts x p = PlaceBy q contents counts x x.changed x.ended p
 
--- Holds if the recorder's content s describes the first k events of the run.
+-- Holds if the recorder's content `s` describes the first `k` events of the run.
 pub record Follows (op : Opening) (log : Log) (contents : Contents) (counts : Counts) (k : ℕ) (s : Trace) : Type 0 where
   pub history : s.calls ≡ history_at log k
   pub seats : length s.under_way ≡ op.threads
@@ -137,8 +138,8 @@ module _ (m t : ℕ) where
 pub calls_are : (log : Log) (k : ℕ) (e : Entry) → log k ≡ e → calls_at log (suc k) ≡ calls_after (suc k) e (calls_at log k)
 calls_are log k e at = ap (λ z. calls_after (suc k) z (calls_at log k)) at
 
--- Lemmas about a pending call of thread u. `IsWatched` still holds for the call after the next event, if u adds no key
--- before the call changes the set.
+-- Lemmas about a pending call of thread `u`. `IsWatched` still holds for the call after the next event, if `u` adds no
+-- key before the call changes the set.
 module _ (log : Log) (contents : Contents) (counts : Counts) (k u : ℕ) (o : OpenCall)
     (quiet : has_changed log u (suc k) ≡ false → (has_changed log u k ≡ false) × (counts (suc k) u ≡ counts k u))
     (w : IsWatched log contents counts k u o) where

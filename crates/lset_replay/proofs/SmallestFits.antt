@@ -1,4 +1,4 @@
--- Proof: for a call that changes nothing, the reply is first correct when the call's key is first present, or first
+-- Proof: the reply of a call that changes nothing is first correct when the call's key is first present or first
 -- absent, as the reply requires.
 use Rattle.std.proofs.Common.{◌≡◌, ℕ, List, true, false, ◌<◌, ◌≤◌, sym, refl, subst, ◌∙◌, arith}
 use Rattle.std.specs.Prelude.{Option, Some, None}
@@ -16,7 +16,7 @@ use Rattle.lset_words.specs.declared.Key.{Key}
 use Rattle.lset_replay.specs.Trace.{needs_key, shows}
 use Rattle.lset_replay.proofs.KeyChanges.{Tells, told_yes, told_no}
 
--- Holds if `moment` is the first number from `first` to `last` that satisfies F.
+-- Holds if `moment` is the first number from `first` to `last` that satisfies `F`.
 pub record SmallestAt (F : ℕ → Type 0) (first last moment : ℕ) : Type 0 where
   pub from : first ≤ moment
   pub upto : moment ≤ last
@@ -48,8 +48,8 @@ module _ (q : ℕ) (contents : Contents) (counts : Counts) (first last t : ℕ) 
   abbrev pub FitsAt : Call → Reply → ℕ → Type 0
   FitsAt c r m = Fits q (contents m) (counts m t) c r
 
-  -- Holds if the reply r of a call c without a change is correct at moment m (after m events), according to the test in
-  -- `fit`.
+  -- Holds if the reply `r` of a call `c` that changes nothing is correct at moment `m` (after `m` events), according to
+  -- the test in `fit`.
   abbrev pub Passes : (ℕ → List ℕ) → Call → Reply → ℕ → Type 0
   Passes changes c r m = shows changes c r m ≡ needs_key c r
 

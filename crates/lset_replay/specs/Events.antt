@@ -10,7 +10,7 @@ use Rattle.lset_schedule.specs.declared.TheConstants.{MOST_EVENTS}
 use Rattle.lset_schedule.specs.Plan.{Plan, event_count, first_event_line, opening_in}
 use Rattle.lset_replay.specs.declared.events.LineEvent.{LineEvent}
 
--- Returns the events of one line: the start of a call, or some steps of one thread.
+-- Returns the events of one line: the start of a call, or one or more steps of a thread.
 abbrev pub events_of_line : ℕ → Line → List LineEvent
 events_of_line number (line.Begin t call) = record { line = number; event = event.Begin t call } ∷ []
 events_of_line number (line.Go t steps) = replicate steps (record { line = number; event = event.Go t })
@@ -23,7 +23,7 @@ abbrev pub events_of : Plan → List LineEvent
 events_of p = events_from (first_event_line p) p.lines
 
 -- Holds if a schedule can be replayed: its sizes and its opening keys (the keys at the start) are within the limits,
--- and it has at most MOST_EVENTS events. The events are otherwise arbitrary.
+-- and it has at most `MOST_EVENTS` events. The events can be arbitrary.
 pub record IsInLimits (p : Plan) : Type 0 where
   pub opens : Opens (opening_in p)
   pub few : sum_by event_count p.lines ≤ MOST_EVENTS
@@ -34,6 +34,6 @@ event_in e = e.event
 abbrev pub only_events : List LineEvent → List Event
 only_events es = map event_in es
 
--- Returns the line number of event `index`, counted from 0.
+-- Returns the line number of event `index`. Events are counted from 0.
 abbrev pub line_at : List LineEvent → ℕ → ℕ
 line_at es index = (slice_index_or es index (record { line = 0; event = event.Go 0 })).line

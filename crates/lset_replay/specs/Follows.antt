@@ -1,5 +1,5 @@
--- The invariant of a replay. The world (the shared words of the list and the private states of its threads) and the
--- recorder match the events executed so far.
+-- The invariant of a replay: the recorder and the world (the shared words of the list and the private states of its
+-- threads) match the events executed so far.
 use Rattle.std.specs.Prelude.{◌≡◌, ℕ, ◌<◌, List, length, Result}
 use Rattle.lset_text.specs.declared.causes.Cause.{Cause}
 use Rattle.lset_text.specs.declared.causes.Cause.TheVariants as cause
@@ -18,16 +18,16 @@ use Rattle.lset_replay.specs.Trace.{trace_at, trace_of}
 use Rattle.lset_replay.specs.Reports.{world_after, IsFirstRefused}
 use Rattle.lset_words.specs.Words.{Opening}
 
--- Holds if values of type W change with each event as the step table T defines. A value of type W is a world (the words
--- and threads of a list), and `state` returns its state. `account` and `listed` are the assumptions about T: how each
--- event changes the keys in the set, and which keys they can be.
+-- Holds if values of type `W` change with each event as the step table `T` defines. A value of type `W` is a world (the
+-- words and threads of a list), and `state` returns the world's state. `account` and `listed` are the assumptions about
+-- `T`: how each event changes the keys in the set, and which keys can be in the set.
 pub record AreSteps (T : Table) (W : Type 0) (makes : W → Event → Result Told Cause → W → Type 0) (state : W → WorldState) : Type 0 where
   pub account : HasAccount T
   pub listed : ListedContent T
   pub made : (w : W) (e : Event) (r : Result Told Cause) (w' : W) → makes w e r w' → HasMade T (state w) e r (state w')
 
--- Holds if the first k events led to the world w (the words and threads of a list), and the recorder r has recorded
--- these events.
+-- Holds if the first `k` events led to the world `w` (the words and threads of a list), and the recorder `r` has
+-- recorded the first `k` events.
 pub record HasFollowed (T : Table) (op : Opening) (events : List LineEvent) (k : ℕ) (w : WorldState) (r : Recorder) : Type 0 where
   pub run : Run T op (event_at (only_events events)) k
   pub world : w ≡ world_after T op (only_events events) k
@@ -35,13 +35,13 @@ pub record HasFollowed (T : Table) (op : Opening) (events : List LineEvent) (k :
   pub opening_is : r.history.opening ≡ op
   pub counted : r.last ≡ k
 
--- Holds if `next` is event number k, counted from 0.
+-- Holds if `next` is event number `k`. Events are counted from 0.
 pub record ComesNext (es : List LineEvent) (k : ℕ) (next : LineEvent) : Type 0 where
   pub known : k < length es
   pub event_is : event_at (only_events es) k ≡ next.event
   pub line_is : next.line ≡ line_at es k
 
--- Holds if a run can stop at this line for this cause: the line contains the first event that is not enabled, or an
+-- Holds if a run can stop at `line` with the given cause: the line contains the first event that is not enabled, or an
 -- allocation failed.
 abbrev pub IsStoppedBy : Table → Opening → List LineEvent → ℕ → Cause → Type 0
 IsStoppedBy T op events line cause.NoThread = IsFirstRefused T op events line step.NoThread

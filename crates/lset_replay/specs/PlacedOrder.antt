@@ -17,14 +17,14 @@ pointed_from number (None ∷ ps) = pointed_from (suc number) ps
 pointed_from number (Some p ∷ ps) =
     record { point = point_of p; placed = record { call = number; reply = p.reply } } ∷ pointed_from (suc number) ps
 
--- Holds if `sorted` contains the calls that have a linearization point, ordered by the moment (event number) of this
--- point. If several points are at the same moment, the call that changes the set precedes the others, which are ordered
--- by number.
+-- Holds if `sorted` contains the calls that have a linearization point, ordered by the moment (event number) of the
+-- point. If several points have the same moment, a call that changes the set comes first, and the other calls are
+-- ordered by number.
 pub record AreSorted (ps : List (Option Linearized)) (sorted : List Pointed) : Type 0 where
   pub moved : IsPermutation (pointed_from 0 ps) sorted
   pub rises : AllPairs IsPlacedBefore sorted
 
--- Holds if the order consists of the calls that have a linearization point, and is sorted by these points.
+-- Holds if `order` consists of the calls that have a linearization point, sorted by linearization point.
 pub record IsOrderOf (ps : List (Option Linearized)) (order : List Placed) : Type 0 where
   pub sorted : List Pointed
   pub are : AreSorted ps sorted

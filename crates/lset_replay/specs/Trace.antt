@@ -1,4 +1,4 @@
--- What a recorder contains after some events, computed from the effects of these events.
+-- The content of a recorder after some events, computed from the effects of the events.
 use Rattle.std.specs.Prelude.{◌≡◌, ℕ, zero, suc, ◌-◌, ◌<◌, ◌≤◌, Bool, true, false, not, List, [], ◌∷◌, ◌++◌, length, replicate}
 use Rattle.std.specs.Prelude.{Option, Some, None, slice_index_or, slice_set, IsSomeAnd}
 use Rattle.lset_words.specs.declared.Call.{Call}
@@ -22,15 +22,16 @@ use Rattle.lset_replay.specs.declared.recorder.Recorder.{Recorder}
 
 -- ---- The reply of a pending call
 
--- Returns whether the reply of a call that changed nothing requires the call's key to be present. If not, the reply
--- requires the key to be absent. Always true for a `ceiling`, because `shows` tests the whole reply of a `ceiling`.
+-- Returns `true` if the reply of a call that changed nothing requires the call's key to be present, and `false` if the
+-- reply requires the key to be absent. Always `true` for a `ceiling`, because `shows` tests the whole reply of a
+-- `ceiling`.
 abbrev pub needs_key : Call → Reply → Bool
 needs_key (call.Add k) reply.False = true
 needs_key (call.Contains k) reply.True = true
 needs_key (call.Ceiling k) r = true
 needs_key c r = false
 
--- Returns the key in the reply of a `ceiling`, or None if the reply is Nothing.
+-- Returns the key in the reply of a `ceiling`, or `None` if the reply is `Nothing`.
 abbrev pub found_in : Reply → Option ℕ
 found_in (reply.At k) = Some k.0
 found_in reply.Nothing = None
@@ -38,16 +39,16 @@ found_in reply.True = None
 found_in reply.False = None
 found_in reply.Full = None
 
--- Returns a function that tests a moment (an event number). The test is whether the key of the call is present at this
--- moment or, for a `ceiling`, whether the reply is correct at this moment.
+-- Returns a function that tests a moment (an event number): whether the call's key is present at the moment or, for a
+-- `ceiling`, whether the reply is correct at the moment.
 abbrev pub shows : (ℕ → List ℕ) → Call → Reply → ℕ → Bool
 shows changes (call.Add k) r = λ m. is_present changes k.0 m
 shows changes (call.Remove k) r = λ m. is_present changes k.0 m
 shows changes (call.Contains k) r = λ m. is_present changes k.0 m
 shows changes (call.Ceiling k) r = has_ceiling changes k.0 (found_in r)
 
--- Returns the first moment (event number), from the start of the call up to `last`, when the reply is correct. The call
--- must change nothing.
+-- Returns the first moment (event number) when `reply` is correct, from the start of the call up to `last`. The call
+-- must not change the set.
 abbrev pub fit : (ℕ → List ℕ) → OpenCall → Reply → ℕ → Option ℕ
 fit changes o reply last = first_passing (needs_key o.call reply) (shows changes o.call reply) o.begun (last - o.begun)
 
@@ -57,20 +58,19 @@ abbrev pub changed_at : ℕ → Linearized
 changed_at moment = record { moment = moment; reply = reply.True; change = true }
 
 -- Returns the linearization point of a call that changes nothing: the first moment (event number) during the call when
--- its reply is correct. Each call on a list has such a moment. If a call on a broken list has none, its linearization
--- point is its end.
+-- the call's reply is correct. Each call on a list has such a moment. If a call on a broken list has none, the
+-- linearization point is the end of the call.
 abbrev pub read_at : Option ℕ → ℕ → Reply → Linearized
 read_at None end reply = record { moment = end; reply = reply; change = false }
 read_at (Some moment) end reply = record { moment = moment; reply = reply; change = false }
 
--- Returns the linearization point of a completed call. This is the point at which the call changed the set or, if the
--- call made no change, the point that `read_at` returns.
+-- Returns the linearization point of a completed call. If the call changed the set, this is the point of the change,
+-- otherwise the point that `read_at` returns.
 abbrev pub settled : Option Linearized → Option ℕ → ℕ → Reply → Option Linearized
 settled (Some p) moment end reply = Some p
 settled None moment end reply = Some (read_at moment end reply)
 
--- ---- The content of a recorder: calls, pending calls, linearization points, and for each key the moments of its
--- changes
+-- The content of a recorder
 
 pub record Trace : Type 0 where
   pub calls : List CallRecord
@@ -152,7 +152,7 @@ abbrev pub entry_told : Event → Told → Entry
 entry_told (event.Begin thread call) told = began thread call
 entry_told (event.Go thread) told = stepped thread told.change told.answer
 
--- Holds if the thread has a pending call that can change the set or end at this moment (event number).
+-- Holds if the thread has a pending call that can change the set or end at the given moment (event number).
 pub record MayStep (h : HistoryValue) (under_way : List (Option OpenCall)) (places : List (Option Linearized))
     (thread moment : ℕ) : Type 0 where
   pub of_a_thread : thread < length under_way

@@ -11,7 +11,7 @@ pub struct LineEvent {
     pub event: Event,
 }
 
-/// Returns the event in a line of a schedule, and the number of times that the line repeats this event.
+/// Returns the event in a line of a schedule, and the number of times that the line repeats the event.
 pub fn event_of(number: u64, line: Line) -> (LineEvent, u32)
     ensures { events_of_line number line ≡ replicate result.1 result.0 }
 {

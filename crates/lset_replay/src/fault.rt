@@ -4,8 +4,8 @@ ghost use Rattle.lset_replay.specs.declared.fault.ReplayFault.TheVariants.{Memor
 use std::alloc::AllocError;
 use thiserror::Error;
 
-/// The reason why a replay fails: the first event that is not enabled, with its line number in the schedule's text
-/// (counted from 1, header included), or a failed allocation.
+/// The error of a replay: the cause and line number of the first event that is not enabled, or `Memory`. Lines of the
+/// schedule's text are counted from 1, including the header.
 #[derive(Clone, Copy, Debug, PartialEq, Eq, Error)]
 pub enum ReplayFault {
     /// The line names a thread that the schedule does not have.

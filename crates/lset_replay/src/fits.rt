@@ -10,8 +10,7 @@ use lset_history::Changes;
 use lset_words::{Call, Reply};
 
 /// Returns the first moment (event number) when `reply` is correct for the pending call `made`, from the start of the
-/// call up to `last`. The call must not have changed the set. Returns `None` if `reply` is correct at none of these
-/// moments.
+/// call up to `last`. The call must not have changed the set. Returns `None` if there is no such moment.
 pub fn fit(changes: &Changes, made: OpenCall, reply: Reply, last: u32) -> Option<u32>
     requires { made.begun ≤ last }
     ensures { result ≡ fit (moments_of changes.now) made reply last }
@@ -24,7 +23,8 @@ pub fn fit(changes: &Changes, made: OpenCall, reply: Reply, last: u32) -> Option
     }
 }
 
-/// Implements `fit` for all calls except `ceiling`. The reply of such a call depends only on the key of the call.
+/// Implements `fit` for all calls except `ceiling`. Whether the reply of such a call is correct depends only on the
+/// call's key.
 fn fit_by_key(changes: &Changes, made: OpenCall, reply: Reply, last: u32) -> Option<u32>
     requires span { made.begun ≤ last }
     requires own_key { (k : Key) → made.call ≢ Ceiling k }

@@ -1,10 +1,10 @@
 //! Replays schedules event by event and reports the runs. A report contains the history of the calls, an order that
 //! explains the history, and the final keys.
 //!
-//! One loop, `follow`, executes the events of a schedule, and a `Recorder` collects the calls. For a list, both are
-//! proved: `replay` returns the report of the run. `calls_of` returns the calls for a picture, and `TracedRun` reports
-//! the effect of each event. These two also work on broken lists (lists with one check removed); they are tested, not
-//! proved.
+//! One loop, `follow`, executes the events of a schedule, and a `Recorder` collects the calls. For lists, the loop and
+//! the recorder are proved: `replay` returns the report of the run. `calls_of` returns the calls for a picture, and
+//! `TracedRun` reports the effect of each event. `calls_of` and `TracedRun` also work on broken lists (lists with one
+//! check removed); they are tested, not proved.
 #![tactic(auto)]
 
 mod events; // an event with its line number

@@ -6,8 +6,8 @@ use lset_report::{Pointed, sort_by_points};
 use lset_words::{Placed, Point};
 use std::alloc::{AllocError, Global};
 
-/// Returns an entry for each call that has a linearization point, ordered by call number. The index of a call in
-/// `places` is its number.
+/// Returns an entry for each call that has a linearization point, ordered by call number. A call's number is its index
+/// in `places`.
 fn pointed_calls(alloc: Global, places: &[Option<Linearized>]) -> Result<Vec<Pointed>, AllocError>
     requires { length places.now < 2 ^ 32 }
     ensures { IfOk result (λ v. v.items ≡ pointed_from 0 places.now) }
@@ -30,9 +30,9 @@ fn pointed_calls(alloc: Global, places: &[Option<Linearized>]) -> Result<Vec<Poi
     Ok(pointed)
 }
 
-/// Returns an entry for each call that has a linearization point, ordered by these points. If several points are at the
-/// same moment, the call that changes the set comes first, then the others by number. Returns `AllocError` if an
-/// allocation fails.
+/// Returns an entry for each call that has a linearization point, ordered by linearization point. If several points
+/// have the same moment, a call that changes the set comes first, and the other calls are ordered by number. Returns
+/// `AllocError` if an allocation fails.
 pub(crate) fn sorted_places(
     alloc: Global,
     places: &[Option<Linearized>],

@@ -3,7 +3,7 @@ ghost use Rattle.lset_replay.specs.Trace.{needs_key, found_in, changed_at, read_
 
 use lset_words::{Call, Effect, Presence, Reply};
 
-/// A pending call, with its number in the history and the moment (event number) when it started.
+/// A pending call, with its number in the history and the moment (event number) when the call started.
 #[derive(Clone, Copy)]
 pub(crate) struct OpenCall {
     pub number: u32,
@@ -11,8 +11,8 @@ pub(crate) struct OpenCall {
     pub begun: u32,
 }
 
-/// Returns whether the reply of a call that changed nothing requires the call's key to be present. If not, the reply
-/// requires the key to be absent. Returns `true` for every `ceiling`.
+/// Returns `true` if the reply of a call that changed nothing requires the call's key to be present, and `false` if the
+/// reply requires the key to be absent. Returns `true` for every `ceiling`.
 pub(crate) fn needs_key(call: Call, reply: Reply) -> bool
     ensures { result ≡ needs_key call reply }
 {
@@ -31,7 +31,7 @@ pub(crate) fn found_in(reply: Reply) -> Option<u32>
 }
 
 /// The linearization point of a call: its moment (event number), the call's reply, and whether the call changes the set
-/// at this moment.
+/// at the moment.
 #[derive(Clone, Copy)]
 pub(crate) struct Linearized {
     pub moment: u32,
@@ -40,7 +40,7 @@ pub(crate) struct Linearized {
 }
 
 impl Linearized {
-    /// Creates the linearization point of a call that changes the set at `moment`. The reply of such a call is `True`.
+    /// Creates the linearization point of a call that changes the set at `moment`. The call's reply is `True`.
     pub fn changed(moment: u32) -> Linearized
         ensures { result ≡ changed_at moment }
     {
@@ -52,7 +52,7 @@ impl Linearized {
     }
 
     /// Creates the linearization point of a call that changes nothing. The point is at `moment` or, if `moment` is
-    /// `None`, at the moment `end` when the call ends.
+    /// `None`, at `end`, the moment when the call ends.
     pub fn read(moment: Option<u32>, end: u32, reply: Reply) -> Linearized
         ensures { result ≡ read_at moment end reply }
     {

@@ -37,8 +37,8 @@ fn is_there(changes: &Changes, key: u32, moment: u32) -> bool
     changes.first(key, true, moment, moment).0.is_some()
 }
 
-/// Records that a key was added (if `present` is true) or removed by the event with number `moment`. Records nothing if
-/// the key already was in this state, which only happens on broken lists.
+/// Records that the event with the number `moment` added a key (if `present` is true) or removed a key. Records nothing
+/// if the event did not change whether the key is present, which happens only on broken lists.
 fn note_key(changes: &mut Changes, key: u32, present: bool, moment: u32) -> Result<(), AllocError>
     requires { IsLaterThanAll (moments_of changes.old) moment }
     ensures upto { (k : ℕ) → All (λ m. m ≤ moment) (moments_of changes.new k) }
@@ -77,7 +77,8 @@ impl Recorder {
         Some(open.number)
     }
 
-    /// Returns the moment (event number) of a call's linearization point, or `None` if this point is not known yet.
+    /// Returns the moment (event number) of a call's linearization point, or `None` if the linearization point is not
+    /// known yet.
     pub fn moment_of(&self, call: u32) -> Option<u32> {
         let place = (*self.places.get(call as usize)?)?;
         Some(place.moment)
@@ -99,7 +100,7 @@ impl Recorder {
         }
     }
 
-    // Not inlined, so that the loop over the events stays small: few events start or end a call or change the set.
+    // Not inlined, to keep the loop over the events small: few events start or end a call or change the set.
     #[inline(never)]
     fn begin(&mut self, thread: u32, call: Call) -> Result<(), Cause>
         requires { length self.old.places.items < self.old.last }
@@ -148,7 +149,7 @@ impl Recorder {
         Ok(())
     }
 
-    /// Returns the linearization point of the call `made`, which ends now with this reply.
+    /// Returns the linearization point of the call `made`, which ends with the last event and returns `reply`.
     fn place_at_end(&self, made: OpenCall, reply: Reply) -> Linearized
         requires known { made.number < length self.now.places.items }
         requires begun { made.begun ≤ self.now.last }
@@ -192,8 +193,8 @@ impl Recorder {
     }
 
     /// Records the next event and its effect. Can allocate. Returns the error `Memory` if an allocation fails, or if
-    /// the run has 4,294,967,295 events already. On a broken list, returns the error `Lost` if the effect is not
-    /// possible after the run so far.
+    /// the run already has 4,294,967,295 events. On a broken list, returns the error `Lost` if the effect is impossible
+    /// after the events recorded so far.
     #[inline(always)]
     pub fn follow(&mut self, event: Event, told: Told) -> Result<(), Cause>
         ensures trace { OnOk result (MayRecord self.old (self.old.last + 1) event told

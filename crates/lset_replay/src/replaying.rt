@@ -26,8 +26,8 @@ use lset_steps::laws::{has_account, listed_content};
 use lset_text::{Cause, LineFault};
 use std::alloc::Global;
 
-/// Converts the error that stopped a replay to a `ReplayFault`. In a replay on a list, only a failed allocation reaches
-/// the last arm.
+/// Converts the error that stopped a replay to a `ReplayFault`. On a list that is not broken, only a failed allocation
+/// reaches the last arm.
 fn refusal(stopped: LineFault) -> ReplayFault
     ensures { (T : Table) (op : Opening) (events : List LineEvent) → IsStopped T op events stopped → IsRefusal T op events result }
 {
@@ -39,8 +39,8 @@ fn refusal(stopped: LineFault) -> ReplayFault
     }
 }
 
-/// Executes the events in these lines in turn and records them. `first` is the number of the first line. Stops at the
-/// first event that is not enabled and returns its line and cause. The cause is `Memory` if an allocation failed.
+/// Executes and records the events in `lines`, in order. `first` is the number of the first line. Stops at the first
+/// event that is not enabled, and returns the event's line and cause. The cause is `Memory` if an allocation failed.
 pub(crate) fn follow<W: Steps>(
     world: &mut W,
     recorder: &mut Recorder,
@@ -121,16 +121,17 @@ impl Task for Replaying<'_> {
     }
 }
 
-/// Executes a schedule and returns a report with the history of the run, a linearization of it, and the final keys.
+/// Executes a schedule and returns a report with the history of the run, a linearization of the history, and the final
+/// keys.
 ///
-/// `schedule` must be within the limits: 1 to 64 threads, a quota of 0 to 16,384, at most 1,048,576 opening keys in
-/// strictly increasing order, and at most 1,000,000 events. Every schedule from `read_schedule` is within these limits.
-/// The report has the version of the schedule. `write_report` accepts the report if this version can express the
-/// schedule's calls and opening keys.
+/// `schedule` must be within the limits: 1 to 64 threads, a quota of 0 to 16,384 successful adds per thread, at most
+/// 1,048,576 opening keys in strictly increasing order, and at most 1,000,000 events. Every schedule from
+/// `read_schedule` is within the limits. The report has the version of the schedule. `write_report` accepts the report
+/// if the version has the schedule's calls and, if there are opening keys, lines for opening keys.
 ///
 /// A call that changed the set takes effect at the event of its change, even if the call is pending. Any other
 /// completed call takes effect at the first moment between its start and its end when its reply is correct.
-/// (Linearizability is due to Herlihy and Wing.)
+/// Linearizability is due to Herlihy and Wing.
 ///
 /// Example, from `crates/first_program`:
 ///

@@ -13,7 +13,7 @@ use lset_text::{Cause, LineFault};
 use lset_words::{Placed, Point};
 use std::alloc::{AllocError, Global};
 
-/// The calls of a run, up to the run's last event or to the first event that is not enabled.
+/// The calls of a run. The run ends with the schedule's last event or before the first event that is not enabled.
 #[derive(Drop)]
 pub struct RunCalls {
     pub history: History,

@@ -10,7 +10,7 @@ use lset_text::Cause;
 use std::alloc::AllocError;
 
 /// The world of a run: the shared words of a list or a broken list, and the private states of its threads. The events
-/// of the run are executed in this world.
+/// of the run are executed in the world.
 pub trait Steps {
     /// Specifies the effect of an event. The default, which is used for broken lists, allows any effect.
     ghost makes: { Self → Event → Result Told Cause → Self → Type 0 } = { λ world event made after. Unit {0} };
@@ -19,15 +19,15 @@ pub trait Steps {
     fn held(&self, t: u32) -> Option<Local>;
 
     /// Returns the next access of thread `t` to a shared word, with the value that the access will find. Returns `None`
-    /// if the next step of the thread accesses no word.
+    /// if the next step of `t` accesses no word.
     fn ahead(&self, t: u32) -> Option<(Action, u64)>;
 
-    /// Executes an event and returns its effect. If the event is not enabled, nothing changes, and the error is
+    /// Executes an event and returns its effect. An event that is not enabled changes nothing, and the error is
     /// `NoThread`, `Busy` or `Idle`. On a broken list, the error can also be `Lost`.
     fn make(&mut self, event: Event) -> Result<Told, Cause>
         ensures { makes self.old event result self.new };
 
-    /// Walks along the nodes from head to tail. Returns the key of each node, and whether the node is marked. Returns
+    /// Visits the nodes from head to tail. Returns the key of each node, and whether the node is marked. Returns
     /// `AllocError` if an allocation fails.
     fn met(&self) -> Result<Vec<ChainKey>, AllocError>;
 

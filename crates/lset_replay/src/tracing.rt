@@ -17,12 +17,12 @@ fn thread_of(event: Event) -> u32 {
     }
 }
 
-/// Returns whether the shared word with this index is the key or the link of a node.
+/// Returns whether the shared word with index `word` is the key or the link of a node.
 fn is_node_word(word: u64) -> bool {
     word > 2 && word % 3 != 2
 }
 
-/// Returns whether an event writes the key or the link of a node. Only such an event can change which nodes are in the
+/// Returns whether an event writes the key or the link of a node. No other event can change which nodes are in the
 /// list.
 fn writes_node(deed: Deed) -> bool {
     match deed {
@@ -32,7 +32,7 @@ fn writes_node(deed: Deed) -> bool {
     }
 }
 
-/// A run of a schedule that reports its events one by one.
+/// A run of a schedule that reports the run's events one by one.
 #[derive(Drop)]
 pub struct TracedRun<W: Steps + Drop> {
     alloc: Global,
@@ -43,9 +43,9 @@ pub struct TracedRun<W: Steps + Drop> {
 
 impl<W: Steps + Drop> TracedRun<W> {
     /// Creates the run of a schedule. No event may have been executed in `world` before. If `chains` is true, each
-    /// event that changes the nodes in the list or their marks is reported with the new list of nodes. This costs a
-    /// walk along the nodes at each event that writes the key or the link of a node. Returns `AllocError` if an
-    /// allocation fails.
+    /// event that changes the nodes in the list or their marks is reported with the new list of nodes. Each event that
+    /// writes the key or the link of a node then costs a walk along all nodes. Returns `AllocError` if an allocation
+    /// fails.
     pub fn opened(
         alloc: Global,
         schedule: &Schedule,
@@ -114,8 +114,8 @@ impl<W: Steps + Drop> TracedRun<W> {
         Some((self.world.held(thread_of(event))?, deed))
     }
 
-    /// Returns the reply of a call and the moment (event number) when it takes effect. Returns `None` if the last event
-    /// did not end the call.
+    /// Returns the reply of a call, and the moment (event number) when the call takes effect. Returns `None` if the
+    /// last event did not end the call.
     fn end_of(&self, call: u32, told: Told) -> Option<CallEnd> {
         Some(CallEnd {
             reply: told.answer?,
@@ -123,8 +123,8 @@ impl<W: Steps + Drop> TracedRun<W> {
         })
     }
 
-    /// Returns the nodes of the list from head to tail after an event. Returns `None` if they were not requested, or
-    /// have not changed since they were last returned.
+    /// Returns the nodes of the list from head to tail after an event. Returns `None` if no lists of nodes were
+    /// requested, or if the nodes have not changed since they were last returned.
     fn changed_chain(&mut self, deed: Deed) -> Result<Option<Vec<ChainKey>>, AllocError> {
         let Some(told) = &mut self.chain else {
             return Ok(None);
