@@ -1,5 +1,5 @@
--- Proof: the Boolean test `may_follow` decides whether a call can follow a history, and the fields of CallsSoFar
--- suffice for this test.
+-- Proof: the Boolean test `may_follow` decides whether a call can follow a history, and the fields of `CallsSoFar`
+-- contain everything that `may_follow` needs.
 use Rattle.std.proofs.Common.{inl, inr, ◌≡◌, ◌≢◌, ℕ, ◌<◌, ◌&&◌, ◌||◌, not, ltb, eqb, Bool, true, false, List, [], ◌∷◌, ◌++◌, length, get_or}
 use Rattle.std.proofs.Common.{Option, Some, None, refl, sym, ap, ◌∙◌, arith, ⊎_elim, zero, suc, replicate}
 use Rattle.std.proofs.Math.ListN.{set}
@@ -23,7 +23,7 @@ use Rattle.lset_report.specs.ReportReading.{ends_at, is_entry, is_taken, begins_
 use Rattle.lset_report.specs.ReportReading.{may_follow}
 use Rattle.lset_report.specs.ReportCalls.{end_moment, is_open, is_last_end, Tracks}
 
--- ---- Lemmas: the Boolean test decides the proposition MayFollow
+-- The Boolean test decides the proposition `MayFollow`
 
 not_or : (a b : Bool) → not (a || b) ≡ (not a && not b)
 not_or true b = refl
@@ -118,7 +118,7 @@ pub history_more : (threads : ℕ) (calls : List CallRecord) (x : CallRecord) �
     → may_follow threads calls x ≡ true → IsHistory threads (calls ++ x ∷ [])
 history_more threads calls x h may = history_begun threads calls x h (may_ok threads calls x may)
 
--- ---- Lemmas: appending a call preserves the invariant
+-- Appending a call preserves the invariant
 
 begins_pushed : (calls : List CallRecord) (x : CallRecord) (last : ℕ) → ((m : ℕ) → begins_later calls m ≡ ltb last m)
     → begins_later calls x.begun ≡ true → (m : ℕ) → begins_later (calls ++ x ∷ []) m ≡ ltb x.begun m
@@ -162,8 +162,8 @@ idle_step : (calls : List CallRecord) (x : CallRecord) (t m : ℕ)
 idle_step calls x t m =
     list_all-append (idle_at t m) calls (x ∷ []) ∙ ap (λ b. is_idle calls t m && b) (and-true (idle_at t m x))
 
--- Returns whether a thread is idle and its last call ended before moment m (a position in the history). `busy` is true
--- if the thread has a pending call, and `end` is the end of its last call.
+-- Returns whether a thread has no pending call and the thread's last call ended before moment `m` (a position in the
+-- history). `busy` is true if the thread has a pending call, and `end` is the end of its last call.
 abbrev is_over : Bool → ℕ → ℕ → Bool
 is_over busy end m = not busy && ltb end m
 
@@ -198,7 +198,7 @@ idle_other calls x t m other =
     let apart : idle_at t m x ≡ true = or_left _ _ (not_from_false _ (ne_eqb x.thread t (λ same. other (sym same)))) in
     idle_step calls x t m ∙ ap (λ b. is_idle calls t m && b) apart ∙ and-true (is_idle calls t m)
 
--- ---- Lemmas: the invariant holds before the first call
+-- The invariant holds before the first call
 
 none_at : (n m : ℕ) → 0 < m → is_last_end (replicate n 0) m ≡ false
 none_at zero m some = refl

@@ -43,7 +43,7 @@ pieces_of told.End = codes "end" ∷ []
 abbrev pub line_text : Line → List ℕ
 line_text l = line_of (pieces_of l)
 
--- Holds if the numbers in a line are in range, and this version of the format has the words in the line.
+-- Holds if the numbers in a line are in range, and the format version `v` has the words in the line.
 abbrev pub IsLine : Version → Line → Type 0
 IsLine v (told.Opening k) = (k < 2 ^ 32) × (v ≡ Two)
 IsLine v (told.Call n x) =
@@ -52,7 +52,7 @@ IsLine v (told.Place p) = IsPlace v p
 IsLine v (told.Key k) = k < 2 ^ 32
 IsLine v told.End = Unit {0}
 
--- Holds if the report has no lines of the sections after this section.
+-- Holds if all sections of the report after `section` are empty.
 abbrev pub Reaches : Section → ReportValue → Type 0
 Reaches section.Opening r = (r.history.calls ≡ []) × (r.order ≡ []) × (r.keys ≡ [])
 Reaches section.Calls r = (r.order ≡ []) × (r.keys ≡ [])
@@ -60,17 +60,17 @@ Reaches section.Order r = r.keys ≡ []
 Reaches section.Keys r = Unit {0}
 Reaches section.Done r = Unit {0}
 
--- ---- Lemmas: bytes that are read as a line are the text of this line
+-- Bytes that are read as a line are the text of that line
 
--- Holds if the line is well formed, and the report has no lines of later sections.
+-- Holds if the line is well formed, and all later sections of the report are empty.
 abbrev pub IsNext : Version → ReportValue → Line → Type 0
 IsNext v r l = IsLine v l × Reaches (section_after l) r
 
 abbrev Known : Version → ReportValue → LineKind Line → Type 0
 Known v r = Knows v pieces_of (IsNext v r)
 
--- Returns the line of a call that ends with `o`, a moment (a position in the history) and a reply. `o` is None if the
--- call is pending.
+-- Returns the line of a call that ends with `o` (a reply, and the moment of the reply as a position in the history).
+-- `o` is `None` if the call is pending.
 abbrev call_with : CallWord → ℕ → ℕ → ℕ → ℕ → Option (ℕ × Reply) → Line
 call_with w n t k b o = told.Call n (record { thread = t; call = with_key w (record { 0 = k }); begun = b; ended = o })
 
@@ -128,7 +128,7 @@ kinds_known v section.Order r reached = order_known v r reached
 kinds_known v section.Keys r reached = keys_known v r
 kinds_known v section.Done r reached = tt
 
--- ---- Lemmas: the text of a line is read as this line
+-- The text of a line is read as that line
 
 abbrev pub IsTold : Version → List (LineKind Line) → Line → Type 0
 IsTold v ks l = IsMade v pieces_of ks l
@@ -174,7 +174,7 @@ end_told_so v = inr (refl, inl ((tt, tt), refl, (tt, tt)))
 abbrev pub reached : List CallRecord → List Placed → List ℕ → Section
 reached cs ps ks = later ks (later ps (later cs section.Opening section.Calls) section.Order) section.Keys
 
--- Returns whether the fields of the line match this form.
+-- Returns whether the fields of the line match the form `k`.
 abbrev Has : Version → LineKind Line → Line → Bool
 Has v k l = have_form v k.0 (pieces_of l)
 

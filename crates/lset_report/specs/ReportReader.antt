@@ -26,23 +26,23 @@ so_far s = record {
   keys = s.keys.items;
 }
 
--- Returns the section that the reader has reached, and the report read so far.
+-- Returns the section that the reader has reached, and the part of the report that the reader has read.
 abbrev pub state : Reader → SoFar
 state s = record { section = s.section; report = so_far s }
 
--- Holds if an allocation failed at a complete line other than `end`, and neither this line nor an earlier line has an
+-- Holds if an allocation failed at a complete line other than `end`, and neither the line nor any earlier line has an
 -- error.
 abbrev pub IsFull : List (List ℕ) → Result SoFar LineFault → LineFault → Type 0
 IsFull parts read e = (index : ℕ) × (e ≡ fault (first_line + index) Memory)
     × IsGoodLine first_line parts read (first_line + index) × (slice_index_or parts index [] ≢ last_line)
 
--- Holds if reading the lines after the header returned the result that the grammar defines (`read`), or an allocation
--- failed.
+-- Holds if reading the lines after the header returned the result `read`, which the grammar defines, or if an
+-- allocation failed.
 abbrev pub GoesOn : {X : Type 0} → SoFar → Result X LineFault → List (List ℕ) → Result SoFar LineFault → Type 0
 GoesOn s (Ok x) parts read = read ≡ Ok s
 GoesOn s (Err e) parts read = (read ≡ Err e) ⊎ IsFull parts read e
 
--- Holds if reading one line returned the result that the grammar defines for this line, or an allocation failed.
+-- Holds if reading `line` returned the result that the grammar defines for it, or if an allocation failed.
 abbrev pub ReadsLine : {X : Type 0} → Reader → Reader → ℕ → List ℕ → Result X LineFault → Type 0
 ReadsLine s t number line (Ok x) = step (state s) line ≡ Ok (state t)
 ReadsLine s t number line (Err e) = ((cause : Cause) × (step (state s) line ≡ Err cause) × (e ≡ fault number cause))

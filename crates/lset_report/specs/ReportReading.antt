@@ -1,5 +1,5 @@
--- The grammar of reports: defines the report that a text represents, or the first error in the text. Lines are checked
--- one by one. The checks of a line have a fixed order.
+-- The grammar of reports. It defines the report that a text represents, or the first error in the text. Lines are
+-- checked one by one, and each line is checked in a fixed order.
 use Rattle.std.specs.Prelude.{◌≡◌, ◌≢◌, ◌⊎◌, ℕ, ◌+◌, ◌<◌, ◌≤◌, ◌^◌, ◌==◌, ◌&&◌, ◌||◌, not, nat_lt, Bool, true, false, List, []}
 use Rattle.std.specs.Prelude.{◌∷◌, ◌++◌, length, codes, Option, Some, None, Result, Ok, Err, if◌then◌else◌, slice_index_or}
 use Rattle.std.specs.List.{list_any, list_all, AllByRecursion}
@@ -37,7 +37,7 @@ use Rattle.lset_report.specs.Texts.{title, last_line, report_text}
 
 -- ---- Limits on the numbers in a report
 
--- Holds if a call is pending, or its end is at most 4294967295 and its reply is in this version of the format.
+-- Holds if a call is pending, or if the moment of its end is at most 4294967295 and the format version has its reply.
 abbrev pub IsEnd : Version → Option (ℕ × Reply) → Type 0
 IsEnd version None = Unit {0}
 IsEnd version (Some end) = (end.0 < 2 ^ 32) × HasReply version end.1
@@ -48,15 +48,16 @@ IsCall version x = (x.begun < 2 ^ 32) × ((key_of x.call).0 < 2 ^ 32) × IsEnd v
 abbrev pub IsPlace : Version → Placed → Type 0
 IsPlace version p = (p.call < 2 ^ 32) × HasReply version p.reply
 
--- Returns the maximum number of final keys. A set that opens with keys can reach more keys than an empty set.
+-- Returns the maximum number of final keys. A set that opens with keys can contain more keys than a set that opens
+-- empty.
 abbrev pub most_keys : Version → ℕ
 most_keys One = MOST_KEYS
 most_keys Two = MOST_KEYS_OPENED
 
 -- Holds if the report can be written as text. A set can open with the report's thread count, quota and opening keys
--- (the keys at the start). The report's calls are a history. The report's version of the format has words for the
--- opening keys, the calls and the replies. All numbers are within their limits, and so are the counts of calls, entries
--- and keys. The order and the final keys are otherwise arbitrary.
+-- (the keys at the start). The report's calls are a history. The report's format version has the opening keys, the
+-- calls and the replies. All numbers are within their limits, and so are the counts of calls, entries and keys. The
+-- order and the final keys can be arbitrary.
 pub record IsReport (r : ReportValue) : Type 0 where
   pub opens : Opens r.history.opening
   pub opening : HasOpening r.version r.history.opening.keys
@@ -73,7 +74,7 @@ pub record IsReport (r : ReportValue) : Type 0 where
 abbrev pub opening_kind : LineKind ReportLine
 opening_kind = (opening_form, λ t. told.Opening t.1.0)
 
--- Returns the line of a call with this number, thread, operation, key, start and end.
+-- Returns the line of a call with the given number, thread, operation, key, start and end.
 abbrev pub call_told : {X : Type 0} → ℕ × (ℕ × (CallWord × (ℕ × (ℕ × X)))) → Option (ℕ × Reply) → ReportLine
 call_told t end = told.Call t.0
     (record { thread = t.1.0; call = with_key t.1.1.0 (record { 0 = t.1.1.1.0 }); begun = t.1.1.1.1.0; ended = end })
@@ -103,12 +104,12 @@ key_kind = (piece.word (codes "key") ∷ piece.any ∷ [], λ t. told.Key t.1.0)
 abbrev pub end_kind : LineKind ReportLine
 end_kind = (piece.word (codes "end") ∷ [], λ t. told.End)
 
--- Returns the kinds of lines that are allowed in the section of final keys. The sections of a report have a fixed
+-- Returns the kinds of lines that are allowed in the section of the final keys. The sections of a report have a fixed
 -- order, and any section can be empty.
 abbrev pub from_keys : List (LineKind ReportLine)
 from_keys = key_kind ∷ end_kind ∷ []
 
--- Returns the kinds of lines that are allowed in the section of the order of calls.
+-- Returns the kinds of lines that are allowed in the section of the order.
 abbrev pub from_order : List (LineKind ReportLine)
 from_order = place_kind ∷ from_keys
 
@@ -122,7 +123,7 @@ abbrev pub from_opening : Version → List (LineKind ReportLine)
 from_opening One = from_calls
 from_opening Two = opening_kind ∷ from_calls
 
--- Returns the kinds of lines that are allowed when the reader has reached this section.
+-- Returns the kinds of lines that are allowed when the reader has reached the given section.
 abbrev pub kinds : Version → Section → List (LineKind ReportLine)
 kinds version section.Opening = from_opening version
 kinds version section.Calls = from_calls
@@ -130,10 +131,10 @@ kinds version section.Order = from_order
 kinds version section.Keys = from_keys
 kinds version section.Done = []
 
--- ---- Whether a line can follow the lines before it
+-- Whether a line can follow the previous lines
 
--- Returns whether a call with this end ended at this moment (a position in the history). A pending call has the end
--- None.
+-- Returns whether a call with the given end ended at `moment` (a position in the history). A pending call has the end
+-- `None`.
 abbrev pub ends_at : ℕ → Option (ℕ × Reply) → Bool
 ends_at moment None = false
 ends_at moment (Some end) = end.0 == moment
@@ -144,12 +145,13 @@ is_entry moment y = y.begun == moment || ends_at moment y.ended
 abbrev pub is_taken : List CallRecord → ℕ → Bool
 is_taken calls moment = list_any (is_entry moment) calls
 
--- Returns whether this moment (a position in the history) is at least 1, and every call in the list started before it.
+-- Returns whether the given moment (a position in the history) is at least 1, and every call in the list started before
+-- it.
 abbrev pub begins_later : List CallRecord → ℕ → Bool
 begins_later calls moment = nat_lt 0 moment && list_all (λ y. nat_lt y.begun moment) calls
 
--- Returns whether a call with this end ended before this moment (a position in the history). A pending call has the end
--- None.
+-- Returns whether a call with the given end ended before `moment` (a position in the history). A pending call has the
+-- end `None`.
 abbrev pub ended_before : ℕ → Option (ℕ × Reply) → Bool
 ended_before moment None = false
 ended_before moment (Some end) = nat_lt end.0 moment
@@ -157,15 +159,15 @@ ended_before moment (Some end) = nat_lt end.0 moment
 abbrev pub is_idle : List CallRecord → ℕ → ℕ → Bool
 is_idle calls thread moment = list_all (λ y. not (y.thread == thread) || ended_before moment y.ended) calls
 
--- Returns whether a call that started at moment `begun` can have this end. The call must be pending, or end after
--- `begun`, at a moment (a position in the history) when no call in the list starts or ends.
+-- Returns whether a call that started at moment `begun` can have the given end. The call must be pending, or must end
+-- after `begun`, at a moment (a position in the history) when no call in the list starts or ends.
 abbrev pub ends_later : List CallRecord → ℕ → Option (ℕ × Reply) → Bool
 ends_later calls begun None = true
 ends_later calls begun (Some end) = nat_lt begun end.0 && not (is_taken calls end.0)
 
--- Returns whether the call x can be appended to the calls of a history. The call must start after all of them have
--- started, and end after its start. All earlier calls of its thread must have ended before its start. No other call can
--- start or end at the moments (positions in the history) when x starts and ends.
+-- Returns whether the call `x` can be appended to the calls of a history. The call must start after all previous calls
+-- have started, and after all previous calls of its thread have ended. It must end after its start. No other call can
+-- start or end at the moments (positions in the history) when `x` starts and ends.
 abbrev pub may_follow : ℕ → List CallRecord → CallRecord → Bool
 may_follow threads calls x =
     nat_lt x.thread threads
@@ -174,7 +176,7 @@ may_follow threads calls x =
     && (not (is_taken calls x.begun)
     && is_idle calls x.thread x.begun)))
 
--- Returns the line if its section has fewer than `most` lines so far, else the error TooMany.
+-- Returns the line if its section has fewer than `most` lines so far, otherwise the error `TooMany`.
 abbrev pub counted : ℕ → ℕ → ReportLine → Result ReportLine Cause
 counted most count l = if nat_lt count most then Ok l else Err wrong.TooMany
 
@@ -187,9 +189,9 @@ following r number x l = if is_next r number x then Ok l else Err wrong.History
 abbrev pub increasing : ReportValue → ℕ → ReportLine → Result ReportLine Cause
 increasing r k l = if is_above r.history.opening.keys k then Ok l else Err wrong.Opening
 
--- Returns the line if it can follow the report r, otherwise the cause of the error. The section of the line must not be
--- full. An opening key (a key at the start) must be greater than the previous one. A call must be able to follow the
--- previous calls.
+-- Returns the line if it can follow the report `r`, otherwise the cause of the error. The section of the line must not
+-- be full. An opening key (a key at the start) must be greater than the previous opening key. A call must be able to
+-- follow the previous calls.
 abbrev pub judged : ReportValue → ReportLine → Result ReportLine Cause
 judged r (told.Opening k) = counted MOST_OPENING (length r.history.opening.keys) (told.Opening k) >>= increasing r k
 judged r (told.Call number x) = counted MOST_CALLS (length r.history.calls) (told.Call number x) >>= following r number x
@@ -197,7 +199,7 @@ judged r (told.Place p) = counted MOST_PLACES (length r.order) (told.Place p)
 judged r (told.Key k) = counted (most_keys r.version) (length r.keys) (told.Key k)
 judged r told.End = Ok told.End
 
--- Parses a line and checks whether the line can follow the lines before it.
+-- Parses a line and checks whether it can follow the lines before it.
 abbrev pub line_after : Section → ReportValue → List ℕ → Result ReportLine Cause
 line_after s r line = line_in r.version wrong.Line (kinds r.version s) line >>= judged r
 
@@ -224,7 +226,7 @@ with_line r (told.Place p) = record r { order = r.order ++ p ∷ [] }
 with_line r (told.Key k) = record r { keys = r.keys ++ k ∷ [] }
 with_line r told.End = r
 
--- ---- Reading a text, cut into its complete lines and the bytes after the last newline
+-- Reading a text that was cut into lines
 
 -- The state of a reader after some lines: its current section, and the report read so far.
 pub record SoFar : Type 0 where
@@ -237,7 +239,7 @@ with_told s l = record { section = section_after l; report = with_line s.report 
 abbrev pub step : SoFar → List ℕ → Result SoFar Cause
 step s line = made (with_told s) (line_after s.section s.report line)
 
--- Returns whether the line `end` was read. After this line, the text is complete.
+-- Returns whether the line `end`, which completes the text, was read.
 abbrev pub is_done : Section → Bool
 is_done section.Opening = false
 is_done section.Calls = false
@@ -268,7 +270,7 @@ nothing_told version h = record { section = section.Opening; report = no_lines v
 abbrev pub version_told : List (List ℕ) → Version
 version_told parts = version_in (title Two) parts
 
--- The grammar of the whole text of a report in this version: its title, the initial state, and its lines.
+-- The grammar of the whole text of a report of the given version: its title, the initial state, and its lines.
 abbrev pub text : Version → TextGrammar SoFar
 text version = record { title = title version; start = nothing_told version; lines = grammar }
 
@@ -278,7 +280,8 @@ report_of parts = versioned_from text parts >>= λ last. Ok last.report
 abbrev pub reading : List ℕ → Result ReportValue LineFault
 reading bytes = report_of (cut_at 10 bytes)
 
--- Reading and writing agree: the text of every report is read as this report, and only texts of reports are read.
+-- Reading inverts writing: if a text can be read as a report, it is the text of that report, and reading the text of a
+-- report yields that report.
 abbrev pub ReportsReadBack : Type 0
 ReportsReadBack = (r : ReportValue) (bytes : List ℕ)
     → (IsReport r → reading (report_text r) ≡ Ok r)
@@ -286,9 +289,9 @@ ReportsReadBack = (r : ReportValue) (bytes : List ℕ)
 
 -- ---- Errors from failed allocations
 
--- Holds if reading can fail with this error because of a failed allocation: the error Memory, at a line that passed all
--- other checks. `parts` are the lines of the text from line `first` on, followed by the bytes after the last newline.
--- `read` is the result if no allocation fails.
+-- Holds if reading can fail with the error `e` because an allocation failed. The error must be `Memory`, at a line that
+-- passed all other checks. `parts` are the lines of the text from line `first` on, followed by the bytes after the last
+-- newline. `read` is the result if no allocation fails.
 pub record RunsOut (first : ℕ) (parts : List (List ℕ)) (read : Result ReportValue LineFault) (e : LineFault) : Type 0 where
   pub cause : e.cause ≡ wrong.Memory
   -- An allocation can fail at the last line of the header or at a later line. Earlier lines need no memory.
@@ -302,7 +305,8 @@ pub record RunsOut (first : ℕ) (parts : List (List ℕ)) (read : Result Report
   -- Neither the line that caused the failed allocation nor any line before it has another error.
   pub good : IsFaultlessTo e.line read
 
--- Holds if the result is the report with this text, the first error in the text, or `Memory` for a failed allocation.
+-- Holds if the result is the report whose text is given, the first error in the text, or `Memory` for a failed
+-- allocation.
 abbrev pub Gives : {X : Type 0} → (X → ReportValue) → Result X LineFault → List ℕ → Type 0
 Gives view (Ok x) bytes = reading bytes ≡ Ok (view x)
 Gives view (Err e) bytes = (reading bytes ≡ Err e) ⊎ RunsOut 1 (cut_at 10 bytes) (reading bytes) e

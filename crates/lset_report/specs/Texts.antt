@@ -32,7 +32,7 @@ abbrev pub call_line : ℕ → CallRecord → List ℕ
 call_line number x = line_of (codes "call" ∷ decimal number ∷ decimal x.thread ∷ call_text x.call ∷ decimal ((key_of x.call).0)
     ∷ decimal x.begun ∷ end_pieces x.ended)
 
--- Returns the lines of the calls, ordered by number.
+-- Returns the lines of the calls, ordered by call number.
 abbrev pub call_lines : ℕ → List CallRecord → List (List ℕ)
 call_lines number [] = []
 call_lines number (x ∷ xs) = call_line number x ∷ call_lines (number + 1) xs
@@ -54,7 +54,7 @@ report_lines r = header_lines (title r.version) (header_in r) ++ opening_lines r
 abbrev pub report_text : ReportValue → List ℕ
 report_text r = text_of (report_lines r)
 
--- ---- Reports that a version of the format can express
+-- Reports that can be written in a version of the format
 
 -- Holds if the call is pending, or the version has a word for its reply.
 abbrev pub HasEnd : Version → Option (ℕ × Reply) → Type 0
@@ -66,9 +66,9 @@ HasWordsIn One calls order = AllByRecursion (λ (x : CallRecord). HasCall One x.
     × AllByRecursion (λ (p : Placed). HasReply One p.reply) order
 HasWordsIn Two calls order = Unit {0}
 
--- Holds if the report's version of the format has words for everything in the report. Version 1 has no words for
--- opening keys (the keys at the start), for `ceiling`, or for the replies of `ceiling`. Version 2 can express every
--- report.
+-- Holds if everything in the report can be written in the report's version of the format. Version 1 has no words for
+-- opening keys (the keys at the start), for `ceiling`, or for the replies of `ceiling`. Every report can be written in
+-- version 2.
 pub record HasWordsOfVersion (r : ReportValue) : Type 0 where
   pub opening : HasOpening r.version r.history.opening.keys
   pub words : HasWordsIn r.version r.history.calls r.order

@@ -1,5 +1,5 @@
-//! Reads and writes reports of runs. A report contains the opening keys (the keys at the start), a history of calls,
-//! an order of these calls, and the final keys. This crate does not run a list.
+//! Reads and writes reports of runs. A report contains the opening keys (the keys at the start), a history of calls, an
+//! order of the calls, and the final keys. This crate does not run a list.
 #![tactic(auto)]
 
 mod order;

@@ -4,7 +4,7 @@ ghost use Rattle.lset_report.specs.Order.{rank_of, placed_in, points_in, AreByPo
 use lset_words::{Placed, Point};
 use std::alloc::{AllocError, Global};
 
-/// An entry of an order (a call with its reply) and the linearization point of this call.
+/// An entry of an order (a call with its reply), and the call's linearization point.
 #[derive(Clone, Copy)]
 pub struct Pointed {
     pub point: Point,
@@ -12,8 +12,8 @@ pub struct Pointed {
 }
 
 impl Pointed {
-    /// Returns the sort key: twice the moment (event number) of the linearization point, plus 1 if the call does not
-    /// change the set.
+    /// Returns the sort key of an entry: twice the moment (event number) of the linearization point, plus 1 if the call
+    /// does not change the set.
     fn rank(&self) -> u64
         ensures { result ≡ rank_of self.now }
     {
@@ -22,7 +22,7 @@ impl Pointed {
     }
 }
 
-/// Sorts the entries of an order by their linearization points. If several points are at the same moment, the call that
+/// Sorts the entries of an order by their linearization points. If several points have the same moment, a call that
 /// changes the set comes first. The sort is stable. Returns `AllocError` if an allocation fails; the entries are then
 /// in an unspecified order.
 pub fn sort_by_points(places: &mut Vec<Pointed>) -> Result<(), AllocError>
@@ -32,7 +32,7 @@ pub fn sort_by_points(places: &mut Vec<Pointed>) -> Result<(), AllocError>
     Ok(())
 }
 
-/// Returns the entries without their linearization points. Returns `AllocError` if an allocation fails.
+/// Returns the entries in `places` without their linearization points. Returns `AllocError` if an allocation fails.
 pub fn order_of(alloc: Global, places: &[Pointed]) -> Result<Vec<Placed>, AllocError>
     ensures { IfOk result (λ v. v.items ≡ placed_in places.now) }
 {
@@ -43,7 +43,7 @@ pub fn order_of(alloc: Global, places: &[Pointed]) -> Result<Vec<Placed>, AllocE
     Ok(order)
 }
 
-/// Returns the linearization points of these entries. Returns `AllocError` if an allocation fails.
+/// Returns the linearization points of the entries in `places`. Returns `AllocError` if an allocation fails.
 pub fn points_of(alloc: Global, places: &[Pointed]) -> Result<Vec<Point>, AllocError>
     ensures { IfOk result (λ v. v.items ≡ points_in places.now) }
 {

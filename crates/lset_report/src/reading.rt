@@ -53,7 +53,7 @@ pub(crate) struct Reader {
     ghost few: { length opening.items ≤ MOST_OPENING },
 }
 
-/// Returns the maximum number of final keys in a report of this version.
+/// Returns the maximum number of final keys in a report of the given version.
 fn most_keys(version: Version) -> usize
     ensures { result ≡ most_keys version }
 {
@@ -89,9 +89,9 @@ impl Reader {
         number as usize == self.calls.history.calls().len() && self.calls.may_follow(made)
     }
 
-    /// Returns the line if it can follow the lines read so far, otherwise the cause of the error. A line can follow if
-    /// its section is not full. In addition, an opening key (a key at the start) must be greater than the previous one,
-    /// and a call must be able to follow the previous calls.
+    /// Returns the line if it can follow the lines read so far, otherwise the cause of the error. The section of the
+    /// line must not be full. An opening key (a key at the start) must be greater than the previous opening key, and a
+    /// call must be able to follow the previous calls.
     fn judged(&self, line: Line) -> Result<Line, Cause>
         ensures { result ≡ judged (so_far self.now) line }
     {
@@ -148,7 +148,7 @@ impl Reader {
         Ok(())
     }
 
-    /// Reads all lines after the header into this reader. Stops at the first line with an error.
+    /// Reads all lines after the header into the reader. Stops at the first line with an error.
     fn read_lines(&mut self, text: &[u8]) -> Result<(), LineFault>
         ensures { GoesOn (state self.new) result (cut_at 10 text.now)
             (lines_from grammar first_line (state self.old) (cut_at 10 text.now)) }
@@ -209,21 +209,22 @@ fn report(alloc: Global, bytes: &[u8]) -> Result<Report, ReportFault>
 /// The first line states the version. In version 2, lines with opening keys can precede the calls, in strictly
 /// increasing order. In version 1, a line with `opening`, `ceiling`, `nothing` or a reply such as `at-5` has the error
 /// `Line`. The function does not check that the order explains the history and leaves the final keys: `check_order`
-/// does. The number of steps grows linearly with the number of bytes, whatever numbers they contain.
+/// does. The number of steps grows linearly with the number of bytes, whatever numbers the text contains.
 ///
 /// # Errors
 ///
-/// Returns the first wrong line with the first check that it fails. `NotEnded` takes precedence over all other errors;
-/// the others are checked in the order of `Cause`. If the bytes end before a header line, the error is the error for
-/// this line. If an allocation fails, returns `Memory` with the last line read instead. This line is not `end`, and
-/// neither this line nor an earlier line has another error.
+/// Returns the first wrong line, with the first check that fails. `NotEnded` takes precedence over all other errors;
+/// the others are checked in the order of `Cause`. If the bytes end before a header line, the error is the same as for
+/// a wrong line in its place. If an allocation fails, returns `Memory` with the last line read. That line is not `end`,
+/// and neither that line nor any earlier line has another error.
 #[tactic(auto, using(crate::proofs::ReportTexts::found_in, crate::proofs::ReportTexts::only_in))]
 pub fn read_report(alloc: Global, bytes: &[u8]) -> Result<Report, ReportFault>
     // If a report is returned, its calls are a history, and `bytes` is the text of the report.
     ensures found { IfOk result (λ r. IsReport (view r) × (bytes.now ≡ report_text (view r))) }
-    // `write_report` can write every report that is returned: its version of the format can express all its contents.
+    // `write_report` can write every report that is returned: the report's version of the format has everything in the
+    // report.
     ensures words { IfOk result (λ r. HasWordsOfVersion (view r)) }
-    // If `bytes` is the text of a report, the result is this report, unless an allocation fails.
+    // If `bytes` is the text of a report, that report is returned, unless an allocation fails.
     ensures only { (r : ReportValue) → IsReport r → bytes.now ≡ report_text r
         → MatchResult result (λ s. view s ≡ r) (λ e. e.cause ≡ Cause.Memory) }
     // The error is the first error in the text, or `Memory` at a line without another error.
@@ -232,7 +233,8 @@ pub fn read_report(alloc: Global, bytes: &[u8]) -> Result<Report, ReportFault>
     report(alloc, bytes)
 }
 
-/// Lemma: `read_report` accepts exactly the texts of reports. If it accepts bytes, they are the text of its result.
+/// Lemma: `read_report` accepts exactly the texts of reports. Accepted bytes are the text of the report that is
+/// returned.
 pub fn reports_read_back()
     ensures { ReportsReadBack }
 {}

@@ -85,8 +85,8 @@ fn put_end(out: &mut String) -> Result<(), AllocError>
 
 /// Returns the text of a report in its version: the header, the opening keys (the keys at the start), the calls by
 /// number, the order, and the final keys. A report of version 1 must have no opening keys, no call of `ceiling` and no
-/// reply of a `ceiling`, since version 1 cannot express them. Every report from `read_report` qualifies. Returns
-/// `AllocError` if an allocation fails.
+/// reply of a `ceiling`, because version 1 has no words for them. Every report from `read_report` satisfies this
+/// condition. Returns `AllocError` if an allocation fails.
 pub fn write_report(alloc: Global, report: &Report) -> Result<Vec<u8>, AllocError>
     requires { HasWordsOfVersion (view report.now) }
     ensures { IfOk result (λ v. v.items ≡ report_text (view report.now)) }

@@ -8,7 +8,7 @@ use lset_history::History;
 use lset_words::CallRecord;
 use std::alloc::{AllocError, Global};
 
-/// The calls read so far, with fields that decide whether a further call can follow them.
+/// The calls read so far, with fields that decide whether another call can follow them.
 #[derive(Drop)]
 pub(crate) struct CallsSoFar {
     /// The calls read so far, as a history of a set that opens empty.
@@ -72,9 +72,9 @@ impl CallsSoFar {
         }
     }
 
-    /// Returns whether the call `made` can follow these calls. After the start of the last call, no call starts, and
-    /// only the last calls of threads end. Therefore the start and the end of `made` are compared only with these ends.
-    /// The other positions in the history are not stored.
+    /// Returns whether the call `made` can follow the calls read so far. After the start of the last call, no call
+    /// starts, and only the last calls of threads end. Therefore the start and the end of `made` are compared only with
+    /// the ends of the threads' last calls. The other positions in the history are not stored.
     pub fn may_follow(&self, made: CallRecord) -> bool
         ensures { result ≡ may_follow self.now.history.opening.threads self.now.history.calls made }
     {
@@ -89,7 +89,7 @@ impl CallsSoFar {
             && self.last_ends[thread] < made.begun
     }
 
-    /// Appends a call that can follow these calls. Can allocate.
+    /// Appends the call `made`, which must be able to follow the calls read so far. Can allocate.
     pub fn push(&mut self, made: CallRecord) -> Result<(), AllocError>
         requires { may_follow self.old.history.opening.threads self.old.history.calls made ≡ true }
         ensures { OnOk result (self.new.history ≡ with_begun self.old.history made) }

@@ -35,7 +35,7 @@ pub enum Line {
 }
 
 impl Line {
-    /// Returns the section of the report that contains this line.
+    /// Returns the section of the report that contains the line.
     pub fn section(self) -> Section
         ensures { result ≡ section_after self }
     {
@@ -49,7 +49,7 @@ impl Line {
     }
 }
 
-/// The fields of the line of a call, up to the moment when the call starts.
+/// The first fields of a call's line, up to the moment when the call starts.
 #[derive(Clone, Copy)]
 struct Begun<'a> {
     word: &'a [u8],
