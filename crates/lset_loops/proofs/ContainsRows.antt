@@ -1,4 +1,5 @@
--- Lemmas about rows 20 to 22 of a step table, the rows of a `contains` that only reads.
+-- Lemmas about rows 20 to 22 of a step table (the numbered atomic steps of a list). These are the rows of a `contains`
+-- that only reads.
 use Rattle.std.proofs.Common.{◌≡◌, ℕ, ◌+◌, ◌-◌, ◌/◌, ◌%◌, ◌<◌, ◌==◌, Bool, true, false, if◌then◌else◌, None, refl, sym, ap}
 use Rattle.std.proofs.Common.{◌∙◌, subst, arith}
 use Rattle.lset_words.specs.declared.Key.{Key}
@@ -24,8 +25,8 @@ use Rattle.lset_loops.specs.Begun.{Begun}
 use Rattle.lset_loops.specs.Calling.{Holds, first, row}
 use Rattle.lset_loops.proofs.StepsOfCall.{no_rest}
 
--- Returns the private state of a thread that executes a `contains`, at row pc of the step table and with x as the
--- current node.
+-- Returns the private state of a thread that executes a `contains`. The thread is at row `pc` of the step table, and
+-- `x` is the current node.
 abbrev pub reading : Begun → OwnSlots → ℕ → ℕ → Local
 reading b own pc x = row own b.call pc None 0 x no_rest
 

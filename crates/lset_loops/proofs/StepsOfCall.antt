@@ -1,4 +1,4 @@
--- Lemmas about one step of a pending call: a condition before the step implies a condition after the step.
+-- Lemmas about one step of a pending call: if a condition holds before the step, another holds after it.
 use Rattle.std.proofs.Common.{◌≡◌, ◌≢◌, ℕ, ◌+◌, ◌<◌, ◌≤◌, List, ◌∷◌, Option, None, refl, sym, ap, ◌∙◌, subst, arith}
 use Rattle.atomic_table.specs.Seated.{TableId}
 use Rattle.lset_words.specs.declared.Call.{Call}
@@ -174,12 +174,12 @@ first_tried m law b own s n s' c same may seat starts again ne =
     now_holds m b (m.feed (first m b own) n).local (first m b own) s' (ap (λ (f : Fed). f.local) (again n ne))
     (begins_holding m law b own s n s' c same may seat starts (ap (λ (f : Fed). f.answer) (again n ne)))
 
--- If a condition holds for the private state l of a thread, it holds for an equal private state l'.
+-- If a condition holds for the private state `l` of a thread, it holds for an equal private state `l'`.
 pub moved : {m : Table} {b : Begun} {l l' : Local} {s : TableSeat} → Holds m b l s → l ≡ l' → Holds m b l' s
 moved h same = record { words = h.words; used = h.used; seat = h.seat; mid = h.mid; stands = h.stands; local = h.local ∙ same }
 
--- If a condition holds with the current node x, it holds with an equal number x'. `to_pred` states the same for the
--- previous node.
+-- If a condition holds with the current node `x`, it holds with an equal number `x'`. `to_pred` states the analogous
+-- fact for the previous node.
 pub to_curr : {m : Table} {b : Begun} {d : Call} {own : OwnSlots} {pc p x x' : ℕ} {r : Option Reply} {j : Rest} {s : TableSeat}
     → x' ≡ x → Holds m b (row own d pc r p x j) s → Holds m b (row own d pc r p x' j) s
 to_curr {d = d} {own = own} {pc = pc} {p = p} {r = r} {j = j} is h = moved h (ap (λ i. row own d pc r p i j) (sym is))
@@ -212,7 +212,7 @@ stores {m = m} {b = b} {s = s} {word = word} {more = more} h is all =
 abbrev pub no_rest : Rest
 no_rest = record { succ = 0; node = 0; pkey = 0; ckey = 0 }
 
--- ---- Lemmas about a whole call c that was started from seat s (per-thread handle)
+-- Lemmas about a whole call `c` from the seat `s` (a per-thread handle)
 module _ (c : Call) (b : Begun) (s : TableSeat) (began : b ≡ begun_at c s) where
   pub may_begin : {m : Table} {z : TableId} {k : Opening} {own : OwnSlots} → MayCall m z k own s → MayBegin m b own s
   may_begin may = rw began record {

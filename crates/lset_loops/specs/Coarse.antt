@@ -18,13 +18,13 @@ AtHead b own s = (j : Rest) × Holds coarse b (row own b.call 2 None 0 0 j) s
 abbrev pub AtKey : Begun → OwnSlots → ℕ → ℕ → TableSeat → Type 0
 AtKey b own p x s = (j : Rest) × Holds coarse b (row own b.call 3 None p x j) s
 
--- Holds if the walk has stopped at the two nodes in f, and the call continues at the row of the step table for its
--- decision (add, remove or reply).
+-- Holds if the walk has stopped at the two nodes in `f`. The call continues at the row of the step table that
+-- corresponds to its decision (add, remove or reply).
 abbrev pub StopsAt : Begun → OwnSlots → Found → TableSeat → Type 0
 StopsAt b own f s = (j : Rest) × Holds coarse b (decided_on targets f.word (row own b.call 3 None f.pred.number f.curr.number j))
     s
 
--- Holds if the call is about to release the list's lock and to end with a reply. `answer` contains the thread's slots
--- (nodes for the keys that the thread adds) after the call, and the reply.
+-- Holds if the call is about to release the list's lock and to end with a reply. `answer` consists of the reply and the
+-- thread's slots (nodes reserved for its adds) after the call.
 abbrev pub Leaves : Begun → OwnSlots × Reply → TableSeat → Type 0
 Leaves b answer s = (p : ℕ) × (x : ℕ) × (j : Rest) × Holds coarse b (row answer.0 b.call 10 (Some answer.1) p x j) s

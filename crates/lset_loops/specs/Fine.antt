@@ -14,16 +14,16 @@ use Rattle.lset_loops.specs.Calling.{Holds, Rest, row}
 abbrev pub AtHead : Begun → OwnSlots → TableSeat → Type 0
 AtHead b own s = (j : Rest) × Holds fine b (row own b.call 2 None 0 0 j) s
 
--- Holds if the call has locked node p and is about to lock node x, which it reached through the link of p.
+-- Holds if the call has locked node `p` and is about to lock node `x`, which it reached through the link of `p`.
 abbrev pub AtLock : Begun → OwnSlots → ℕ → ℕ → TableSeat → Type 0
 AtLock b own p x s = (j : Rest) × Holds fine b (row own b.call 3 None p x j) s
 
--- Holds if the walk has stopped at the two nodes in f, and both are locked. The call continues at the row of the step
--- table for its decision (add, remove or reply).
+-- Holds if the walk has stopped at the two nodes in `f`, and both are locked. The call continues at the row of the step
+-- table that corresponds to its decision (add, remove or reply).
 abbrev pub StopsAt : Begun → OwnSlots → Found → TableSeat → Type 0
 StopsAt b own f s = (j : Rest) × Holds fine b (decided_on targets f.word (row own b.call 4 None f.pred.number f.curr.number j)) s
 
--- Holds if the call is about to release the locks of the two nodes in f and to end with a reply. `answer` contains the
--- thread's slots (nodes for the keys that the thread adds) after the call, and the reply.
+-- Holds if the call is about to release the locks of the two nodes in `f` and to end with a reply. `answer` consists of
+-- the reply and the thread's slots (nodes reserved for its adds) after the call.
 abbrev pub Leaves : Begun → Found → OwnSlots × Reply → TableSeat → Type 0
 Leaves b f answer s = (j : Rest) × Holds fine b (row answer.0 b.call 12 (Some answer.1) f.pred.number f.curr.number j) s

@@ -11,12 +11,12 @@ use Rattle.lset_loops.specs.declared.decision.Found.{Found}
 use Rattle.lset_loops.specs.Begun.{Begun}
 use Rattle.lset_loops.specs.Calling.{Holds, Rest, row, StandsAfter, HasAnswered}
 
--- Holds if the call is about to load the link of node x, which it reached through the link of node p.
+-- Holds if the call is about to load the link of node `x`, which it reached through the link of node `p`.
 abbrev pub AtLink : Begun → OwnSlots → ℕ → ℕ → TableSeat → Type 0
 AtLink b own p x s = (j : Rest) × Holds lock_free b (row own b.call 2 None p x j) s
 
--- Holds if the walk has stopped at the two nodes in f. The call has then ended, or continues at the row of the step
--- table for its decision (add or remove).
+-- Holds if the walk has stopped at the two nodes in `f`, and the call has ended or continues at the row of the step
+-- table that corresponds to its decision (add or remove).
 abbrev pub StopsAt : Begun → OwnSlots → Found → TableSeat → Type 0
 StopsAt b own f s = (j : Rest)
     × ((fed : Fed) → decision_of (decided_on targets f.word (row own b.call 4 None f.pred.number f.curr.number j)) ≡ fed →
@@ -26,8 +26,9 @@ StopsAt b own f s = (j : Rest)
 abbrev pub AtHead : Begun → OwnSlots → TableSeat → Type 0
 AtHead b own s = (p : ℕ) × (x : ℕ) × (j : Rest) × Holds lock_free b (row own b.call 1 None p x j) s
 
--- Holds if the call has tried to add, remove or reply. If the attempt returned `answer` (the thread's slots, which are
--- nodes for its adds, and the reply), the call has ended. If it returned None, the call is about to start over.
+-- Holds if the call has attempted to add the key, to remove the key, or only to reply. If the attempt returned `answer`
+-- (the reply and the thread's slots, which are nodes reserved for its adds), the call has ended. If the attempt
+-- returned `None`, the call is about to start over.
 abbrev pub HasTried : Begun → OwnSlots → Option (OwnSlots × Reply) → TableSeat → Type 0
 HasTried b own (Some answer) s = HasAnswered lock_free b answer s
 HasTried b own None s = AtHead b own s

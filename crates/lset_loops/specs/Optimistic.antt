@@ -12,11 +12,12 @@ use Rattle.lset_loops.specs.Begun.{Begun}
 use Rattle.lset_loops.specs.Calling.{Holds, Rest, row}
 use Rattle.lset_loops.specs.declared.optimistic.Stopped.{Stopped}
 
--- Holds if the call is about to load the key of node x, which it reached by the link of p. `before` is the key of p.
+-- Holds if the call is about to load the key of node `x`, which it reached through the link of node `p`. `before` is
+-- the key of `p`.
 abbrev pub AtKey : Begun → OwnSlots → ℕ → ℕ → ℕ → TableSeat → Type 0
 AtKey b own p x before s = (j : Rest) × Holds optimistic b (row own b.call 2 None p x (record j { pkey = before })) s
 
--- Holds if the walk has stopped at the two nodes in f, and the call is about to lock `f.found.pred`.
+-- Holds if the walk has stopped at the two nodes in `f`, and the call is about to lock `f.found.pred`.
 abbrev pub StopsAt : Begun → OwnSlots → Stopped → TableSeat → Type 0
 StopsAt b own f s = (j : Rest)
     × Holds optimistic b (row own b.call 4 None f.found.pred.number f.found.curr.number (record j {
@@ -24,7 +25,7 @@ StopsAt b own f s = (j : Rest)
       ckey = f.found.word;
     })) s
 
--- Holds if the call has locked the two nodes in f. The call then walks again from the head, unless `f.found.pred` is
+-- Holds if the call has locked the two nodes in `f`. Next, the call walks again from the head, unless `f.found.pred` is
 -- the head.
 abbrev pub HasLocked : Begun → OwnSlots → Stopped → TableSeat → Type 0
 HasLocked b own f s = (j : Rest)
@@ -33,7 +34,7 @@ HasLocked b own f s = (j : Rest)
       ckey = f.found.word;
     }))) s
 
--- Holds if the call, on its second walk, is about to load the link of node n. The two nodes in f are locked.
+-- Holds if the call, on its second walk, is about to load the link of node `n`. The two nodes in `f` are locked.
 abbrev pub AtNode : Begun → OwnSlots → Stopped → Node → TableSeat → Type 0
 AtNode b own f n s = (j : Rest)
     × Holds optimistic b (row own b.call 6 None f.found.pred.number f.found.curr.number (record j {
@@ -47,29 +48,29 @@ abbrev pub AtPred : Begun → OwnSlots → Found → TableSeat → Type 0
 AtPred b own f s = (j : Rest) × Holds optimistic b
     (row own b.call 8 None f.pred.number f.curr.number (record j { ckey = f.word })) s
 
--- Holds if the two nodes in f are locked neighbors. The call continues at the row of the step table for its decision
--- (add, remove or reply).
+-- Holds if the two nodes in `f` are locked neighbors. The call continues at the row of the step table that corresponds
+-- to its decision (add, remove or reply).
 abbrev pub AreNeighbours : Begun → OwnSlots → Found → TableSeat → Type 0
 AreNeighbours b own f s = (j : Rest)
     × Holds optimistic b (decided_on targets f.word
     (row own b.call 8 None f.pred.number f.curr.number (record j { ckey = f.word }))) s
 
--- Holds if the call is about to release the locks of the two nodes in f. The call then ends with reply r, or starts
--- over if r is None.
+-- Holds if the call is about to release the locks of the two nodes in `f`. After that, the call ends with reply `r`, or
+-- starts over if `r` is `None`.
 abbrev pub GivesBack : Begun → Found → OwnSlots → Option Reply → TableSeat → Type 0
 GivesBack b f own r s = (j : Rest) × Holds optimistic b (row own b.call 14 r f.pred.number f.curr.number j) s
 
 abbrev pub Leaves : Begun → Found → OwnSlots × Reply → TableSeat → Type 0
 Leaves b f answer s = GivesBack b f answer.0 (Some answer.1) s
 
--- Holds if the second walk of the call is over. If its result is true, the walk has reached `f.pred`. If it is false,
--- the call is about to release the locks of the two nodes in f and start over.
+-- Holds if the second walk of the call has ended. If its result is true, the walk has reached `f.pred`. If its result
+-- is false, the call is about to release the locks of the two nodes in `f` and start over.
 abbrev pub HasReached : Begun → OwnSlots → Found → Bool → TableSeat → Type 0
 HasReached b own f true s = AtPred b own f s
 HasReached b own f false s = GivesBack b f own None s
 
--- Holds if the call has validated the two nodes in f. If the result is true, the nodes are neighbors. If it is false,
--- the call is about to release their locks and start over.
+-- Holds if the call has validated the two nodes in `f`. If the result of the validation is true, the two nodes are
+-- neighbors. If the result is false, the call is about to release the locks of the two nodes and start over.
 abbrev pub HasValidated : Begun → OwnSlots → Found → Bool → TableSeat → Type 0
 HasValidated b own f true s = AreNeighbours b own f s
 HasValidated b own f false s = GivesBack b f own None s

@@ -31,8 +31,8 @@ impl Model for Origin {
     ghost view = { λ o. begun_at o.call o.place.value };
 }
 
-/// A call and its thread. Contains the shared words of the list, the code that runs between two steps (the pause), the
-/// thread's slots (nodes for the keys that it adds), the call, and its key as a word.
+/// A call and its thread: the shared words of the list, the code that runs between two steps (the pause), the thread's
+/// slots (nodes reserved for its adds), the call, and the call's key as a word.
 #[derive(Drop)]
 pub(crate) struct Caller<'a, M: Machine, P: Pause> {
     pub table: &'a Words<M>,
@@ -47,7 +47,7 @@ pub(crate) struct Caller<'a, M: Machine, P: Pause> {
 }
 
 impl<'a, M: Machine, P: Pause> Caller<'a, M, P> {
-    /// Creates the caller of `call` from the idle seat `place` (a per-thread handle). The call starts later, with its
+    /// Creates the caller of `call` from the idle seat `place` (a per-thread handle). The call starts only with its
     /// first step.
     pub fn new(
         table: &'a Words<M>,

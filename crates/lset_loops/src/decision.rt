@@ -1,4 +1,4 @@
-//! The decision of a call after its walk has stopped: add the key, remove the key, or only reply.
+//! The decision of a call after its walk has stopped: to add the key, to remove the key, or only to reply.
 ghost use Rattle.std.specs.Prelude.{◌≡◌, ◌<◌};
 ghost use Rattle.lset_loops.specs.Calling.{Decides, HasStored, MayStore, one_more, put_stores, slot, slot_stores};
 
@@ -19,7 +19,7 @@ pub(crate) struct Found {
     pub word: u64,
 }
 
-/// What a call does once its walk has ended: link a node into the list, unlink a node, or only reply.
+/// The decision of a call after its walk has stopped: to link a node into the list, to unlink a node, or only to reply.
 #[derive(Clone, Copy)]
 pub(crate) enum Decision {
     PutIn,
@@ -27,7 +27,7 @@ pub(crate) enum Decision {
     Answer(Reply),
 }
 
-/// Returns the decision of `call` when its walk has stopped. `word` is the first key of the walk that is not smaller
+/// Returns the decision of `call` after its walk has stopped. `word` is the first key of the walk that is not smaller
 /// than the call's key.
 pub fn decide(call: Call, word: u64, slots: OwnSlots) -> Decision
     ensures deed { Decides call slots word result }
@@ -46,7 +46,7 @@ pub fn decide(call: Call, word: u64, slots: OwnSlots) -> Decision
     }
 }
 
-/// Returns the slots of a thread (nodes for the keys that it adds) after the thread has used another one of them.
+/// Returns the slots of a thread (nodes reserved for its adds) after the thread has used one more slot.
 pub(crate) fn one_more(slots: OwnSlots) -> OwnSlots
     requires { slots.used < slots.quota }
     ensures { result ≡ one_more slots }
@@ -58,7 +58,8 @@ pub(crate) fn one_more(slots: OwnSlots) -> OwnSlots
 }
 
 impl<'a, M: Machine, P: Pause> Caller<'a, M, P> {
-    /// Writes the call's key and a link to `next` into the thread's next slot (an unused node). Returns this node.
+    /// Stores the call's key and a link to `next` in the thread's next slot (an unused node), and returns the slot's
+    /// node.
     pub fn fill_slot(&self, place: &mut TableSeat, next: Node) -> Node
         requires { MayStore M.table self.now.origin (slot_stores self.now.slots self.now.key next.number) place.old }
         ensures node { result.number ≡ slot self.now.slots }
@@ -73,8 +74,8 @@ impl<'a, M: Machine, P: Pause> Caller<'a, M, P> {
         node
     }
 
-    /// Writes the call's key into the thread's next slot (an unused node), and links this node between `pred` and
-    /// `curr`.
+    /// Stores the call's key in the thread's next slot (an unused node), and links the node between the two nodes in
+    /// `found`.
     pub fn put_in(&self, place: &mut TableSeat, found: Found)
         requires { MayStore M.table self.now.origin (put_stores self.now.slots self.now.key found.pred.number found.curr.number) place.old }
         ensures { HasStored M.table self.now.origin (put_stores self.now.slots self.now.key found.pred.number found.curr.number) place.old place.new }

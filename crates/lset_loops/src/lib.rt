@@ -1,10 +1,10 @@
-//! The calls of the five lists on shared words, as loops that look like those of Herlihy and Shavit. Only the `ceiling`
+//! The calls of the five lists on shared words, as loops that resemble those of Herlihy and Shavit. Only the `ceiling`
 //! of LazyList and LockFreeList is missing: the interpreter (`lset_rule::interpret_within`) executes it.
 //!
-//! A loop executes its steps through a `Caller`, the pending call of a thread. After its walk, it calls `decide`. Each
-//! function that executes a step requires that this step is next according to the list's step table, and ensures that
-//! the call is then at the following row. A comment `// row` names the row. At run time, no loop reads the table. A
-//! loop makes at most `N::MOST` rounds. A `contains` that only reads has no such limit and always ends. The loops have
+//! A loop executes its steps through a `Caller`, the pending call of a thread. After its walk, the loop calls `decide`.
+//! Each function that executes a step requires that the step is next according to the list's step table, and ensures
+//! that the call is at the following row afterwards. A comment `// row` names the row. At run time, no loop reads the
+//! table. A loop makes at most `N::MOST` rounds, except a `contains` that only reads, which always ends. The loops have
 //! the same contracts as the interpreter.
 #![tactic(auto)]
 

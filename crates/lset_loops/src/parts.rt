@@ -15,7 +15,7 @@ pub(crate) enum Part {
 }
 
 impl Part {
-    /// Returns the index of this word among the shared words of the set.
+    /// Returns the index of the word among the shared words of the set.
     pub fn index(self) -> u64
         requires { index_of self < MOST_WORDS }
         ensures { result ≡ index_of self }
@@ -36,7 +36,7 @@ pub(crate) enum Link {
 }
 
 impl Link {
-    /// Returns the link as a word: twice the number of the next node, plus 1 if marked.
+    /// Returns the link as a word: twice the number of the next node, plus 1 if the node that has the link is marked.
     pub fn word(self) -> u64
         ensures { result ≡ word_of self }
     {

@@ -1,4 +1,4 @@
-//! The steps of a pending call. Each function requires that its step is the next one according to the list's step
+//! The steps of a pending call. Each function requires that its step is the next step according to the list's step
 //! table.
 ghost use Rattle.std.specs.Prelude.{◌≡◌, ◌≢◌, ℕ, ◌+◌, None, IfSome};
 ghost use Rattle.lset_words.specs.Words.{key_index, link_index, lock_index};
@@ -17,8 +17,8 @@ use lset_steps::{Action, Machine};
 use std::marker::Brand;
 
 impl<'a, M: Machine, P: Pause> Caller<'a, M, P> {
-    /// Calls the pause. A loop calls this function after a step that could have ended the call but did not. Functions
-    /// for other steps call the pause themselves.
+    /// Calls the pause. A loop calls this function after a step that could have ended the call but did not. The
+    /// functions for all other steps call the pause themselves.
     #[inline(always)]
     pub fn goes_on(&self) {
         self.pause.moved(self.slots.thread);
@@ -114,7 +114,7 @@ impl<'a, M: Machine, P: Pause> Caller<'a, M, P> {
     }
 
     /// Attempts to change the link of a node from `old` to `new` by a compare-and-exchange, without calling the pause.
-    /// Returns the value that the link had before.
+    /// Returns the value that the link had before the attempt.
     #[inline(always)]
     pub fn exchange_last(&self, place: &mut TableSeat, node: Node, old: Link, new: Link) -> u64
         requires { MayAnswer M.table self.now.origin (Exchange (link_index node.number) (word_of old) (word_of new)) place.old }
