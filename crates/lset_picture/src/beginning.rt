@@ -1,5 +1,5 @@
-//! Finds the moment when the picture of a rejected order starts. Moments are positions in the history, counted from
-//! 1.
+//! Finds the moment at which the picture of a rejected order starts. A moment is a position in the history, counted
+//! from 1.
 use crate::picture::Picture;
 use crate::refusal::Refusal;
 use lset_words::CallRecord;
@@ -19,7 +19,7 @@ fn first_apart(keys: &[u32], others: &[u32]) -> Option<u32> {
     rest.copied()
 }
 
-/// Returns the moment (a position in the history, from 1) when the first call on this key starts.
+/// Returns the moment (a position in the history, from 1) when the first call on `key` starts.
 fn first_begun(calls: &[CallRecord], key: u32) -> Option<u32> {
     for made in calls {
         if made.call.key().0 == key {
@@ -29,10 +29,10 @@ fn first_begun(calls: &[CallRecord], key: u32) -> Option<u32> {
     None
 }
 
-/// Returns the moment (a position in the history, from 1) when the picture of a rejected order should start. If the
-/// reason for the rejection names a call, the picture starts with this call. If the reason names two calls, the picture
-/// starts with the call that had ended before the other started. If the final keys are wrong, the picture starts with
-/// the first call on the smallest differing key.
+/// Returns the moment (a position in the history, from 1) at which the picture of a rejected order should start. If the
+/// reason for the rejection names one call, the picture starts with that call. If the reason names two calls, the
+/// picture starts with the call that had ended before the other call started. If the final keys are wrong, the picture
+/// starts with the first call on the smallest differing key.
 pub(crate) fn clash_begins(picture: &Picture) -> Option<u32> {
     let calls = picture.history.calls();
     match &picture.refusal {

@@ -1,5 +1,5 @@
-//! Computes the columns of a picture. A column is a moment (a position in the history) when a call starts, takes
-//! effect or ends.
+//! Computes the columns of a picture. Each column stands for a moment (a position in the history) when a call starts,
+//! takes effect or ends.
 use crate::MOST_WIDTH;
 use crate::beginning::clash_begins;
 use crate::drawn_moments::{moments_shown, next_moment};
@@ -18,7 +18,7 @@ pub(crate) enum Sign {
     End(Reply),
 }
 
-/// A sign, and the thread that it belongs to.
+/// A sign, and the thread on whose row the sign is drawn.
 #[derive(Clone, Copy)]
 pub(crate) struct Mark {
     pub thread: u32,
@@ -26,7 +26,7 @@ pub(crate) struct Mark {
 }
 
 /// A column of the picture: the signs at one moment (a position in the history), the set as text (empty if the set is
-/// not printed in this column), and the width in characters.
+/// not printed in the column), and the width in characters.
 #[derive(Drop)]
 pub(crate) struct Column {
     pub moment: u32,
@@ -45,8 +45,8 @@ pub(crate) enum Side {
 }
 
 /// The columns of a picture, and what is left out. `known` is true if every linearization point is known. `from` and
-/// `last` are the first and the last drawn moment (positions in the history). `before` and `after` are true if
-/// something happens before `from` or after `last`.
+/// `last` are the first and the last drawn moment (positions in the history). `before` is true if something happens
+/// before `from`, and `after` is true if something happens after `last`.
 #[derive(Drop)]
 pub(crate) struct Drawing {
     pub columns: Vec<Column>,
@@ -63,9 +63,9 @@ impl Drawing {
         self.before || self.after
     }
 
-    /// Returns a range of moments (positions in the history) that shows why an order was rejected: it starts at the
-    /// call named in the reason. Returns `None` if the order is accepted, if the history has no such call, if nothing
-    /// happens after the drawn moments, or if `window` excludes some moments.
+    /// Returns a range of moments (positions in the history) that shows why an order was rejected. The range starts at
+    /// the call that the reason names. Returns `None` if the order is accepted, if the history has no such call, if
+    /// nothing happens after the drawn moments, or if `window` excludes some moments.
     pub fn window_of_clash(&self, picture: &Picture, window: Window) -> Option<Window> {
         if !(self.after && window.is_whole()) {
             return None;
@@ -74,8 +74,8 @@ impl Drawing {
         Some(Window { from, ..window })
     }
 
-    /// Returns the position of a range relative to the drawn moments (positions in the history). The range is from
-    /// `first` to `last`, and has no end if `last` is `None`.
+    /// Returns whether a range is before, among or after the drawn moments (positions in the history). The range is
+    /// from `first` to `last`, and has no end if `last` is `None`.
     pub fn side_of(&self, first: u32, last: Option<u32>) -> Side {
         match last {
             _ if self.last < first => Side::After,
@@ -104,7 +104,7 @@ fn add_begun(marks: &mut Vec<Mark>, picture: &Picture, moment: u32) -> Result<()
     Ok(())
 }
 
-/// Adds a sign for each linearization point at `moment`. Returns whether a call with such a point changes the set.
+/// Adds a sign for each linearization point at `moment`. Returns whether a call changes the set at `moment`.
 fn add_points(marks: &mut Vec<Mark>, picture: &Picture, moment: u32) -> Result<bool, AllocError> {
     let mut changes = false;
     for (index, point) in points_of(picture).iter().enumerate() {
@@ -141,7 +141,7 @@ fn add_ended(marks: &mut Vec<Mark>, picture: &Picture, moment: u32) -> Result<()
     Ok(())
 }
 
-/// Appends an operation and its key, such as `add 5`.
+/// Appends the operation and the key of a call, such as `add 5`.
 pub(crate) fn put_call(out: &mut String, call: Call) -> Result<(), AllocError> {
     let word = call_word(call);
     let key = call.key().0;
@@ -189,8 +189,8 @@ fn width_of(alloc: Global, moment: u32, marks: &[Mark], set: &str) -> Result<usi
     Ok(most.min(MOST_WIDTH))
 }
 
-/// Computes one column for each of these moments (positions in the history). If all linearization points are known, the
-/// first column and each column with a change contain the set.
+/// Computes one column for each moment (position in the history) in `moments`. If all linearization points are known,
+/// the first column and each column with a change contain the set.
 fn columns_at(
     alloc: Global,
     picture: &Picture,
@@ -241,7 +241,7 @@ pub(crate) fn drawing_in(
     Ok(drawing)
 }
 
-/// Sets `last` to the moment of the last column, and `after` to whether something happens after this moment.
+/// Sets `last` to the moment of the last column, and `after` to whether something happens after that moment.
 pub(crate) fn end_at_last(picture: &Picture, drawing: &mut Drawing) {
     if let Some(column) = drawing.columns.last() {
         drawing.last = column.moment;

@@ -19,9 +19,9 @@ fn clashes_in(keys: &[u32], refusal: &Refusal, number: usize, made: &CallRecord)
     }
 }
 
-/// Returns whether the call `made` with this number contradicts a rejected order, and is therefore drawn in red. A call
-/// contradicts the order if the reason for the rejection names it. If the final keys are wrong, a call contradicts the
-/// order if its key is a final key of the order or of the report, but not of both.
+/// Returns whether the call `made`, whose number is `number`, contradicts a rejected order and is therefore drawn in
+/// red. A call contradicts the order if the reason for the rejection names it. If the final keys are wrong, a call
+/// contradicts the order if its key is a final key of either the order or the report, but not of both.
 pub(crate) fn is_clash(picture: &Picture, number: usize, made: &CallRecord) -> bool {
     match &picture.refusal {
         None => false,

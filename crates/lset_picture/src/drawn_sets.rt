@@ -1,4 +1,4 @@
-//! Computes the sets that are printed below a picture, and writes sets as text. A moment is a position in the history.
+//! Computes the sets that are printed below a picture, and writes sets as text.
 use crate::MOST_KEYS_SHOWN;
 use crate::picture::{Picture, Standing, standing_at};
 use lset_words::Call;
@@ -35,8 +35,8 @@ fn change_set(keys: &mut BTreeSet<u32>, call: Call) -> Result<(), AllocError> {
     Ok(())
 }
 
-/// Returns `Some(Some(call))` if the entry's call changes the set, `Some(None)` if it changes nothing, and `None` if
-/// its linearization point is after `moment` or unknown.
+/// Returns `Some(Some(call))` if the entry's call changes the set, and `Some(None)` if the call changes nothing.
+/// Returns `None` if the entry's linearization point is after `moment` or unknown.
 fn settled(standing: Standing, moment: u32) -> Option<Option<Call>> {
     let point = standing.point?;
     if moment < point.moment {
@@ -48,7 +48,7 @@ fn settled(standing: Standing, moment: u32) -> Option<Option<Call>> {
     }
 }
 
-/// Applies further entries of the order to the set: all entries whose linearization points are not after `moment`.
+/// Applies the next entries of the order to the set: all entries whose linearization points are not after `moment`.
 pub(crate) fn go_on(
     reached: &mut Reached,
     picture: &Picture,
@@ -69,8 +69,8 @@ pub(crate) fn go_on(
     Ok(())
 }
 
-/// Writes `first`, the first keys of a set with `count` keys, separated by `separator`, and then the number of the
-/// other keys.
+/// Writes `first`, the first keys of a set with `count` keys, separated by `separator`, followed by the number of keys
+/// that were not written.
 fn put_keys(
     out: &mut String,
     separator: &str,

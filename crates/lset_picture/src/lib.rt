@@ -1,7 +1,8 @@
 //! Draws histories as text or SVG.
 //!
-//! A picture has a bar for each call, a sign at its linearization point, the set over time, and the order. If the order
-//! is rejected, the picture has the reason. If an event in a schedule is not enabled, the picture names the event.
+//! A picture has a bar for each call, a sign at the call's linearization point, the set over time, and the order. If
+//! the order is rejected, the picture states the reason. If an event in a schedule is not enabled, the picture names
+//! the event.
 #![tactic(auto)]
 
 mod beginning; // the moment at which a picture starts
@@ -30,7 +31,7 @@ pub use text::write_picture;
 /// The maximum number of columns in a picture.
 const MOST_COLUMNS: usize = 64;
 
-/// The maximum number of keys of a set that are printed. The number of the other keys is printed after them.
+/// The maximum number of keys of a set that are printed. They are followed by the number of keys that were not printed.
 const MOST_KEYS_SHOWN: usize = 8;
 
 /// The maximum width of a column, in characters. In a linearizable history, no entry of a column is wider.

@@ -29,7 +29,7 @@ pub(crate) fn put_heading(out: &mut String, picture: &Picture) -> Result<(), All
 }
 
 /// Appends the range of drawn moments (positions in the history), and the command-line options that draw the moments
-/// before and after them. Example: `moments 20 to 33 of 35; earlier: --to 19; later: --from 34`.
+/// before and after the range. Example: `moments 20 to 33 of 35; earlier: --to 19; later: --from 34`.
 pub(crate) fn put_cut(
     out: &mut String,
     picture: &Picture,
@@ -82,8 +82,8 @@ fn put_place(out: &mut String, number: usize, standing: Standing) -> Result<(), 
 }
 
 /// Returns whether an entry of the order is before, among or after the drawn moments (positions in the history). Uses
-/// the linearization point of the entry if it is known, otherwise the bar of its call. Returns `None` if the call is
-/// not in the history.
+/// the linearization point of the entry if it is known, otherwise the bar of the entry's call. Returns `None` if the
+/// call is not in the history.
 fn side_of(standing: Standing, drawing: &Drawing) -> Option<Side> {
     match standing.point {
         Some(point) => Some(drawing.side_of(point.moment, Some(point.moment))),
@@ -91,8 +91,8 @@ fn side_of(standing: Standing, drawing: &Drawing) -> Option<Side> {
     }
 }
 
-/// Returns whether to print the entry `place`, which has no call in the history. The entry is printed only if all
-/// moments are drawn, or if the order was rejected because of this entry's call.
+/// Returns whether to print the entry `place`, whose call is not in the history. The entry is printed only if all
+/// moments are drawn, or if the order was rejected because of the entry's call.
 fn is_told(picture: &Picture, drawing: &Drawing, place: Placed) -> bool {
     match &picture.refusal {
         _ if !drawing.is_cut() => true,
@@ -101,8 +101,8 @@ fn is_told(picture: &Picture, drawing: &Drawing, place: Placed) -> bool {
     }
 }
 
-/// How many entries of the order were not printed: entries before the drawn moments, entries after them, and entries
-/// without a call in the history.
+/// The numbers of entries of the order that were not printed: entries before the drawn moments, entries after them, and
+/// entries whose call is not in the history.
 struct LeftOut {
     before: usize,
     after: usize,
@@ -166,8 +166,8 @@ fn put_order(out: &mut String, picture: &Picture, drawing: &Drawing) -> Result<(
     put_left_out(out, left)
 }
 
-/// Appends the lines below the rows: the order, how many entries are left out, and the final keys. Adds `legend` if the
-/// linearization points are known, and the first event of the schedule that is not enabled, if any.
+/// Appends the lines below the rows: the order, the number of entries that are left out, the final keys, `legend` if
+/// the linearization points are known, and the schedule's first event that is not enabled, if any.
 pub(crate) fn put_lines_below(
     out: &mut String,
     picture: &Picture,

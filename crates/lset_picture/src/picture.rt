@@ -2,7 +2,7 @@ use crate::refusal::Refusal;
 use lset_history::History;
 use lset_words::{CallRecord, Kind, Placed, Point};
 
-/// The content of a picture of a run or a report: a history, an order of its calls, and the final keys.
+/// The content of a picture of a run or a report: a history, an order of the history's calls, and the final keys.
 ///
 /// The moments in `points` never decrease along the order. The points are drawn only if the order is not rejected and
 /// each entry of the order has a point.
@@ -13,16 +13,16 @@ pub struct Picture {
     /// The number of events executed, or `None` for the picture of a report.
     pub events: Option<u32>,
     pub order: Vec<Placed>,
-    /// One linearization point for each entry of the order. Empty if the order is rejected.
+    /// The linearization points, one for each entry of the order. Empty if the order is rejected.
     pub points: Vec<Point>,
     pub keys: Vec<u32>,
     pub refusal: Option<Refusal>,
-    /// The first event of a schedule that is not enabled: the number of its line, and the name of the cause.
+    /// The line number and the cause of the schedule's first event that is not enabled, if any.
     pub refused: Option<(u64, &'static str)>,
 }
 
-/// The range of moments to draw. A moment is a position in the history, counted from 1, and is drawn only if a call
-/// starts, takes effect or ends at it. Only the first 64 such moments in the range are drawn.
+/// The range of moments to draw. A moment is a position in the history, counted from 1. Only moments when a call
+/// starts, takes effect or ends are drawn, and at most the first 64 such moments in the range.
 #[derive(Clone, Copy)]
 pub struct Window {
     pub from: u32,
@@ -30,18 +30,19 @@ pub struct Window {
 }
 
 impl Window {
-    /// Returns whether this range includes every moment.
+    /// Returns whether the range includes every moment.
     pub fn is_whole(self) -> bool {
         self.from <= 1 && self.to == u32::MAX
     }
 }
 
-/// Returns whether the linearization points are known: the order is not rejected, and each entry has a point.
+/// Returns whether the linearization points are known: the order is not rejected, and each entry of the order has a
+/// point.
 pub(crate) fn are_known(picture: &Picture) -> bool {
     picture.refusal.is_none() && picture.points.len() == picture.order.len()
 }
 
-/// Returns the linearization points to draw: all points if they are known, otherwise none.
+/// Returns the linearization points to draw: all linearization points if they are known, otherwise none.
 pub(crate) fn points_of(picture: &Picture) -> &[Point] {
     if are_known(picture) {
         &picture.points
@@ -50,7 +51,8 @@ pub(crate) fn points_of(picture: &Picture) -> &[Point] {
     }
 }
 
-/// An entry of the order, the entry's call if the history has this call, and the linearization point if it is known.
+/// An entry of the order, with the entry's call if the call is in the history, and with the linearization point if the
+/// point is known.
 #[derive(Clone, Copy)]
 pub(crate) struct Standing {
     pub placed: Placed,
@@ -66,7 +68,7 @@ fn standing_of(picture: &Picture, index: usize, placed: Placed) -> Standing {
     }
 }
 
-/// Returns the entry of the order with this index, counted from 0, or `None` if the order is shorter.
+/// Returns the entry of the order at `index`, counted from 0, or `None` if the order has no such entry.
 pub(crate) fn standing_at(picture: &Picture, index: usize) -> Option<Standing> {
     let placed = picture.order.get(index)?;
     Some(standing_of(picture, index, *placed))

@@ -6,7 +6,7 @@ use lset_words::{Effect, Point};
 use std::alloc::{AllocError, Global};
 
 /// Computes a linearization point for each entry of an order that explains the history. The point is the start of the
-/// entry's call, or the point of the previous entry if that is later.
+/// entry's call or the point of the previous entry, whichever is later.
 fn first_points(
     alloc: Global,
     history: &History,
@@ -26,11 +26,12 @@ fn first_points(
     Ok(points)
 }
 
-/// Returns the picture of a report. If the order explains the history and leaves exactly the final keys, each entry has
-/// a linearization point. Otherwise the picture has the error that `check_order` finds, and no linearization points.
+/// Returns the picture of a report. If the order explains the history and leaves exactly the final keys, each entry of
+/// the order has a linearization point. Otherwise the picture has the error that `check_order` finds, and no
+/// linearization points.
 ///
-/// Needs about as much time as `check_order`. Returns `AllocError` if an allocation fails. (Such pictures of histories
-/// are due to Herlihy and Wing.)
+/// Takes about as long as `check_order`. Returns `AllocError` if an allocation fails. Such pictures of histories are
+/// due to Herlihy and Wing.
 pub fn picture_of_report(alloc: Global, report: Report) -> Result<Picture, AllocError> {
     let order = report.order.as_slice();
     let refusal = why_refused(alloc, &report.history, order, &report.keys)?;

@@ -1,7 +1,7 @@
 use lset_words::Reply;
 
-/// The reason why an order is rejected: its first error, with the facts that prove it. Calls are counted from 0, the
-/// entries of the order (its places) from 1.
+/// The reason why an order is rejected: the first error in the order, with the facts that prove it. Calls are counted
+/// from 0, the entries of the order (its places) from 1.
 #[derive(Drop)]
 pub enum Refusal {
     /// The order names call number `call`, but the history has only `calls` calls.
@@ -9,13 +9,14 @@ pub enum Refusal {
         call: u32,
         calls: u32,
     },
-    /// The order contains the call twice or more. `first` and `second` are its first two places in the order.
+    /// The order contains the call more than once. `first` and `second` are the first two places of the call in the
+    /// order.
     Twice {
         call: u32,
         first: u64,
         second: u64,
     },
-    /// The call ended at `moment` with `reply`, but the order does not contain it.
+    /// The call ended at `moment` with `reply`, but is missing from the order.
     Missing {
         call: u32,
         moment: u32,
@@ -28,8 +29,8 @@ pub enum Refusal {
         says: Reply,
         ended: Reply,
     },
-    /// In the order, the call has the reply `says`. The sequential set, which has the keys `keys` at this place of the
-    /// order, replies `answer`. If the call has ended, its reply in the history is `says`.
+    /// In the order, the call has the reply `says`. The sequential set, which has the keys `keys` at this place in the
+    /// order, returns `answer`. If the call has ended, its reply in the history is `says`.
     SetReply {
         call: u32,
         place: u64,

@@ -6,8 +6,7 @@ use lset_text::reply_word;
 use lset_words::Reply;
 use std::alloc::AllocError;
 
-/// Writes which entries of the order come before entry `place`, such as `after places 1 and 2`. Entries are counted
-/// from 1.
+/// Writes which entries of the order precede entry `place`, such as `after places 1 and 2`. Entries are counted from 1.
 fn put_places_before(out: &mut String, place: u64) -> Result<(), AllocError> {
     match place {
         0 | 1 => out.push_str("at first"),
@@ -106,7 +105,7 @@ fn put_reason(out: &mut String, refusal: &Refusal, told: &[u32]) -> Result<(), A
     }
 }
 
-/// Appends a line with the reason if the order of a picture is rejected.
+/// If the order of a picture is rejected, appends a line with the reason.
 pub(crate) fn put_refusal(out: &mut String, picture: &Picture) -> Result<(), AllocError> {
     if let Some(refusal) = &picture.refusal {
         out.push_str("refused ")?;

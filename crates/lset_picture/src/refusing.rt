@@ -6,7 +6,7 @@ use crate::refusal::Refusal;
 use lset_history::{CallRecord, History, Oracle, OrderFault, Placed, check_order};
 use std::alloc::{AllocError, Global};
 
-/// Returns the first index, not below `from`, of the call in the order.
+/// Returns the index of the first entry of `call` in the order, at or after the index `from`.
 fn place_from(order: &[Placed], from: usize, call: u32) -> Option<usize>
     ensures { IfSome result (λ place. place < length order.now) }
 {
@@ -22,7 +22,7 @@ fn record_of(history: &History, call: u32) -> Option<CallRecord> {
     history.calls().get(call as usize).copied()
 }
 
-/// Returns the sequential set after the calls of these entries were made one after another.
+/// Returns the sequential set after the calls in `places` were made one after another.
 fn set_after(alloc: Global, history: &History, places: &[Placed]) -> Result<Oracle, AllocError>
     ensures { IfOk result (λ o. o.threads ≡ history.now.opening.threads) }
 {
@@ -57,8 +57,8 @@ fn missing(history: &History, call: u32) -> Option<Refusal> {
     })
 }
 
-/// Finds the first call after `call` in the order that had ended before `call` started. Returns it as the reason to
-/// reject the order.
+/// Returns a reason to reject the order: the first call after `call` in the order that had ended before `call` started.
+/// Returns `None` if there is no such call.
 fn too_early(history: &History, order: &[Placed], call: u32) -> Option<Refusal> {
     let begun = record_of(history, call)?.begun;
     let place = place_from(order, 0, call)?;
@@ -78,8 +78,8 @@ fn too_early(history: &History, order: &[Placed], call: u32) -> Option<Refusal> 
     None
 }
 
-/// Finds the reply that contradicts the reply of `call` in the order. This is the reply in the history or, if the
-/// history agrees with the order, the reply of the sequential set.
+/// Finds the reply that contradicts the reply of `call` in the order. It is the reply in the history or, if the history
+/// agrees with the order, the reply of the sequential set.
 fn wrong_reply(
     alloc: Global,
     history: &History,
@@ -114,9 +114,9 @@ fn wrong_reply(
     }))
 }
 
-/// Returns the reason why the order does not explain the history or does not leave these final keys. Returns `None` if
-/// the order explains the history and leaves the keys. Needs about as much time as `check_order`. Returns `AllocError`
-/// if an allocation fails.
+/// Returns the reason why the order does not explain the history or does not leave the given final keys. Returns `None`
+/// if the order explains the history and leaves the keys. Takes about as long as `check_order`. Returns `AllocError` if
+/// an allocation fails.
 pub(crate) fn why_refused(
     alloc: Global,
     history: &History,

@@ -45,7 +45,7 @@ pub(crate) fn line_y(threads: u32, number: usize) -> u64 {
     40 * u64::from(threads) + 126 + 16 * number.min(1_000_000) as u64
 }
 
-/// Appends a text element that starts at `start` and has these CSS classes.
+/// Appends a text element that starts at `start` and has the given CSS classes.
 pub(crate) fn put_text(
     out: &mut String,
     class: &str,
@@ -65,7 +65,7 @@ pub(crate) fn put_plain(out: &mut String, x: u64, y: u64, text: &str) -> Result<
     put_text(out, "plain", "", Spot { x, y }, text)
 }
 
-/// Appends a line element of this class from `start` to `end`.
+/// Appends a line element of the given CSS class from `start` to `end`.
 pub(crate) fn put_line(
     out: &mut String,
     class: &str,
@@ -80,7 +80,7 @@ pub(crate) fn put_line(
     )
 }
 
-/// Appends a circle element with these classes and with its center at `centre`.
+/// Appends a circle element with the given CSS classes and with its center at `centre`.
 pub(crate) fn put_circle(
     out: &mut String,
     kind: &str,

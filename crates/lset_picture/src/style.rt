@@ -1,4 +1,4 @@
-/// The style sheet in every SVG. Its rules only apply inside the SVG, even if the SVG is embedded in a page.
+/// The style sheet in every SVG. Its rules apply only inside the SVG, even if the SVG is embedded in a page.
 ///
 /// Color-blind readers can distinguish the colors of the threads, and each color has a contrast of at least 4.5 against
 /// the background. A call that contradicts the order is drawn thick as well as red.

@@ -1,5 +1,5 @@
-//! Writes a picture as an SVG: a line for each call, a circle for each linearization point, the set below them, and the
-//! order as text.
+//! Writes a picture as an SVG: a line for each call, a circle for each linearization point, the set below the calls,
+//! and the order as text.
 use crate::columns::{Drawing, Side, drawing_in, put_call};
 use crate::drawn_clashes::is_clash;
 use crate::orders::{put_cut, put_heading, put_lines_below};
@@ -16,7 +16,7 @@ use std::alloc::{AllocError, Global};
 const LEGEND: &str =
     "filled: changes the set    open: changes nothing, its reply fits there    dashed: pending";
 
-/// The maximum width of the sheet, in characters. The sheet is as wide as its longest line of text, up to this number.
+/// The maximum width of the sheet, in characters. The sheet is as wide as its longest line of text, up to the maximum.
 const MOST_CHARACTERS: usize = 255;
 
 /// The two lines above the rows: the heading, and the reason for rejecting the order (empty if the order is accepted).
@@ -52,8 +52,8 @@ fn put_sheet(
     out.push_str("<rect class=\"ground\" width=\"100%\" height=\"100%\"/>\n")
 }
 
-/// Adds the lines above the rows: the heading, the reason if the order is rejected, and the range of drawn moments
-/// unless all moments are drawn.
+/// Adds the lines above the rows: the heading, the reason if the order is rejected, and the range of drawn moments if
+/// some moments are not drawn.
 fn put_above(
     alloc: Global,
     out: &mut String,
@@ -203,7 +203,7 @@ fn dot_of(standing: Standing, drawing: &Drawing) -> Option<(Spot, u32, bool)> {
     Some((Spot { x, y }, made.thread, point.change))
 }
 
-/// Adds the linearization points: as circles if `circles` is true, otherwise as thin lines that lead down to the set.
+/// Adds the linearization points: as circles if `circles` is true, otherwise as thin lines down to the set.
 fn put_points(
     out: &mut String,
     picture: &Picture,
@@ -253,11 +253,11 @@ fn put_below(out: &mut String, threads: u32, below: &str) -> Result<(), AllocErr
 /// Draws a picture as an SVG. Draws the moments in `window` when a call starts, takes effect or ends, but at most the
 /// first 64 such moments. A moment is a position in the history, counted from 1.
 ///
-/// If `window` includes all moments and they do not fit, the drawing of a rejected order starts at the call that caused
-/// the rejection. A call is a line in the color of its thread: dashed if the call is pending, thick if it contradicts
-/// the order (`is_clash`). A linearization point is a circle, filled if the call changes the set, with a thin line down
-/// to the set. The order is below, as text. The style sheet has a dark background for readers who prefer one. The SVG
-/// has no script and no external references. Returns `AllocError` if an allocation fails.
+/// If `window` includes all moments but they do not all fit, the drawing of a rejected order starts at the call that
+/// caused the rejection. A call is a line in the color of its thread: dashed if the call is pending, thick if it
+/// contradicts the order (`is_clash`). A linearization point is a circle, filled if the call changes the set, with a
+/// thin line down to the set. The order is written below as text. The style sheet has a dark background for readers who
+/// prefer one. The SVG has no script and no external references. Returns `AllocError` if an allocation fails.
 pub fn write_svg(alloc: Global, picture: &Picture, window: Window) -> Result<Vec<u8>, AllocError> {
     let mut drawing = drawing_in(alloc, picture, window)?;
     if let Some(window) = drawing.window_of_clash(picture, window) {

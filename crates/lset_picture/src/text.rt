@@ -1,5 +1,5 @@
-//! Writes a picture as text: a row for each thread with a bar for each call, signs at the linearization points, the set
-//! below them, and the order. (`put_signs` in `columns.rt` puts the bars and signs into the rows.)
+//! Writes a picture as text: a row for each thread with a bar for each call and signs at the linearization points, the
+//! set below the rows, and the order. (`put_signs` in `columns.rt` writes the bars and signs.)
 use crate::MOST_COLUMNS;
 use crate::columns::{Column, Drawing, Mark, Sign, drawing_in, end_at_last, put_signs};
 use crate::orders::{put_cut, put_heading, put_lines_below};
@@ -16,7 +16,7 @@ const LEGEND: &str = "* changes the set    o changes nothing, its reply fits the
 const LEGEND_OF_CUT: &str =
     "* changes the set    o changes nothing, its reply fits there    > ends later    < began earlier";
 
-/// Returns whether a thread's bar continues after the signs in `marks`. `before` is true if a bar was drawn up to these
+/// Returns whether a thread's bar continues after the signs in `marks`. `before` is true if a bar was drawn up to the
 /// signs.
 fn goes_on(marks: &[Mark], thread: u32, before: bool) -> bool {
     let mut drawn = before;
@@ -155,7 +155,7 @@ fn fits(
     width: u32,
 ) -> Result<bool, AllocError> {
     let mut rows = String::new(alloc);
-    // The row of moments is nearly always the longest row and is cheap to write. Therefore this row is tested first.
+    // The row of moments is nearly always the longest row, and it is cheap to write. Therefore it is tested first.
     put_moments(alloc, &mut rows, &drawing.columns)?;
     if has_longer(&rows, width) {
         return Ok(false);
@@ -197,8 +197,8 @@ fn fitted(
     Ok(drawing)
 }
 
-/// Writes the rows, below the range of drawn moments if some moments are not drawn. Writes nothing for a history
-/// without calls.
+/// Writes the rows. If some moments are not drawn, the range of drawn moments is written above the rows. Writes nothing
+/// for a history without calls.
 fn put_drawn_rows(
     alloc: Global,
     out: &mut String,
@@ -220,10 +220,10 @@ fn put_drawn_rows(
 /// order.
 ///
 /// The picture has the moments from `window.from` to `window.to` when a call starts, takes effect or ends. A moment is
-/// a position in the history, counted from 1. At most the first 64 such moments are drawn, and only moments that fit
-/// into rows of `width` characters, but at least one. If `window` includes all moments and they do not fit, the drawing
-/// of a rejected order starts at the call that caused the rejection. Returns `AllocError` if an allocation fails.
-/// (Pictures with bars and points are due to Herlihy and Wing.)
+/// a position in the history, counted from 1. At most the first 64 such moments are drawn. Only as many moments are
+/// drawn as fit into rows of `width` characters, but at least one. If `window` includes all moments but they do not all
+/// fit, the drawing of a rejected order starts at the call that caused the rejection. Returns `AllocError` if an
+/// allocation fails. Pictures with bars and points are due to Herlihy and Wing.
 pub fn write_picture(
     alloc: Global,
     picture: &Picture,
