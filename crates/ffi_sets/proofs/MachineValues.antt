@@ -1,5 +1,5 @@
--- Definitions for proofs at machine level: the machine values of a handle that C code keeps (`CSeat`), and of a box
--- (its pointer). The proofs assume `Logic`, the program logic of the toolchain.
+-- Definitions for proofs at machine level: the machine values of a handle that C code keeps (`CSeat`), and of a box.
+-- The proofs assume `Logic`, the program logic of the toolchain.
 pub use Rattle.std.proofs.Common.{◌≡◌, List, [], ◌∷◌, ◌++◌, refl, sym, ap, ◌∙◌, subst, ℕ, zero, suc, lit<}
 pub use mathlib.Core.Bool.{Bool, true, false, ◌&&◌}
 pub use mir.Syntax.{Fn, a_type, dcons, dnil, Ty, ty_ptr, ty_bool, ty_struct, impl, tcons, tnil}
@@ -83,7 +83,8 @@ slot_at k [] = plain (λ _. unit)
 slot_at zero (s ∷ ss) = s
 slot_at (suc k) (s ∷ ss) = slot_at k ss
 
--- Returns a struct type with these fields and no name. The name of a struct does not affect which memory a value owns.
+-- Returns the struct type that has the given fields and no name. The name of a struct does not affect which memory a
+-- value owns.
 abbrev pub plainly : List RattleType → RattleType
 plainly Rs = Struct (record { name = []; args = []; types = []; fields = Rs })
 

@@ -1,4 +1,5 @@
--- The effect of a call from C: how it changes the value that the handle (`CSeat`) owns, and which number it returns.
+-- The effect of a call from C: how the call changes the value that the handle (`CSeat`) owns, and which number the call
+-- returns.
 use Rattle.std.specs.Prelude.{◌≡◌, ℕ, Bool, true, false, Option, Some, None}
 use Rattle.lset_words.specs.declared.Call.{Call}
 use Rattle.lset_words.specs.declared.Reply.{Reply}
@@ -13,15 +14,16 @@ use Rattle.lset_live.specs.Explained.{HasAnswered, HasMadeAtMost}
 use Rattle.ffi_sets.specs.declared.held.Held.{Held}
 use Rattle.ffi_sets.specs.Sets.{table_in, set_in, seat_in, spare_in, keys_in, number_in, receipt_in, SameSet}
 
--- Holds if a call from a seat of a set (one thread's access to the set) has one of these effects: the call returned
--- this reply; or it gave up after 2^64 - 1 rounds of a loop and the seat is lost; or the seat was already lost.
+-- Holds if a call from a seat of a set (one thread's access to the set) had one of three effects. Either the call
+-- returned a reply. Or the call gave up after 2^64 - 1 rounds of a loop, and the seat is lost. Or the seat was already
+-- lost.
 abbrev pub HasCalledOf : Table → SetValue → Option SeatValue → Call → Option Reply → Option SeatValue → Type 0
 HasCalledOf T set (Some old) c (Some r) (Some new) = HasAnswered T set old c r new
 HasCalledOf T set (Some old) c None None = Unit {0}
 HasCalledOf T set None c None None = Unit {0}
 HasCalledOf T set old c r new = ⊥
 
--- Converts a reply to the number that C functions return. Without a reply, the number is 255.
+-- Converts a reply to the number that C functions return. The number for `None` (no reply) is 255.
 abbrev pub code_of : Option Reply → ℕ
 code_of (Some reply.False) = 0
 code_of (Some reply.True) = 1
@@ -34,9 +36,9 @@ abbrev pub CallsIn : Option Table → Option SetValue → Option SeatValue → C
 CallsIn (Some T) (Some set) old c r new = HasCalledOf T set old c r new
 CallsIn T set old c r new = r ≡ None
 
--- Holds if call `c` changes the value `h` of a C handle to `h'` and returns the reply `r`. The list, the set, its
+-- Holds if call `c` changes the value `h` of a C handle to `h'` and returns the reply `r`. The list, the set, the set's
 -- number, and the seats that can be split off do not change. A receipt or a closed set has no seat, so its reply is
--- `None`.
+-- `None`. (A seat is one thread's access to the set.)
 pub record HasCalledHeld (h : Held) (c : Call) (r : Option Reply) (h' : Held) : Type 0 where
   pub same : SameSet h h'
   pub spare : spare_in h' ≡ spare_in h
@@ -52,18 +54,18 @@ abbrev pub ReadsIn : Option SetValue → Option SeatValue → Option SeatValue �
 ReadsIn (Some set) old new = HasReadOf set old new
 ReadsIn None old new = ⊥
 
--- Holds if the last call from the seat in a C handle took at most `most_reads` steps.
+-- Holds if the last call from the seat in a C handle (one thread's access to a set) took at most `most_reads` steps.
 abbrev pub HasReadHeld : Held → Held → Type 0
 HasReadHeld h h' = ReadsIn (set_in h) (seat_in h) (seat_in h')
 
--- Holds if a call through a C handle returned this number. The first argument is true if the handle was full (owned a
--- value). An empty handle stays empty, and the number is 255.
+-- Holds if a call through a C handle returned the number `n`. The first argument is true if the handle was full, that
+-- is, owned a value. An empty handle stays empty, and the call returns 255.
 abbrev pub HasMade : Bool → Held → Call → ℕ → Bool → Held → Type 0
 HasMade true h c n true h' = (r : Option Reply) × (n ≡ code_of r) × HasCalledHeld h c r h'
 HasMade false h c n false h' = n ≡ 255
 HasMade full h c n full' h' = ⊥
 
--- Returns the key that a `ceiling` stores through its pointer: the key in the reply `At`. For any other reply, this is
+-- Returns the key that a `ceiling` stores through its pointer: the key in the reply `At`. For any other reply, returns
 -- the key that was stored before the call.
 abbrev pub at_of : Option Reply → ℕ → ℕ
 at_of (Some (reply.At k)) a = k.0
@@ -74,14 +76,15 @@ HasCeiling true h c n a a' true h' = (r : Option Reply) × (n ≡ code_of r) × 
 HasCeiling false h c n a a' false h' = (n ≡ 255) × (a' ≡ a)
 HasCeiling full h c n a a' full' h' = ⊥
 
--- Holds if a seat of a set (one thread's access to the set) issued this receipt. The receipt names the seat's set and
--- contains the events that the seat has seen.
+-- Holds if a seat of a set (one thread's access to the set) issued the given receipt. The receipt names the seat's set
+-- and contains the events that the seat has seen.
 abbrev pub HasNotedOf : Option SeatValue → Option ReceiptValue → Type 0
 HasNotedOf (Some s) (Some given) = given ≡ record { set = s.set; events = s.events }
 HasNotedOf s given = ⊥
 
--- Holds if a seat of the C handle `h` has issued the receipt `given`: the number of the set, and the events that the
--- seat has seen. `h'`, the value of the handle afterwards, has the same list, set, number and seats as `h`.
+-- Holds if a seat of the C handle `h` (one thread's access to a set) has issued the receipt `given`. The receipt
+-- contains the number of the set, and the events that the seat has seen. `h'`, the value of the handle afterwards, has
+-- the list, set, number and seats of `h`.
 pub record HasNotedHeld (h given h' : Held) : Type 0 where
   pub same : SameSet h h'
   pub spare : spare_in h' ≡ spare_in h
@@ -93,8 +96,8 @@ abbrev pub HasGiven : Bool → Held → Bool → Held → Bool → Held → Type
 HasGiven true h true given true h' = HasNotedHeld h given h'
 HasGiven full h out given full' h' = ⊥
 
--- Holds if a seat of a set (one thread's access to the set) has accepted a receipt. The seat has then seen all events
--- of the receipt. The record of its calls, and the number of seats that it holds, do not change.
+-- Holds if a seat of a set (one thread's access to the set) has accepted a receipt. Afterwards, the seat has seen all
+-- events of the receipt. The record of the seat's calls, and the number of seats that the seat holds, do not change.
 abbrev pub HasHeededOf : Option SeatValue → Option ReceiptValue → Option SeatValue → Type 0
 HasHeededOf (Some old) (Some given) (Some new) = (new.set ≡ old.set) × (new.past ≡ old.past) × (new.held ≡ old.held)
     × StartsWith new.events old.events × StartsWith new.events given.events

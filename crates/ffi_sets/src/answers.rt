@@ -11,8 +11,8 @@ use lset_live::OpenFault;
 use lset_words::{Call, Reply};
 use std::alloc::Global;
 
-/// Converts a reply to a number: 0 for `False`, 1 for `True`, 2 for `Full`, 3 for `At`, 4 for `Nothing`, and 255 for no
-/// reply.
+/// Converts a reply to a number: 0 for `False`, 1 for `True`, 2 for `Full`, 3 for `At`, 4 for `Nothing`, and 255 for
+/// `None` (no reply).
 pub fn reply_code(reply: Option<Reply>) -> u8
     ensures { result ≡ code_of reply }
 {
@@ -36,9 +36,9 @@ pub fn fault_code(fault: OpenFault) -> u8 {
     }
 }
 
-/// Makes a call from the handle `seat` and returns its reply as a number. Returns 255 if the handle owns no seat (one
-/// thread's access to a set). Also returns 255 if the call stops after 2^64 - 1 rounds of a loop without a reply; the
-/// seat is then lost.
+/// Makes a call through the handle `seat` and returns the call's reply as a number. Returns 255 if the handle owns no
+/// seat (one thread's access to a set). Also returns 255 if the call stops after 2^64 - 1 rounds of a loop without a
+/// reply; the seat is then lost.
 pub fn call_from_seat(alloc: Global, seat: &mut CSeat, call: Call) -> u8
     ensures { HasMade seat.old.full seat.old.held call result seat.new.full seat.new.held }
 {

@@ -4,7 +4,7 @@
 /// The function succeeded.
 pub const DONE: u8 = 0;
 
-/// The number of seats (of threads that can call) is not between 1 and 64.
+/// The number of seats (of threads that can call the set) is not between 1 and 64.
 pub const BAD_SEATS: u8 = 10;
 
 /// The quota is greater than 16,384.
@@ -19,13 +19,13 @@ pub const OUT_OF_MEMORY: u8 = 13;
 /// No list has this number.
 pub const BAD_KIND: u8 = 14;
 
-/// A `CSeat` that must be empty is not.
+/// A `CSeat` (a handle that C code keeps) that must be empty is not.
 pub const IS_SEAT: u8 = 15;
 
 /// The set cannot be closed: some of its seats (one for each thread) were split off and not merged back.
 pub const SEATS_OUT: u8 = 16;
 
-/// No other seat can be split off this seat (one thread's access to the set).
+/// No seat can be split off the given seat (one thread's access to the set).
 pub const NO_MORE: u8 = 17;
 
 /// The arguments are neither two seats nor a seat and a receipt, or their lists or numbers differ. (A receipt contains
@@ -35,5 +35,5 @@ pub const NO_GATHER: u8 = 18;
 /// A `contains` on this list can block.
 pub const MAY_BLOCK: u8 = 254;
 
-/// The handle `CSeat` owns no seat (one thread's access to the set).
+/// The given `CSeat` (a handle that C code keeps) owns no seat (one thread's access to the set).
 pub const NO_SEAT: u8 = 255;

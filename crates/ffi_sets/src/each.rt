@@ -1,4 +1,4 @@
-//! Functions on a `Held` (the value that a C handle owns), for any of the five lists. A `Held` can have a seat of a set
+//! Functions on a `Held` (the value that a C handle owns), for any of the five lists. A `Held` can be a seat of a set
 //! (one thread's access to the set) or a receipt (the events that a seat has seen).
 ghost use Rattle.lset_words.specs.declared.Call.TheVariants.{Contains};
 ghost use Rattle.std.specs.Prelude.{◌≤◌, Some, IfNone, IfSome, IfOk, IfErr};
@@ -32,8 +32,8 @@ pub fn open_held(
     }))
 }
 
-/// Makes a call from the seat (one thread's access to the set) in `held`. Returns `None` if `held` has no seat, or if
-/// the call stops after 2^64 - 1 rounds of a loop without a reply. In this case the seat is lost.
+/// Makes a call from the seat (one thread's access to the set) in `held`. Returns `None` if `held` has no seat. Also
+/// returns `None` if the call stops after 2^64 - 1 rounds of a loop without a reply; the seat is then lost.
 pub fn call_held(held: &mut Held, call: Call) -> Option<Reply>
     ensures { HasCalledHeld held.old call result held.new }
 {
@@ -48,8 +48,8 @@ pub fn call_held(held: &mut Held, call: Call) -> Option<Reply>
 }
 
 /// Makes a `contains` from the seat (one thread's access to the set) in `held` without blocking, in at most
-/// `most_reads` steps. Returns an error and makes no call: `MAY_BLOCK` on a coarse, fine or optimistic list, `NO_SEAT`
-/// if `held` has no seat.
+/// `most_reads` steps. Returns the error `MAY_BLOCK` on a coarse, fine or optimistic list, or `NO_SEAT` if `held` has
+/// no seat. In case of an error, no call is made.
 pub fn read_held(held: &mut Held, key: Key) -> Result<Reply, u8>
     ensures called { IfOk result (λ r. HasCalledHeld held.old (Contains key) (Some r) held.new) }
     ensures within { IfOk result (λ r. HasReadHeld held.old held.new) }
@@ -80,8 +80,8 @@ pub fn receipt_held(held: &mut Held) -> Option<Held>
 }
 
 /// Passes the receipt `given` (the events that a seat has seen) to the seat (one thread's access to the set) in `into`.
-/// Returns `None` on success. If the two are not a seat and a receipt with the same list and number, changes nothing
-/// and returns `given`.
+/// Returns `None` on success. If `into` has no seat, `given` is no receipt, or their lists or numbers differ, changes
+/// nothing and returns `given`.
 pub fn heed_held(into: &mut Held, given: Held) -> Option<Held>
     requires { Gathers into.old given }
     ensures { IfNone result (HasHeededHeld into.old given into.new) }
@@ -98,8 +98,8 @@ pub fn heed_held(into: &mut Held, given: Held) -> Option<Held>
     })
 }
 
-/// Returns the number of seats (one for each thread) that `held` contains, and the number of all seats of its set.
-/// Returns 0 and 0 if `held` has no seat.
+/// Returns the number of seats (one for each thread) that `held` contains, and the total number of seats of the set.
+/// Returns 0 for both if `held` has no seat.
 pub fn counts_held(held: &Held) -> (u64, u32) {
     match held {
         Held::Coarse(of) => of.counts(),
@@ -137,7 +137,7 @@ pub fn split_held(held: &mut Held, alloc: Global) -> Result<Held, u8> {
 }
 
 /// Merges the seat (one thread's access to the set) in `from` into the seat in `into`. Returns `None` on success. If
-/// the two are not seats with the same list and number, changes nothing and returns `from`.
+/// `into` or `from` has no seat, or their lists or numbers differ, changes nothing and returns `from`.
 pub fn gather_held(alloc: Global, into: &mut Held, from: Held) -> Option<Held>
     requires { Gathers into.old from }
 {
@@ -153,9 +153,9 @@ pub fn gather_held(alloc: Global, into: &mut Held, from: Held) -> Option<Held>
     })
 }
 
-/// Closes the set in `held` and returns its final keys. On an error, returns `held`, unchanged, and the number of the
-/// error: `NO_SEAT` if `held` has no seat (one thread's access to the set), `SEATS_OUT` if some seats were split off
-/// and not merged back, `OUT_OF_MEMORY` if an allocation failed.
+/// Closes the set in `held` and returns the set's final keys. On an error, returns `held`, unchanged, and the number of
+/// the error: `NO_SEAT` if `held` has no seat (one thread's access to the set), `SEATS_OUT` if some seats were split
+/// off and not merged back, `OUT_OF_MEMORY` if an allocation failed.
 pub fn close_held(alloc: Global, held: Held) -> Result<Vec<u32>, (Held, u8)> {
     match held {
         Held::Coarse(of) => match of.close(alloc) {
@@ -182,7 +182,7 @@ pub fn close_held(alloc: Global, held: Held) -> Result<Vec<u32>, (Held, u8)> {
     }
 }
 
-/// Copies `keys` to the start of `room` if they fit. Returns the number of keys, whether or not they fit.
+/// Copies `keys` to the start of `room` if they fit. In any case, returns the number of keys.
 fn put_keys(keys: &[u32], room: &mut [u32]) -> usize {
     let count = keys.len();
     if count <= room.len() {
@@ -191,8 +191,8 @@ fn put_keys(keys: &[u32], room: &mut [u32]) -> usize {
     count
 }
 
-/// Copies the keys of the closed set in `held` to the start of `room` if they fit. Returns the number of keys in any
-/// case, or `usize::MAX` if `held` is not a closed set.
+/// Copies the keys of the closed set in `held` to the start of `room` if they fit. Returns the number of keys, whether
+/// or not they fit, or `usize::MAX` if `held` is not a closed set.
 pub fn keys_held(held: &Held, room: &mut [u32]) -> usize {
     match held {
         Held::Closed(keys) => put_keys(keys, room),

@@ -35,8 +35,8 @@ pub struct ReceiptOfSet<M: Machine> {
 }
 
 /// The value that a non-empty C handle owns: a seat (one thread's access to a set), a receipt (the events that a seat
-/// has seen), or the keys of a closed set. A handle has the value `Nothing` only while a function has taken its value
-/// out to work with it.
+/// has seen), or the keys of a closed set. A handle has the value `Nothing` only while a function has taken the
+/// handle's value out to work with it.
 #[derive(Drop)]
 pub enum Held {
     Coarse(SeatOfSet<CoarseList>),

@@ -18,7 +18,7 @@ use std::alloc::Global;
 use std::mem::replace;
 use std::sync::Arc;
 
-/// Opens a set and returns a seat (one thread's access to the set). All other seats can be split off this seat.
+/// Opens a set and returns a seat (one thread's access to the set). All other seats can be split off the returned seat.
 pub fn open_of<M: Bounded>(
     alloc: Global,
     seats: u32,
@@ -39,7 +39,8 @@ pub fn open_of<M: Bounded>(
     })
 }
 
-/// Merges all seats in `spare` (one for each thread) into `seat`, and returns `seat`. All must belong to `set`.
+/// Merges all seats in `spare` (one for each thread) into `seat`, and returns `seat`. `seat` and all seats in `spare`
+/// must belong to `set`.
 fn gathered<M: Bounded>(set: &LiveSet<M>, seat: Seat<M>, spare: Vec<Seat<M>>) -> Seat<M>
     requires seat { seat.set ≡ set.now }
     requires spare { AreOf set.now spare.items }
@@ -53,8 +54,8 @@ fn gathered<M: Bounded>(set: &LiveSet<M>, seat: Seat<M>, spare: Vec<Seat<M>>) ->
     into
 }
 
-/// Closes the set and returns its final keys in `room`. All seats of the set (one for each thread) must be in `spare`,
-/// or be `seat`, or have been merged into `seat`.
+/// Closes the set and returns its final keys in `room`. Each seat of the set (one for each thread) must be `seat`, be
+/// in `spare`, or have been merged into `seat`.
 fn keys_left<M: Bounded>(
     set: LiveSet<M>,
     seat: Seat<M>,
@@ -71,8 +72,8 @@ fn keys_left<M: Bounded>(
 }
 
 impl<M: Bounded> SeatOfSet<M> {
-    /// Makes a call from this seat (one thread's access to the set). Returns `None` if the seat was already lost, or if
-    /// the call stops after 2^64 - 1 rounds of a loop without a reply. In this case the seat is lost.
+    /// Makes a call from the seat (one thread's access to the set). Returns `None` if the seat was already lost. Also
+    /// returns `None` if the call stops after 2^64 - 1 rounds of a loop without a reply; the seat is then lost.
     pub fn call(&mut self, call: Call) -> Option<Reply>
         ensures set { arc_value self.new.set ≡ arc_value self.old.set }
         ensures number { self.new.number ≡ self.old.number }
@@ -87,8 +88,8 @@ impl<M: Bounded> SeatOfSet<M> {
         Some(reply)
     }
 
-    /// Splits a seat (one thread's access to the set) off this one. Returns the error `NO_MORE` if no seat can be split
-    /// off, or `OUT_OF_MEMORY` if the set's counter of owners is full.
+    /// Splits a new seat (one thread's access to the set) off `self`. Returns the error `NO_MORE` if no seat can be
+    /// split off, or `OUT_OF_MEMORY` if the set's counter of owners is full.
     pub fn split(&mut self, alloc: Global) -> Result<SeatOfSet<M>, u8> {
         if self.spare.is_empty() {
             return Err(NO_MORE);
@@ -108,7 +109,7 @@ impl<M: Bounded> SeatOfSet<M> {
         })
     }
 
-    /// Merges `from`, and all seats (one for each thread) that can be split off it, into this seat. Returns `None` on
+    /// Merges `from`, and all seats (one for each thread) that can be split off `from`, into `self`. Returns `None` on
     /// success. If the numbers of the two sets differ, or one of the two seats was lost, changes nothing and returns
     /// `from`.
     pub fn gather(&mut self, alloc: Global, from: SeatOfSet<M>) -> Option<SeatOfSet<M>>
@@ -133,7 +134,7 @@ impl<M: Bounded> SeatOfSet<M> {
         None
     }
 
-    /// Returns a receipt, which contains all events that this seat (one thread's access to the set) has seen. Returns
+    /// Returns a receipt, which contains all events that the seat (one thread's access to the set) has seen. Returns
     /// `None` if the seat was lost.
     pub fn receipt(&mut self) -> Option<ReceiptOfSet<M>>
         ensures set { arc_value self.new.set ≡ arc_value self.old.set }
@@ -151,9 +152,9 @@ impl<M: Bounded> SeatOfSet<M> {
         })
     }
 
-    /// Passes a receipt to this seat (one thread's access to the set). The seat has then seen all events of the
-    /// receipt. Returns `None` on success. If the numbers of the two sets differ, or the seat was lost, changes nothing
-    /// and returns `given`.
+    /// Passes a receipt to the seat (one thread's access to the set). The seat has then seen all events of the receipt.
+    /// Returns `None` on success. If the numbers of the two sets differ, or the seat was lost, changes nothing and
+    /// returns `given`.
     pub fn after(&mut self, given: ReceiptOfSet<M>) -> Option<ReceiptOfSet<M>>
         requires { self.old.number ≡ given.number → arc_value self.old.set ≡ given.receipt.set }
         ensures set { arc_value self.new.set ≡ arc_value self.old.set }
@@ -173,7 +174,7 @@ impl<M: Bounded> SeatOfSet<M> {
         None
     }
 
-    /// Returns the number of seats (one for each thread) that this seat contains, and the number of all seats of the
+    /// Returns the number of seats (one for each thread) that `self` contains, and the total number of seats of the
     /// set. A seat contains itself, the seats merged into it, and the seats that can be split off it.
     pub fn counts(&self) -> (u64, u32) {
         let spare = self.spare.len() as u64;
@@ -184,8 +185,8 @@ impl<M: Bounded> SeatOfSet<M> {
         (spare.saturating_add(held), self.set.seats())
     }
 
-    /// Returns whether all seats of the set (one for each thread) are in this one: never split off it, or merged into
-    /// it.
+    /// Returns whether all seats of the set (one for each thread) are in `self`: they were never split off `self`, or
+    /// were merged into it.
     fn has_all(&self) -> bool
         ensures { IsTrue result ↔ IsWhole (arc_value self.now.set) self.now.seat self.now.spare.items }
     {
@@ -198,10 +199,10 @@ impl<M: Bounded> SeatOfSet<M> {
         others as usize == self.spare.len()
     }
 
-    /// Closes the set and returns its final keys. On an error, returns this seat and the number of the error:
-    /// `SEATS_OUT` if some seats of the set (one for each thread) were split off and not merged back, `OUT_OF_MEMORY`
-    /// if no vector for the set's maximum number of keys can be allocated. (`OUT_OF_MEMORY` is also returned if the set
-    /// has another owner, which happens in no run.)
+    /// Closes the set and returns its final keys. On an error, returns `self` and the number of the error: `SEATS_OUT`
+    /// if some seats of the set (one for each thread) were split off and not merged back, `OUT_OF_MEMORY` if no vector
+    /// for the set's maximum number of keys can be allocated. `OUT_OF_MEMORY` is also returned if the set has another
+    /// owner, which happens in no run.
     pub fn close(self, alloc: Global) -> Result<Vec<u32>, (SeatOfSet<M>, u8)> {
         if !self.has_all() {
             return Err((self, SEATS_OUT));
@@ -233,7 +234,7 @@ impl<M: Bounded> SeatOfSet<M> {
 }
 
 impl<M: OpenContains> SeatOfSet<M> {
-    /// Makes a `contains` of `key` from this seat (one thread's access to the set) without blocking, in at most
+    /// Makes a `contains` of `key` from the seat (one thread's access to the set) without blocking, in at most
     /// `most_reads` steps. Returns `None` if the seat was lost in an earlier call.
     pub fn contains_now(&mut self, key: Key) -> Option<Reply>
         ensures set { arc_value self.new.set ≡ arc_value self.old.set }

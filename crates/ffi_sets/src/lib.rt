@@ -1,8 +1,8 @@
-//! Running sets for C: functions on handles that C code keeps. The crate `ffi_c` exports them.
+//! Running sets for C: functions on handles that C code keeps. The crate `ffi_c` exports the functions.
 //!
 //! A `CSeat` is a handle. It is empty, or owns a seat of a set (one thread's access to the set), a receipt (the events
 //! that a seat has seen), or a closed set. Each function accepts all arguments that its types allow, with one
-//! exception: seats and receipts with the same list and number must belong to the same set. `codes` defines the numbers
+//! exception: seats and receipts with equal lists and numbers must belong to the same set. `codes` defines the numbers
 //! of errors.
 //!
 //! A call from a seat stops without a reply after 2^64 - 1 rounds of a loop (`lset_live::Bounded`): waiting forever
@@ -44,8 +44,8 @@ use std::mem::replace;
 /// Opens a set of the list `kind`: 0 coarse, 1 fine, 2 optimistic, 3 lazy, 4 lock-free. The set has 1 to 64 `seats`
 /// (one for each thread), a `quota` of 0 to 16,384 successful adds for each seat, and at most 1,048,576 opening `keys`
 /// in strictly increasing order. Stores one seat in the handle `out`, which must be empty. All other seats can be split
-/// off this seat. No other open set may have the same `number`, because `gather_seats` uses it to compare the sets of
-/// two seats.
+/// off the stored seat. No other open set may have the same `number`, because `gather_seats` uses it to compare the
+/// sets of two seats.
 ///
 /// Returns `DONE`. On an error, changes nothing and returns the error: `IS_SEAT` if `out` is not empty, `BAD_KIND`,
 /// `BAD_SEATS`, `BAD_QUOTA`, `BAD_KEYS`, or `OUT_OF_MEMORY` if an allocation failed. Does not block.
@@ -69,8 +69,8 @@ pub fn open_set(
     }
 }
 
-/// Splits a seat (one thread's access to the set) off the handle `seat` and stores it in the handle `out`, which must
-/// be empty.
+/// Splits a seat (one thread's access to the set) off the handle `seat` and stores the new seat in the handle `out`,
+/// which must be empty.
 ///
 /// Returns `DONE`. On an error, changes nothing and returns the first error that applies: `IS_SEAT` if `out` is not
 /// empty, `NO_SEAT` if `seat` is empty, `NO_MORE` if no seat can be split off `seat`, `OUT_OF_MEMORY` if an allocation
@@ -104,9 +104,9 @@ pub fn split_seat(alloc: Global, seat: &mut CSeat, out: &mut CSeat) -> u8 {
     }
 }
 
-/// Adds `key` to the set. Returns 1 if the key was absent, 0 if it was present, and 2 if it is absent but the seat has
-/// used up its quota of adds. Returns 255 if the handle `seat` owns no seat (one thread's access to a set). Blocks
-/// while another thread holds a lock that the call needs. Does not allocate.
+/// Adds `key` to the set. Returns 1 if the key was absent and has been added, 0 if it was present, and 2 if it was
+/// absent but the seat has used up its quota of adds. Returns 255 if the handle `seat` owns no seat (one thread's
+/// access to a set). Blocks while another thread holds a lock that the call needs. Does not allocate.
 pub fn add_key(alloc: Global, seat: &mut CSeat, key: u32) -> u8
     ensures { HasMade seat.old.full seat.old.held (Add (record { 0 = key })) result seat.new.full seat.new.held }
 {
@@ -149,8 +149,8 @@ pub fn ceiling_at(alloc: Global, seat: &mut CSeat, key: u32, at: &mut u32) -> u8
     reply_code(reply)
 }
 
-/// Returns 1 if `key` is in the set, 0 if it is not, without blocking: whatever other threads do, the call takes at
-/// most `most_reads` steps. Makes no call on a coarse, fine or optimistic list, and returns 254. Returns 255 if the
+/// Returns 1 if `key` is in the set and 0 if it is not, without blocking: whatever other threads do, the call takes at
+/// most `most_reads` steps. On a coarse, fine or optimistic list, makes no call and returns 254. Returns 255 if the
 /// handle `seat` owns no seat (one thread's access to a set). Does not allocate.
 pub fn contains_key_now(alloc: Global, seat: &mut CSeat, key: u32) -> u8
     ensures made { result < 254 → HasMade seat.old.full seat.old.held (Contains (record { 0 = key })) result seat.new.full seat.new.held }
@@ -167,9 +167,9 @@ pub fn contains_key_now(alloc: Global, seat: &mut CSeat, key: u32) -> u8
     }
 }
 
-/// Returns the maximum number of steps of a `contains` in any run of a lazy or lock-free list. The list opens for
-/// `seats` threads, with this quota and `opening` keys. Returns 0 if no set can be opened with these numbers. Does not
-/// block or allocate.
+/// Returns the maximum number of steps of a `contains` in any run of a lazy or lock-free list that was opened with
+/// `seats` seats (one for each thread), a quota of `quota` adds for each seat, and `opening` keys. Returns 0 if no set
+/// can be opened with these numbers. Does not block or allocate.
 pub fn most_reads(seats: u32, quota: u32, opening: u32) -> u64
     ensures { IsWithin (record { threads = seats; quota = quota; opening = opening })
         → result ≡ bound (record { threads = seats; quota = quota; opening = opening }) }
@@ -181,8 +181,8 @@ pub fn most_reads(seats: u32, quota: u32, opening: u32) -> u64
 }
 
 /// Stores a receipt in the handle `out`, which must be empty. The receipt covers everything that `seat` (one thread's
-/// access to the set) has seen: its own calls, and everything seen by the seats merged into it and by the receipts that
-/// it accepted. `seat` does not change.
+/// access to the set) has seen: its own calls, everything seen by the seats merged into it, and everything covered by
+/// the receipts that it accepted. `seat` does not change.
 ///
 /// Returns `DONE`. On an error, changes nothing and returns the first error that applies: `IS_SEAT` if `out` is not
 /// empty, `NO_SEAT` if the handle `seat` owns no seat, `OUT_OF_MEMORY` if an allocation failed. Does not block.
@@ -206,10 +206,10 @@ pub fn give_receipt(alloc: Global, seat: &mut CSeat, out: &mut CSeat) -> u8
 
 /// Passes the receipt `given` (the events that a seat has seen) to `seat` (one thread's access to the set). In the
 /// order of all calls, later calls of `seat` follow every call that the receipt covers. `given` is empty afterwards.
-/// The caller must ensure that a seat and a receipt with the same list and number belong to the same set.
+/// The caller must ensure that a seat and a receipt with equal lists and numbers belong to the same set.
 ///
 /// Returns `DONE`. On an error, changes nothing. The error is `NO_SEAT` if `seat` or `given` is empty, and `NO_GATHER`
-/// if they are not a seat and a receipt with the same list and number. Does not block or allocate.
+/// if `seat` and `given` are not a seat and a receipt with equal lists and numbers. Does not block or allocate.
 pub fn take_receipt(alloc: Global, seat: &mut CSeat, given: &mut CSeat) -> u8
     requires { GathersAt seat.old.full seat.old.held given.old.full given.old.held }
     ensures { result ≡ 0 → HasHeeded seat.old.full seat.old.held given.old.full given.old.held seat.new.full seat.new.held }
@@ -231,7 +231,7 @@ pub fn take_receipt(alloc: Global, seat: &mut CSeat, given: &mut CSeat) -> u8
     NO_GATHER
 }
 
-/// Returns the number of seats (one for each thread) that `seat` contains, itself included. Writes the number of all
+/// Returns the number of seats (one for each thread) that `seat` contains, including itself. Writes the total number of
 /// seats of the set to `all`. Both numbers are 0 if the handle `seat` owns no seat. Does not block or allocate.
 pub fn count_seats(alloc: Global, seat: &mut CSeat, all: &mut u32) -> u64 {
     let (within, of_set) = match take(alloc, seat) {
@@ -246,11 +246,12 @@ pub fn count_seats(alloc: Global, seat: &mut CSeat, all: &mut u32) -> u64 {
     within
 }
 
-/// Merges the seat `from` (one thread's access to the set), including all seats that it contains, into `into`. `from`
-/// is empty afterwards. The caller must ensure that two seats with the same list and number belong to the same set.
+/// Merges the seat `from` (one thread's access to the set), including all seats that it contains, into the seat `into`.
+/// `from` is empty afterwards. The caller must ensure that two seats with equal lists and numbers belong to the same
+/// set.
 ///
 /// Returns `DONE`. On an error, changes nothing. The error is `NO_SEAT` if `into` or `from` is empty, and `NO_GATHER`
-/// if they are not two seats with the same list and number. Does not block or allocate.
+/// if `into` and `from` are not two seats with equal lists and numbers. Does not block or allocate.
 pub fn gather_seats(alloc: Global, into: &mut CSeat, from: &mut CSeat) -> u8
     requires { GathersAt into.old.full into.old.held from.old.full from.old.held }
 {
@@ -271,8 +272,8 @@ pub fn gather_seats(alloc: Global, into: &mut CSeat, from: &mut CSeat) -> u8
     NO_GATHER
 }
 
-/// Closes the set. All seats of the set (one for each thread) must be in the handle `seat`: never split off, or merged
-/// back. Afterwards, the handle owns a closed set with the final keys.
+/// Closes the set. The handle `seat` must contain all seats of the set (one for each thread): they were never split
+/// off, or were merged back. Afterwards, the handle owns a closed set with the final keys.
 ///
 /// Returns `DONE`. On an error, changes nothing and returns the first error that applies: `NO_SEAT` if the handle
 /// `seat` owns no seat, `SEATS_OUT` if some seats were split off and not merged back, `OUT_OF_MEMORY` if an allocation

@@ -34,7 +34,7 @@ impl CSeat {
         }
     }
 
-    /// Returns a full handle that owns this box.
+    /// Returns a full handle that owns the box `held`.
     fn of_loose(held: Loose<Held, Global>) -> CSeat
         ensures { (result.full ≡ true) × (result.held ≡ held.value) }
     {
