@@ -11,8 +11,8 @@ fn is_pair(line: &[u8], word: &[u8]) -> bool {
     field_or_empty(line, 0) == word && count_fields(line) == 2
 }
 
-/// Returns the number of the first line that can be a key. A server prints up to three lines before its keys:
-/// `listening A`, `sessions N` and `calls N`, in this order, each optional.
+/// Returns the number of the first line that can be a key. A server prints up to three optional lines before its keys:
+/// first `listening A`, then `sessions N`, then `calls N`.
 fn first_key_line(lines: &Lines<'_>) -> usize {
     let mut number = 1usize;
     for word in [b"listening".as_slice(), b"sessions", b"calls"] {
@@ -23,8 +23,8 @@ fn first_key_line(lines: &Lines<'_>) -> usize {
     number
 }
 
-/// Returns the number and the cause of the first line that `serve` refuses. They are the same as in the error of
-/// `serve`.
+/// Returns the number and the cause of the first line that `serve` refuses. The number and the cause are the same as in
+/// the error of `serve`.
 pub fn wrong_key(lines: &Lines<'_>) -> Option<(usize, Cause)> {
     let mut before: Option<u32> = None;
     let last = lines.count();

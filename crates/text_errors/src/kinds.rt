@@ -16,7 +16,7 @@ pub enum TextKind {
 }
 
 impl TextKind {
-    /// Returns the kind of a text with this first line.
+    /// Returns the kind of a text whose first line is `first`.
     pub fn of(first: &[u8]) -> TextKind {
         match first {
             b"listset-schedule 1" | b"listset-schedule 2" => TextKind::Schedule,
@@ -32,7 +32,7 @@ impl TextKind {
         }
     }
 
-    /// Returns the predicate of a sentence about a file of this kind, such as `is a schedule`.
+    /// Returns the predicate of a sentence about a file of the kind `self`, such as `is a schedule`.
     pub fn predicate(self) -> &'static str {
         match self {
             TextKind::Schedule => "is a schedule",

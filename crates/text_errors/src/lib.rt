@@ -1,5 +1,5 @@
-//! Explains the error in a line of a text and how to correct the line, for the command `explain`. Errors in events are
-//! explained in `tool_explain`, because that needs a replay of the lines before them.
+//! Explains the error in a line of a text, and how to correct the line, for the command `explain`. Errors in events are
+//! explained in `tool_explain`, because an explanation requires a replay of the lines before the error.
 #![tactic(auto)]
 
 mod keyed; // errors in opening keys for serve

@@ -1,7 +1,7 @@
 use lset_text::{cut, long_number, number};
 use std::alloc::{AllocError, Global};
 
-/// The maximum number of bytes of a line that are printed.
+/// The maximum number of bytes that are printed of a line.
 const MOST_PRINTED: usize = 100;
 
 /// A text split into lines, which are counted from 1.
@@ -65,7 +65,7 @@ impl<'a> Lines<'a> {
     }
 }
 
-/// Returns field `index` (from 0) of a line; `None` if the line has fewer fields. Fields are separated by single
+/// Returns field `index` (from 0) of a line, or `None` if the line has fewer fields. Fields are separated by single
 /// spaces.
 pub fn field(line: &[u8], index: usize) -> Option<&[u8]> {
     let mut rest = line;
@@ -98,8 +98,8 @@ pub fn number_at(line: &[u8], index: usize) -> Option<u32> {
     number(field(line, index)?, 0, u32::MAX)
 }
 
-/// Parses field `index` (counted from 0) of a line as a moment. Returns `None` if the field is not a number that is at
-/// least 1.
+/// Parses field `index` (counted from 0) of a line as a moment (start or end of a call). Returns `None` if the field is
+/// not a number that is at least 1.
 pub fn moment_at(line: &[u8], index: usize) -> Option<u64> {
     long_number(field(line, index)?, 1, u64::MAX)
 }
@@ -128,7 +128,7 @@ pub fn put_quoted(out: &mut String, bytes: &[u8]) -> Result<(), AllocError> {
     out.push_str("'")
 }
 
-/// Returns `true` if a shell reads this byte of a file name literally.
+/// Returns `true` if a shell takes `byte` literally in a file name.
 fn is_plain(byte: u8) -> bool {
     let is_sign = matches!(
         byte,
@@ -137,8 +137,8 @@ fn is_plain(byte: u8) -> bool {
     byte.is_ascii_alphanumeric() || !byte.is_ascii() || is_sign
 }
 
-/// Returns a file name as it should be typed on a command line. It is quoted if it contains a space or another byte
-/// that a shell does not read literally, and it gets the prefix `./` if it begins with a hyphen.
+/// Returns a file name as it should be typed on a command line. The name is quoted if it contains a space or another
+/// byte that a shell does not take literally, and it gets the prefix `./` if it begins with a hyphen.
 pub fn quoted_name(alloc: Global, file: &str) -> Result<String, AllocError> {
     let mut name = String::new(alloc);
     let is_quoted = file.is_empty() || !file.as_bytes().iter().all(|byte| is_plain(*byte));

@@ -21,7 +21,7 @@ pub(crate) fn is_half_pending(line: &[u8]) -> bool {
     (end == b"-".as_slice()) != (reply == b"-".as_slice())
 }
 
-/// Explains a line that does not have the form of any line of a recording.
+/// Explains that a line is not a valid line of a recording.
 pub(crate) fn put_recording_form(
     out: &mut String,
     lines: &Lines<'_>,
@@ -48,7 +48,7 @@ pub(crate) fn put_recording_form(
     }
 }
 
-/// Explains a line that has the seven fields of a call but is not a call that a recording can contain.
+/// Explains that a line has the seven fields of a call but is not a valid call of a recording.
 fn put_call_words(out: &mut String, place: Place<'_>) -> Result<(), AllocError> {
     let (line, file) = (place.line, place.file);
     let reply = field_or_empty(line, 6);

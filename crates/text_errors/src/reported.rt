@@ -1,5 +1,5 @@
-//! Explains errors in reports, and calls that conflict in reports and recordings. The moments of a call are its start
-//! and its end.
+//! Explains errors in reports, and conflicts between calls in reports and recordings. The moments of a call are its
+//! start and its end.
 
 use crate::kinds::{Place, TextKind};
 use crate::lined::{Lines, field, moment_at, number_at};
@@ -48,13 +48,13 @@ pub(crate) fn put_report_history(
     put_moments(out, lines, place, OF_REPORT)
 }
 
-/// Returns `true` if the line of a report or a recording is a call.
+/// Returns `true` if a line of a report or a recording is the line of a call.
 pub(crate) fn is_call(line: &[u8]) -> bool {
     field(line, 0) == Some(b"call".as_slice())
 }
 
-/// Explains why the moments of a call (its start and its end) conflict with each other, or with those of an earlier
-/// call.
+/// Explains why the moments of a call (its start and its end) conflict with each other, or with the moments of an
+/// earlier call.
 pub(crate) fn put_moments(
     out: &mut String,
     lines: &Lines<'_>,
@@ -127,13 +127,13 @@ fn put_order(
     }
 }
 
-/// Appends a shell command that sorts the calls of a recording. The command is added to the last line of `out`.
+/// Appends a shell command that sorts the calls of a recording. The command is appended to the last line of `out`.
 fn put_sorting(out: &mut String, place: Place<'_>) -> Result<(), AllocError> {
     if place.kind != TextKind::Recording {
         return Ok(());
     }
     let file = place.file;
-    // `out` ends with a newline. The newline is removed, so that the command is on the same line.
+    // `out` ends with a newline. The newline is removed, so that the command is on the last line.
     let _newline = out.pop();
     writeln!(
         out,

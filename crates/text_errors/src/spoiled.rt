@@ -1,4 +1,5 @@
-//! Explains errors that can occur in every kind of text: encoding, line ends, spaces, comments, a missing title.
+//! Explains errors that can occur in every kind of text: wrong encoding, line ends, spaces, comments, or a missing
+//! title.
 
 use crate::kinds::{Place, TextKind};
 use crate::lined::{Lines, count_fields, field_or_empty, put_quoted};
@@ -36,8 +37,8 @@ pub fn put_encoding(out: &mut String, file: &str, text: &[u8]) -> Result<bool, A
     Ok(true)
 }
 
-/// Returns the program that compressed a text, and the command that decompresses it to standard output. Returns `None`
-/// if the text is not compressed in a format known here.
+/// Returns the program that compressed a text, and the command that decompresses the text to standard output. Returns
+/// `None` if the first bytes are not those of gzip, bzip2, xz, zstd or zip.
 fn packing(text: &[u8]) -> Option<(&'static str, &'static str)> {
     match text {
         [0x1f, 0x8b, ..] => Some(("gzip", "gzip -dc")),
@@ -49,7 +50,7 @@ fn packing(text: &[u8]) -> Option<(&'static str, &'static str)> {
     }
 }
 
-/// Explains a line that ends with CR LF.
+/// Explains that a line ends with CR LF.
 fn put_cr(out: &mut String, file: &str) -> Result<(), AllocError> {
     writeln!(
         out,
@@ -67,7 +68,7 @@ fn without_indent(line: &[u8]) -> &[u8] {
     b""
 }
 
-/// Returns `true` if line 2 begins with a title of listset, or if line 1 has one after spaces or tabs.
+/// Returns `true` if line 2 begins with a title of listset, or if line 1 has a title of listset after spaces or tabs.
 fn has_spoiled_title(lines: &Lines<'_>) -> bool {
     let (first, second) = (without_indent(lines.line(1)), lines.line(2));
     first.starts_with(b"listset-") || second.starts_with(b"listset-")
@@ -81,7 +82,7 @@ fn starts_with_name(word: &[u8]) -> bool {
     }
 }
 
-/// Explains a first line that is not a title. Suggests an edit only if the rest of the text looks like a listset
+/// Explains that the first line is not a title. Suggests an edit only if the rest of the text resembles a listset
 /// format.
 pub fn put_no_title(
     out: &mut String,
@@ -123,8 +124,8 @@ pub fn put_no_title(
     }
 }
 
-/// Explains a line with an error that can occur in every kind of text. For any other line, writes nothing and returns
-/// `false`.
+/// Explains an error of a line that can occur in every kind of text. If the line has no such error, writes nothing and
+/// returns `false`.
 pub fn put_spoiled(out: &mut String, place: Place<'_>) -> Result<bool, AllocError> {
     let (file, number) = (place.file, place.number);
     match place.line {
@@ -182,7 +183,7 @@ fn has_inner_cr(line: &[u8]) -> bool {
     false
 }
 
-/// Returns `true` if the first word of a line is a listset keyword written with capital letters.
+/// Returns `true` if the first word of a line is a listset keyword written in capital letters.
 fn has_capitals(line: &[u8]) -> bool {
     let first = field_or_empty(line, 0);
     let words = [
@@ -218,8 +219,8 @@ fn has_two_spaces(line: &[u8]) -> bool {
     false
 }
 
-/// Explains a text that ends too early: its last line has no newline (`is_line`), or its final lines are missing, for
-/// example `end`.
+/// Explains that a text ends too early: the last line has no newline (`is_line`), or final lines, such as `end`, are
+/// missing.
 pub fn put_not_ended(
     out: &mut String,
     lines: &Lines<'_>,

@@ -1,4 +1,4 @@
-//! Explains misspelled lines and fields: header lines, words and numbers.
+//! Explains the errors in misspelled lines and fields: header lines, words and numbers.
 
 use crate::kinds::{Place, TextKind};
 use crate::lined::{field, field_or_empty, put_quoted};
@@ -41,7 +41,7 @@ fn in_range(name: &'static str, index: usize, low: u64, high: u64) -> NumberFiel
     }
 }
 
-/// Explains a line with a wrong number. Checks the fields that must be numbers in this kind of line.
+/// Explains that a line contains a wrong number. Checks the fields that must be numbers in a line of that kind.
 pub fn put_number(out: &mut String, place: Place<'_>) -> Result<(), AllocError> {
     let is_stop = matches!(field_or_empty(place.line, 2), b"out" | b"to");
     let thread = plain("THREAD", 1);
@@ -67,7 +67,8 @@ pub fn put_number(out: &mut String, place: Place<'_>) -> Result<(), AllocError> 
     }
 }
 
-/// Explains the first of these fields that is not a number in its range. Skips fields that are `-` or `open`.
+/// Explains the error in the first field of `fields` that is not a number in its range. Skips fields that are `-` or
+/// `open`.
 fn put_first_wrong(
     out: &mut String,
     place: Place<'_>,
@@ -102,8 +103,8 @@ fn put_first_wrong(
     out.push_str("A number of the line is out of its range, or has a sign or a leading zero.\n")
 }
 
-/// Returns a sentence that states how a recorder should choose the number in this field. The sentence begins with a
-/// space.
+/// Returns a sentence that states how a recorder should choose the number in the field `name`. The sentence begins with
+/// a space.
 fn advice_on(name: &str) -> &'static str {
     match name {
         "BEGIN" | "END" => " Take all moments from one counter that starts at 1.",
@@ -112,8 +113,8 @@ fn advice_on(name: &str) -> &'static str {
     }
 }
 
-/// Explains field `index` of a line if it is not `add`, `remove` or `contains`. Otherwise writes nothing and returns
-/// `false`.
+/// Explains that field `index` of a line is not `add`, `remove` or `contains`. If the field is one of these words,
+/// writes nothing and returns `false`.
 pub fn put_no_call(
     out: &mut String,
     place: Place<'_>,
@@ -137,7 +138,7 @@ pub fn put_no_call(
     Ok(true)
 }
 
-/// Explains a header line with an error.
+/// Explains the error in a line of the header.
 pub fn put_header(out: &mut String, number: usize) -> Result<(), AllocError> {
     let text = match number {
         1 => {
@@ -152,7 +153,7 @@ pub fn put_header(out: &mut String, number: usize) -> Result<(), AllocError> {
     out.push_str(text)
 }
 
-/// Explains a key at the start or at the end of a run that is not greater than the key in the line before.
+/// Explains that a key at the start or at the end of a run is not greater than the key in the line before.
 pub fn put_opening(out: &mut String, place: Place<'_>, above: &[u8]) -> Result<(), AllocError> {
     let file = place.file;
     put_quoted(out, place.line)?;

@@ -1,4 +1,4 @@
-//! Explains a line with an error in a report, in a recording, or in the opening keys for `serve` (the keys at the
+//! Explains errors in the lines of a report, of a recording, or of the opening keys for `serve` (the keys at the
 //! start).
 
 use crate::kinds::{Place, TextKind};
@@ -15,7 +15,7 @@ const LINES_OF_REPORT: &str =
 const MOST_OF_REPORT: &str =
     "A report has at most 1000000 calls, 1000000 places, and 1048576 keys (2097152 in version 2).\n";
 
-/// Explains a line with an error: after the header of a report, after the title of a recording, or in the opening keys
+/// Explains the error in a line: after the header of a report, after the title of a recording, or in the opening keys
 /// for `serve` (the keys at the start).
 pub fn put_wrong_line(
     out: &mut String,

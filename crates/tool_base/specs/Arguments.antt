@@ -10,15 +10,17 @@ use Rattle.tool_base.specs.declared.trouble.ValueName.TheVariants as name
 use Rattle.tool_base.specs.declared.arguments.RandomRequest.{RandomRequest}
 use Rattle.tool_base.specs.declared.arguments.TheConstants.{MOST_CALLS_ASKED}
 
--- Returns the kind of list that the argument with this index names. Arguments are counted from 0.
+-- Returns the kind of list that argument `index` (counted from 0) names. `None` if the argument is missing or names no
+-- kind.
 abbrev pub kind_at : List (List ℕ) → ℕ → Option Kind
 kind_at values index = option_and_then kind_of (slice_get values index)
 
--- Returns the number in the argument with this index, if the number is in the range. Arguments are counted from 0.
+-- Returns the number in argument `index` (counted from 0). `None` if the argument is missing or is no number from `low`
+-- to `high`.
 abbrev pub number_at : List (List ℕ) → ℕ → ℕ → ℕ → Option ℕ
 number_at values index low high = option_and_then (number_in low high) (slice_get values index)
 
--- Returns the request in these arguments, or the first argument that is missing or wrong.
+-- Returns the request that the arguments in `values` state, or the first argument that is missing or wrong.
 unfoldable pub random_request_of : List (List ℕ) → Result RandomRequest ValueName
 random_request_of values = do
   kind ← or_fail name.Kind (kind_at values 0)

@@ -1,4 +1,4 @@
--- How a command can end: its output, its line on stderr, and its exit status.
+-- How a command can end: with an output, a line on stderr, and an exit status.
 use Rattle.std.specs.Prelude.{◌≡◌, ◌⊎◌, ℕ, ◌<◌, ◌≤◌, List, [], ◌++◌, length, Option, Result, Ok, Err}
 use Rattle.std.specs.Io.KnownBytes.{Appends, Keeps}
 use Rattle.tool_base.specs.declared.answer.Answer.{Answer}
@@ -8,7 +8,7 @@ use Rattle.tool_base.specs.declared.trouble.Trouble.TheVariants.{CannotRead, Too
 use Rattle.tool_base.specs.Trouble.{trouble_text}
 use Rattle.tool_base.specs.Trouble as trouble
 
--- An answer as a mathematical value: the bytes of its text, and its exit status.
+-- An answer as a mathematical value: the bytes of the answer's text, and its exit status.
 pub record AnswerValue : Type 0 where
   pub text : List ℕ
   pub status : ℕ
@@ -25,8 +25,8 @@ view (Err t) = Err t
 abbrev pub Outcome : Type 0
 Outcome = Result ℕ Trouble
 
--- Holds if writing a result to an output has this outcome. The two lists of bytes are the contents of the output before
--- and after the write.
+-- Holds if writing a result to an output can have the given outcome. The two lists of bytes are the contents of the
+-- output before and after the write.
 abbrev pub Delivers : Made → Option (List ℕ) → Option (List ℕ) → Outcome → Type 0
 -- If no write fails, the whole text of an answer is written.
 Delivers (Ok answer) old new (Ok status) = (status ≡ answer.status) × Appends old new answer.text
@@ -50,14 +50,14 @@ abbrev pub AppendsFront : Option (List ℕ) → Option (List ℕ) → List ℕ �
 AppendsFront old new text = (front : List ℕ) × (rest : List ℕ) × (text ≡ front ++ rest) × Appends old new front
 
 -- Holds if a command delivers its result to an output and to stderr. The text of an answer goes to the output. An
--- error, including a failed write to the output, is printed on stderr as one line. If a write fails, only a prefix has
--- been written. The exit status is the status of the outcome.
+-- error, including a failed write to the output, is printed on stderr as one line. If a write fails, only a prefix of
+-- the text has been written. The exit status is the status of the outcome.
 abbrev pub IsDelivered : Made → Option (List ℕ) → Option (List ℕ) → Option (List ℕ) → Option (List ℕ) → ℕ → Type 0
 IsDelivered made output_old output_new faults_old faults_new status =
     (outcome : Outcome) × Delivers made output_old output_new outcome
     × AppendsFront faults_old faults_new (line_of outcome) × (status ≡ status_of outcome)
 
--- Holds if a command computes a result that satisfies `IsMade`, and delivers this result.
+-- Holds if a command computes a result that satisfies `IsMade`, and delivers that result.
 abbrev pub Ends : (Made → Type 0) → Option (List ℕ) → Option (List ℕ) → Option (List ℕ) → Option (List ℕ) → ℕ → Type 0
 Ends IsMade output_old output_new faults_old faults_new status =
     (made : Made) × IsMade made × IsDelivered made output_old output_new faults_old faults_new status
@@ -66,17 +66,17 @@ Ends IsMade output_old output_new faults_old faults_new status =
 abbrev pub IsTaken : List ℕ → Type 0
 IsTaken bytes = length bytes ≤ LONGEST
 
--- Holds if the input is longer than the maximum, and the error is `TooLong`.
+-- Holds if the input is longer than the maximum, and `t` is the error `TooLong`.
 abbrev pub IsTooLong : List ℕ → Trouble → Type 0
 IsTooLong bytes t = (t ≡ TooLong) × (LONGEST < length bytes)
 
--- Holds if a result is correct for a text. If the text is too long, the result is the error `TooLong`. Otherwise
--- `Makes` holds for the text and the result.
+-- Holds if the result `made` is correct for a text. If the text is too long, the result must be the error `TooLong`.
+-- Otherwise `Makes` must hold for the text and the result.
 abbrev pub OnText : (List ℕ → Made → Type 0) → List ℕ → Made → Type 0
 OnText Makes bytes made = ((t : Trouble) × (made ≡ Err t) × IsTooLong bytes t) ⊎ (IsTaken bytes × Makes bytes made)
 
--- Holds if a result is correct for an input: it is `CannotRead` or `Memory`, or it is correct for the bytes of the
--- input.
+-- Holds if the result `made` is correct for an input: the result is `CannotRead` or `Memory`, or it is correct for the
+-- bytes of the input.
 abbrev pub OnInput : (List ℕ → Made → Type 0) → List ℕ → Made → Type 0
 OnInput Makes bytes made = (made ≡ Err CannotRead) ⊎ ((made ≡ Err Memory) ⊎ OnText Makes bytes made)
 

@@ -1,4 +1,4 @@
--- The errors that end the program, with their messages on stderr and their exit statuses.
+-- The errors that end the program. Each error has a message on stderr and an exit status.
 use Rattle.std.specs.Prelude.{ℕ, List, ◌++◌, codes}
 use Rattle.std.specs.Fmt.{decimal}
 use Rattle.lset_text.specs.declared.causes.Cause.{Cause}
@@ -15,8 +15,8 @@ use Rattle.tool_base.specs.declared.trouble.Trouble.{Trouble}
 use Rattle.tool_base.specs.declared.trouble.Trouble.TheVariants.{CannotRead, TooLong, CannotWrite, Memory, Line, Bad}
 use Rattle.tool_base.specs.declared.trouble.Trouble.TheVariants.{CannotListen, Work, Serve}
 
--- Returns the error for a wrong line of an input. A failed allocation at a line becomes the error `Memory`, without the
--- line.
+-- Returns the error for a wrong line of an input. A failed allocation at a line becomes the error `Memory`, which does
+-- not contain the line's number.
 abbrev pub of_line : ℕ → Cause → Trouble
 of_line number cause.Memory = Memory
 of_line number c = Line number c
@@ -24,7 +24,7 @@ of_line number c = Line number c
 abbrev pub of_line_fault : LineFault → Trouble
 of_line_fault fault = of_line fault.line fault.cause
 
--- Returns the program's error if no schedule can be generated.
+-- Returns the program's error for an error of the generator of random schedules.
 abbrev pub of_generator : GenFault → Trouble
 of_generator generator.Threads = Bad value.Threads
 of_generator generator.Quota = Bad value.Quota

@@ -1,4 +1,4 @@
-//! The result of a command (its output and exit status), and the error line on stderr.
+//! The result of a command (text and exit status), and the error line on stderr.
 
 ghost use Rattle.std.specs.Prelude.{◌≡◌, ◌+◌, ◌<◌, ◌++◌, codes, length, Result};
 ghost use Rattle.tool_base.specs.Tools.{Delivers, IsDelivered, view};
@@ -14,7 +14,7 @@ use std::io::Write;
 /// The maximum length of an error line, in bytes.
 pub(crate) const LONGEST_LINE: usize = 64;
 
-/// The result of a command: the text for its output, and the exit status if this text can be written.
+/// The result of a command: the text for the output, and the exit status if the text is written completely.
 #[derive(Drop)]
 pub struct Answer {
     pub text: Vec<u8>,
@@ -72,8 +72,8 @@ pub fn line_of(trouble: Trouble) -> ArrayString<LONGEST_LINE>
 /// Finishes a command: writes the answer's text to `output`, or the one-line error message to `stderr`. Returns the
 /// exit status.
 ///
-/// A write that fails or writes no byte is not retried. If `output` fails in this way, the error becomes
-/// `CannotWrite`. If `stderr` fails, the exit status does not change.
+/// If a write to `output` fails or writes no byte, it is not retried, and the error becomes `CannotWrite`. A failed
+/// write to `stderr` is not retried either, and does not change the exit status.
 pub fn deliver<W: Write, E: Write>(
     made: Result<Answer, Trouble>,
     output: &mut W,

@@ -1,4 +1,4 @@
-//! Reads the arguments of the commands `gen`, `run` and `serve`, and defines their limits.
+//! Reads the arguments of the commands `gen`, `run` and `serve`, and defines limits for these arguments.
 
 ghost use Rattle.std.specs.Prelude.{◌≡◌, ◌≤◌, ◌-◌, ◌^◌, IfOk, IfSome, map, string_bytes};
 ghost use Rattle.lset_schedule.specs.Generating.{IsAccepted};
@@ -8,7 +8,8 @@ use crate::trouble::ValueName;
 use lset_text::{long_number, number, read_kind};
 use lset_words::{Kind, MOST_QUOTA, MOST_THREADS};
 
-/// The maximum value of the argument CALLS: of `gen` for all threads together, of `run` for each thread.
+/// The maximum value of the argument CALLS. In `gen`, CALLS counts the calls of all threads together; in `run`, the
+/// calls of each thread.
 pub const MOST_CALLS_ASKED: u32 = 10_000;
 
 /// The maximum value of the argument LIVES of `run`, the number of rounds.
@@ -32,14 +33,14 @@ pub struct RandomRequest {
     pub quota: u32,
     /// The number of calls, 0 to `MOST_CALLS_ASKED`.
     pub calls: u32,
-    /// The number of different keys in the calls, at least 1. If it is `n`, the keys are 0 to `n - 1`.
+    /// The number of different keys in the calls, at least 1. The keys are the numbers from 0 to `keys - 1`.
     pub keys: u32,
     /// The random seed; any number is allowed.
     pub seed: u64,
 }
 
-/// The arguments of the command `run`: the arguments of `gen` for the first round, and the number of rounds. In a
-/// round, the threads make their calls on one set.
+/// The arguments of the command `run`: the arguments of `gen` for the first round, and the number of rounds. In each
+/// round, all threads make their calls on one set.
 #[derive(Clone, Copy)]
 pub struct LivesRequest {
     /// The arguments of the first round.
@@ -48,8 +49,8 @@ pub struct LivesRequest {
     pub lives: u32,
 }
 
-/// The arguments of the command `serve`: a kind of list, the number of seats of its set (per-thread handles) and their
-/// quota, a port, and the number of connections to accept.
+/// The arguments of the command `serve`: a kind of list, the number of seats (per-thread handles to the set), the quota
+/// (successful adds that each seat can make), a port, and the number of connections to accept.
 #[derive(Clone, Copy)]
 pub struct ServeRequest {
     /// The kind of list.
@@ -58,14 +59,14 @@ pub struct ServeRequest {
     pub seats: u32,
     /// The quota: how many successful adds each seat (per-thread handle) can make, 0 to `MOST_QUOTA`.
     pub quota: u32,
-    /// The port, 0 to `MOST_PORT`. If it is 0, the system chooses one.
+    /// The port, 0 to `MOST_PORT`. If `port` is 0, the system chooses a port.
     pub port: u16,
     /// The number of connections to accept, 0 to `MOST_SESSIONS_ASKED`.
     pub sessions: u32,
 }
 
 /// Parses argument `index` (counted from 0) as the name of a list. Returns `None` if the argument is missing or is not
-/// such a name.
+/// the name of a list.
 fn kind_at(values: &[String], index: usize) -> Option<Kind>
     ensures { result ≡ kind_at (map string_bytes values.now) index }
 {
@@ -73,7 +74,7 @@ fn kind_at(values: &[String], index: usize) -> Option<Kind>
 }
 
 /// Parses argument `index` (counted from 0) as a decimal number from `low` to `high` without leading zeros. Returns
-/// `None` if the argument is missing or is not such a number.
+/// `None` if the argument is missing or is not a number of this form.
 fn number_at(values: &[String], index: usize, low: u32, high: u32) -> Option<u32>
     ensures value { result ≡ number_at (map string_bytes values.now) index low high }
     ensures range { IfSome result (λ n. (low ≤ n) × (n ≤ high)) }
@@ -87,8 +88,8 @@ fn seed_at(values: &[String], index: usize) -> Option<u64>
     long_number(values.get(index)?.as_bytes(), 0, u64::MAX)
 }
 
-/// Reads the arguments of `gen`: KIND, THREADS, QUOTA, CALLS, KEYS and SEED, in this order. `RandomRequest` documents
-/// their ranges. Numbers are decimals without leading zeros. Further arguments are ignored.
+/// Reads the arguments of `gen`, in this order: KIND, THREADS, QUOTA, CALLS, KEYS, SEED. Their ranges are documented in
+/// `RandomRequest`. Numbers are decimals without leading zeros. Further arguments are ignored.
 ///
 /// # Errors
 ///
@@ -135,8 +136,8 @@ pub fn read_lives_request(values: &[String]) -> Result<LivesRequest, ValueName> 
     Ok(LivesRequest { run, lives })
 }
 
-/// Reads the arguments KIND, SEATS, QUOTA, PORT and SESSIONS, in this order. `ServeRequest` documents their ranges.
-/// Numbers are decimals without leading zeros. Further arguments are ignored.
+/// Reads the arguments of `serve`, in this order: KIND, SEATS, QUOTA, PORT, SESSIONS. Their ranges are documented in
+/// `ServeRequest`. Numbers are decimals without leading zeros. Further arguments are ignored.
 ///
 /// # Errors
 ///

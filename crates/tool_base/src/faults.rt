@@ -1,4 +1,4 @@
-//! The command `faults`: the text with all error messages and their causes, and the search for one of them.
+//! The command `faults`: the text with all error messages and their causes, and the search for a name in that text.
 
 use crate::answer::Answer;
 use crate::trouble::{Trouble, ValueName};
@@ -134,14 +134,14 @@ pub struct FaultName {
     name: &'static [u8],
 }
 
-/// The kinds of lines in `FAULTS`, not counting its heading.
+/// The kinds of lines in `FAULTS` after the heading.
 #[derive(Clone, Copy, PartialEq, Eq)]
 enum FaultLine {
     /// The title of a section, or the empty line before it.
     Title,
-    /// The first line about a cause or a message. The line begins with the name of that cause or message.
+    /// The first line about a cause or a message. The line begins with the name of the cause or message.
     Entry,
-    /// A line that continues the text of the cause or message.
+    /// A line that continues the text about a cause or a message.
     More,
 }
 
@@ -156,8 +156,8 @@ impl FaultLine {
     }
 }
 
-/// Removes the prefix of a `FAULTS` line, such as `listset: line L: `. The rest of the line begins with the name that
-/// the line explains.
+/// Removes the prefix of a line of `FAULTS`, such as `listset: line L: `. What remains begins with the name that the
+/// line explains.
 fn from_name(line: &[u8]) -> &[u8] {
     let line = line.strip_prefix(b"  ").unwrap_or(line);
     let line = line.strip_prefix(b"listset: ").unwrap_or(line);
@@ -197,7 +197,7 @@ fn name_in(word: &[u8]) -> &[u8] {
 }
 
 /// Reads the argument of `faults`: the name of a cause, message or section (ignoring case), or a whole error line.
-/// Returns `ValueName::Cause` if no section title and no entry of `FAULTS` starts with that name.
+/// Returns `ValueName::Cause` if no section title and no entry of `FAULTS` starts with the name.
 pub fn read_fault_name(word: &[u8]) -> Result<FaultName, ValueName> {
     let word = name_in(word);
     for line in FAULTS.lines().skip_while(|line| !line.is_empty()) {
@@ -212,8 +212,8 @@ pub fn read_fault_name(word: &[u8]) -> Result<FaultName, ValueName> {
     Err(ValueName::Cause)
 }
 
-/// Appends a line of `FAULTS`, preceded by its section's title. If the title is already in `out`, `title` must be
-/// empty.
+/// Appends a line of `FAULTS`, preceded by the title of the line's section. `title` must be empty if `out` already
+/// contains the title.
 fn put_line(out: &mut Vec<u8>, title: &[u8], line: &[u8]) -> Result<(), AllocError> {
     if !title.is_empty() {
         if !out.is_empty() {
@@ -227,8 +227,8 @@ fn put_line(out: &mut Vec<u8>, title: &[u8], line: &[u8]) -> Result<(), AllocErr
     Ok(())
 }
 
-/// Appends the lines of `FAULTS` about a name. A section with this title is appended whole. From any other section,
-/// only the entries with this name are appended, below the section's title.
+/// Appends the lines of `FAULTS` about a name. If `name` is the title of a section, appends the whole section. From
+/// each other section, appends only the entries with that name, below the section's title.
 fn put_named(out: &mut Vec<u8>, name: &[u8]) -> Result<(), AllocError> {
     let (mut title, mut is_whole, mut is_told) = (b"".as_slice(), false, false);
     for line in FAULTS.lines().skip_while(|line| !line.is_empty()) {
@@ -251,8 +251,8 @@ fn put_named(out: &mut Vec<u8>, name: &[u8]) -> Result<(), AllocError> {
     Ok(())
 }
 
-/// Returns the answer of the command `faults NAME`: the lines of `FAULTS` about this name. Returns `Trouble::Memory` if
-/// an allocation fails.
+/// Returns the answer of the command `faults NAME`: the lines of `FAULTS` about the name in `fault`. Returns
+/// `Trouble::Memory` if an allocation fails.
 pub fn explain_fault(alloc: Global, fault: FaultName) -> Result<Answer, Trouble> {
     let mut text = Vec::new(alloc);
     put_named(&mut text, fault.name)?;

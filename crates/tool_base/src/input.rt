@@ -14,7 +14,7 @@ pub const LONGEST: usize = 67_108_864;
 /// The maximum size of one read, in bytes.
 pub const READ_SIZE: usize = 4096;
 
-/// The bytes of an input, at most `LONGEST` of them.
+/// The bytes of an input. There are at most `LONGEST` bytes.
 #[derive(Clone, Copy)]
 pub struct Input<'a> {
     bytes: &'a [u8],
@@ -22,7 +22,7 @@ pub struct Input<'a> {
 }
 
 impl<'a> Input<'a> {
-    /// Wraps at most `LONGEST` bytes. Returns the error `TooLong` if there are more.
+    /// Wraps the bytes of an input. Returns the error `TooLong` if there are more than `LONGEST` bytes.
     pub fn new(bytes: &'a [u8]) -> Result<Input<'a>, Trouble>
         ensures { MatchResult result (λ input. input.bytes.now ≡ bytes.entry.now) (IsTooLong bytes.entry.now) }
     {
@@ -32,7 +32,7 @@ impl<'a> Input<'a> {
         Ok(Input { bytes })
     }
 
-    /// Returns the bytes.
+    /// Returns the bytes of the input.
     pub fn bytes(self) -> &'a [u8]
         ensures value { result.now ≡ self.entry.bytes.now }
         ensures short { length result.now ≤ LONGEST }
@@ -41,7 +41,7 @@ impl<'a> Input<'a> {
     }
 }
 
-/// Reads an input to its end. If the input is longer than `LONGEST` bytes, stops reading soon after that many bytes.
+/// Reads an input to its end. If the input is longer than `LONGEST` bytes, stops reading soon after `LONGEST` bytes.
 /// Allocates. Blocks while reading.
 ///
 /// # Errors
@@ -66,8 +66,8 @@ pub fn read_all<R: Read>(alloc: Global, input: &mut R) -> Result<Vec<u8>, Troubl
     Ok(bytes)
 }
 
-/// Writes a text. Returns `true` if all of it was written. If a write fails or writes no byte, stops without a retry; a
-/// prefix of the text can already have been written.
+/// Writes a text. Returns `true` if the whole text was written. If a write fails or writes no byte, stops without a
+/// retry; a prefix of the text can already have been written.
 pub fn put<W: Write>(output: &mut W, text: &[u8]) -> bool
     ensures front { (done rest : List ℕ) × (text.now ≡ done ++ rest)
         × Appends (W.contents output.old) (W.contents output.new) done }

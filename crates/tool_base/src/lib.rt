@@ -1,4 +1,4 @@
-//! The part that all commands of the program share. A command computes an answer from its input or its arguments. The
+//! The code that all commands of the program share. A command computes an answer from its input or its arguments. The
 //! functions of this crate read the input, write the answer to an output or a one-line error message to stderr, and
 //! return the exit status. They work with any reader and writer.
 #![tactic(auto)]

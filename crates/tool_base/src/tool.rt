@@ -9,7 +9,8 @@ use std::io::{Read, Write};
 
 /// A command that computes its answer from the whole input.
 pub trait Tool {
-    /// Defines which results are correct for an input with these bytes. By default, every result is correct.
+    /// Defines which results are correct for an input that consists of the given bytes. By default, every result is
+    /// correct.
     ghost answers: { Self → List ℕ → Made → Type 0 } = { λ tool bytes made. Unit {0} };
 
     /// Computes the answer for an input. Allocates.
@@ -17,7 +18,8 @@ pub trait Tool {
         ensures { answers self.now input.entry.bytes.now (view result) };
 }
 
-/// Returns the command's answer for a text, or the error `TooLong`. Allocates.
+/// Returns the command's answer for a text. Returns the error `TooLong` if the text is too long for an input.
+/// Allocates.
 pub fn answer_text<T: Tool>(alloc: Global, tool: &T, text: &[u8]) -> Result<Answer, Trouble>
     ensures { OnText (T.answers tool.now) text.now (view result) }
 {
@@ -25,7 +27,7 @@ pub fn answer_text<T: Tool>(alloc: Global, tool: &T, text: &[u8]) -> Result<Answ
     tool.answer(alloc, input)
 }
 
-/// Reads an input to its end and returns the command's answer for its bytes.
+/// Reads an input to its end and returns the command's answer for the input.
 fn answer_input<T: Tool, R: Read>(alloc: Global, tool: &T, input: &mut R) -> Result<Answer, Trouble>
     ensures { IfSome (R.remaining input.old) (λ bytes. OnInput (T.answers tool.now) bytes (view result)) }
 {

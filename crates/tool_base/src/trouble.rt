@@ -1,4 +1,4 @@
-//! The errors that end the program, with the exit status of each.
+//! The errors that end the program, each with its exit status.
 
 ghost use Rattle.std.specs.Prelude.{◌≡◌, ◌≤◌, length};
 ghost use Rattle.tool_base.specs.Trouble.{of_generator, of_line_fault, status_of, system_name, value_word};
@@ -22,8 +22,8 @@ pub enum ValueName {
     Port,
     Sessions,
     Name,
-    /// The argument NAME of `example --broken`: this example has no report of a broken list (a list without one of its
-    /// checks).
+    /// The argument NAME of `example --broken`, if the example has no report of a broken list (a list without one of
+    /// its checks).
     Unbroken,
     Lacks,
     From,
@@ -33,8 +33,8 @@ pub enum ValueName {
     Cause,
 }
 
-/// Why `run` could not complete all calls of its threads, or `serve` could not complete all its connections. A failed
-/// allocation is `Trouble::Memory` instead.
+/// Why `run` could not complete all calls of its threads, or `serve` could not complete all its connections. (A failed
+/// allocation is not listed: its error is `Trouble::Memory`.)
 #[derive(Clone, Copy)]
 pub enum SystemCause {
     /// The number of programs (the calls of one thread each) differs from the number of seats, or some seats of the set
@@ -42,11 +42,11 @@ pub enum SystemCause {
     Programs,
     /// The gate, which decides before each call whether the call is made, refused a call.
     Gate,
-    /// A round (the calls on one set) has left more final keys than the next set can open with.
+    /// A round (the calls on one set) left more final keys than the set of the next round can open with.
     Opening,
     /// Some seats of the set are missing. (A seat is a thread's handle to the set.)
     Seats,
-    /// The system could not accept a connection.
+    /// The system did not accept a connection.
     Accept,
     /// The system could not start a thread.
     Spawn,

@@ -1,5 +1,5 @@
-//! Determines how far a thread can run after the lines before an error. Expands these lines as a draft: a schedule with
-//! lines that can state where a thread stops, in place of a number of steps.
+//! Determines how far a thread can run after the lines before an error. To do so, expands the lines as a draft: a
+//! schedule in which a line can state where a thread stops instead of a number of steps.
 
 use crate::event_errors::thread_text;
 use std::alloc::{AllocError, Global};
@@ -7,8 +7,8 @@ use text_errors::{Lines, Place, TextKind, field_or_empty, number_at};
 use tool_base::{Tool, answer_text};
 use tool_replay::{Expand, Trace};
 
-/// Returns a draft (a schedule that can state where a thread stops) with the lines from line 2 to the line before the
-/// error, followed by `ending`.
+/// Returns a draft (a schedule that can state where a thread stops). The draft consists of the lines from line 2 to the
+/// line before the error, and of `ending`.
 fn draft_up_to(
     alloc: Global,
     lines: &Lines<'_>,
@@ -32,8 +32,9 @@ fn answer_on<T: Tool>(alloc: Global, tool: &T, text: &[u8]) -> Option<Vec<u8>> {
     }
 }
 
-/// Expands the lines before the error, followed by `ending`, to a schedule. `ending` can have lines of a draft. Returns
-/// `None` if a line cannot be expanded, for example because its thread waits for a lock or has no pending call.
+/// Expands the lines before the error, followed by `ending`, to a schedule. `ending` can contain lines that only a
+/// draft can have. Returns `None` if a line cannot be expanded, for example because its thread waits for a lock or has
+/// no pending call.
 fn schedule_up_to(
     alloc: Global,
     lines: &Lines<'_>,
@@ -44,8 +45,8 @@ fn schedule_up_to(
     Ok(answer_on(alloc, &Expand {}, &draft))
 }
 
-/// Returns how many more steps the pending call of the thread needs to end. Returns `None` if the thread has no pending
-/// call, or if the call does not end within 10,000 steps of this thread alone.
+/// Returns how many more steps the thread's pending call needs until it ends. Returns `None` if the thread has no
+/// pending call, or if the call does not end within 10,000 steps of the thread alone.
 pub(crate) fn steps_out(
     alloc: Global,
     lines: &Lines<'_>,
@@ -60,8 +61,8 @@ pub(crate) fn steps_out(
     Ok(number_at(made.line(made.count()), 2))
 }
 
-/// Returns the trace of the lines before the error, followed by 10,000 steps of the thread. Returns `None` if the call
-/// of the thread ends within these steps.
+/// Returns the trace of the lines before the error, followed by 10,000 steps of the thread. Returns `None` if the lines
+/// cannot be expanded, or if the thread's call ends within the 10,000 steps.
 fn trace_up_to(
     alloc: Global,
     lines: &Lines<'_>,
@@ -80,8 +81,8 @@ fn trace_up_to(
     Ok(answer_on(alloc, &trace, &schedule))
 }
 
-/// If the last step of a trace is an attempt to take a lock that another thread holds, returns the lock and the number of the
-/// thread that holds it.
+/// If the last step of a trace is an attempt to take a lock that another thread holds, returns the lock and the number
+/// of the thread that holds the lock. Otherwise returns `None`.
 fn held_lock<'a>(trace: &Lines<'a>) -> Option<(&'a str, &'a str)> {
     let step = trace.line(trace.count().saturating_sub(1));
     let lock = str::from_utf8(field_or_empty(step, 7)).unwrap_or("a lock");
@@ -92,8 +93,8 @@ fn held_lock<'a>(trace: &Lines<'a>) -> Option<(&'a str, &'a str)> {
     }
 }
 
-/// Explains why a thread does not reach the row of the step table that a draft's line names: the thread waits for a
-/// lock, or its call ends first.
+/// Explains why a thread does not reach the row of the step table that a line of a draft names: the thread waits for a
+/// lock, or the thread's call ends first.
 pub(crate) fn put_lock(
     alloc: Global,
     out: &mut String,
@@ -120,7 +121,7 @@ pub(crate) fn put_lock(
     }
 }
 
-/// If the pending call of the thread waits for a lock, explains how another thread can release the lock. Otherwise writes
+/// If the thread's pending call waits for a lock, explains how the lock's holder can release the lock. Otherwise writes
 /// nothing and returns `false`.
 pub(crate) fn put_waiting(
     alloc: Global,
@@ -143,7 +144,7 @@ pub(crate) fn put_waiting(
     Ok(true)
 }
 
-/// Explains how the thread `holder` releases a lock, and how the pending call that waits for the lock then ends.
+/// Explains how the thread `holder` can release a lock, and how the pending call that waits for the lock can then end.
 fn put_release(
     alloc: Global,
     out: &mut String,

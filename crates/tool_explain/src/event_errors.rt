@@ -10,7 +10,7 @@ use text_errors::{
 
 const CALLS: &str = "add, remove, contains and, in version 2, ceiling";
 
-/// Explains a line with an event that has an error.
+/// Explains the error in the line of an event.
 pub(crate) fn put_event(
     alloc: Global,
     out: &mut String,
@@ -28,7 +28,7 @@ pub(crate) fn put_event(
     }
 }
 
-/// Explains a line that makes a schedule exceed one of its limits.
+/// Explains that a schedule exceeds one of its limits.
 fn put_too_many(out: &mut String, place: Place<'_>) -> Result<(), AllocError> {
     let (file, last) = (place.file, place.number.saturating_sub(1));
     writeln!(
@@ -37,7 +37,7 @@ fn put_too_many(out: &mut String, place: Place<'_>) -> Result<(), AllocError> {
     )
 }
 
-/// Explains a line that does not have the form of an event.
+/// Explains that a line does not have the form of an event.
 fn put_form(out: &mut String, lines: &Lines<'_>, place: Place<'_>) -> Result<(), AllocError> {
     let line = place.line;
     let is_first = lines.line(1) == b"listset-schedule 1".as_slice();
@@ -76,7 +76,7 @@ fn put_form(out: &mut String, lines: &Lines<'_>, place: Place<'_>) -> Result<(),
     }
 }
 
-/// Explains an event with a wrong number, or a line in a schedule that only a draft can have.
+/// Explains that an event contains a wrong number, or that a schedule contains a line that only a draft can have.
 fn put_event_number(out: &mut String, place: Place<'_>) -> Result<(), AllocError> {
     let (line, file) = (place.line, place.file);
     let is_stop = matches!(field_or_empty(line, 2), b"out" | b"to");
@@ -93,7 +93,7 @@ fn put_event_number(out: &mut String, place: Place<'_>) -> Result<(), AllocError
     }
 }
 
-/// Explains an event of a thread that does not exist.
+/// Explains that the thread of an event does not exist.
 fn put_no_thread(out: &mut String, lines: &Lines<'_>, place: Place<'_>) -> Result<(), AllocError> {
     let count = number_at(lines.line(3), 1).unwrap_or(1);
     let last = count.saturating_sub(1);
@@ -105,7 +105,7 @@ fn put_no_thread(out: &mut String, lines: &Lines<'_>, place: Place<'_>) -> Resul
     )
 }
 
-/// Returns the number of the last line before `place` that begins a call of the same thread.
+/// Returns the number of the last line before `place` that begins a call of the thread that `place` names.
 fn begun_before(lines: &Lines<'_>, place: Place<'_>) -> Option<usize> {
     let thread = number_at(place.line, 1)?;
     lines.last_before(place.number, |line| {
@@ -113,7 +113,7 @@ fn begun_before(lines: &Lines<'_>, place: Place<'_>) -> Option<usize> {
     })
 }
 
-/// Returns the thread of an event as written in the event's line.
+/// Returns the thread of an event, as it is written in the event's line.
 pub(crate) fn thread_text(line: &[u8]) -> &str {
     match str::from_utf8(field_or_empty(line, 1)) {
         Ok(text) => text,
@@ -173,8 +173,8 @@ fn put_ending(
     }
 }
 
-/// Explains why a thread cannot take all steps of a line: the call that line `since` begins has already ended, or ends
-/// before the last step.
+/// Explains why a thread cannot take all steps of a line: the call that begins in line `since` has already ended, or
+/// ends before the last step.
 fn put_idle(
     alloc: Global,
     out: &mut String,

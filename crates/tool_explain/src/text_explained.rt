@@ -9,9 +9,10 @@ use tool_base::{Answer, LONGEST, Trouble, answer_text};
 use tool_judge::judge_bytes;
 use tool_replay::{Check, Expand, Replay};
 
-/// Explains a text. Prints its kind and the first line with an error; the last printed line explains the error and how to
-/// correct it. If the text has no error, the last line names the commands that read it. `file` is the file's name, which is
-/// printed as it must be typed in a shell. The exit status is 0. Returns `Trouble::Memory` if an allocation fails.
+/// Explains a text. Prints the kind of the text and the first line with an error. The last printed line explains the
+/// error and how to correct it. If the text has no error, the last printed line names the commands that read the text.
+/// `file` is the file's name, which is printed as it must be typed in a shell. The exit status is 0. Returns
+/// `Trouble::Memory` if an allocation fails.
 pub fn explain_text(alloc: Global, file: &str, text: &[u8]) -> Result<Answer, Trouble> {
     let mut out = String::new(alloc);
     let name = quoted_name(alloc, file)?;
@@ -25,7 +26,7 @@ pub fn explain_text(alloc: Global, file: &str, text: &[u8]) -> Result<Answer, Tr
     Ok(Answer { text, status: 0 })
 }
 
-/// Explains that a text is too long. Only `judge` and `stats` read texts of this length.
+/// Explains that a text is too long. Only `judge` and `stats` read texts that are too long for the other commands.
 fn put_too_long(out: &mut String, file: &str, text: &[u8]) -> Result<(), AllocError> {
     let first = match cut(text, b'\n') {
         Some((first, _)) => first,
@@ -45,7 +46,8 @@ fn put_too_long(out: &mut String, file: &str, text: &[u8]) -> Result<(), AllocEr
     put_shortening(out, file, kind)
 }
 
-/// Explains how to make a shorter text of the same kind, or how to see the beginning of a text that no command reads.
+/// Explains how to make a shorter text of the kind `kind` or, if no command reads the text, how to see the beginning of
+/// the text.
 fn put_shortening(out: &mut String, file: &str, kind: TextKind) -> Result<(), AllocError> {
     match kind {
         TextKind::Schedule | TextKind::Draft => writeln!(
@@ -104,8 +106,8 @@ fn no_answer(alloc: Global) -> Result<Answer, Trouble> {
     Ok(Answer { text, status: 0 })
 }
 
-/// Checks the opening keys (the keys at the start) that `serve` reads. Returns their first error, or an empty answer if
-/// they have no error.
+/// Checks the opening keys (the keys at the start) that `serve` reads. Returns the first error in the keys, or an empty
+/// answer if the keys have no error.
 fn said_of_keys(alloc: Global, lines: &Lines<'_>) -> Result<Answer, Trouble> {
     match wrong_key(lines) {
         Some((number, cause)) => Err(Trouble::Line(number as u64, cause)),
@@ -113,7 +115,7 @@ fn said_of_keys(alloc: Global, lines: &Lines<'_>) -> Result<Answer, Trouble> {
     }
 }
 
-/// Explains a text without errors.
+/// Prints that a text has no error, and which commands can read the text.
 fn put_right(
     out: &mut String,
     lines: &Lines<'_>,

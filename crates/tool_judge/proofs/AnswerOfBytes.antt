@@ -43,7 +43,7 @@ answered d bytes c said shown a says is shows calls made = (
   },
 )
 
--- If a property holds for every extension of the bytes that were read, it holds for the whole input.
+-- Lemma: if a property holds for every extension of the bytes that were read, it holds for the whole input.
 pub if_read : (all rest : Option (List ℕ)) (bytes : List ℕ) (P : List ℕ → Type 0) → Consumes all rest bytes
     → ((more : List ℕ) → P (bytes ++ more)) → IfSome all P
 if_read None rest bytes P read each = tt

@@ -1,4 +1,4 @@
--- Proof that the answer of `judge` is exact: it states whether some order explains the recording.
+-- Proof that the answers of `judge` are exact: an answer states whether some order of the calls explains the recording.
 use Rattle.std.proofs.Common.{◌≡◌, ◌⊎◌, ℕ, inl, inr, None, subst, Bool, true, false, Option, List, ◌++◌, length, codes, Result, Ok, Err, ◌∙◌}
 use Rattle.std.proofs.Common.{append_assoc}
 use Rattle.std.specs.Fmt.{decimal}

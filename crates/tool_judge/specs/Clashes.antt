@@ -1,5 +1,6 @@
 -- The lines that `judge` prints for a contradiction about a key, byte by byte. In a contradiction, one call leaves the
--- key present or absent, the next call needs the opposite, and no call can change the key in between.
+-- key present or absent, the next call needs the key in the opposite state, and no call can change the key between the
+-- two calls.
 use Rattle.std.specs.Prelude.{ℕ, Bool, true, false, if◌then◌else◌, nat_le, List, ◌++◌, codes, Option, Some, None}
 use Rattle.std.specs.Fmt.{decimal}
 use Rattle.lset_words.specs.declared.Call.{Call}
@@ -27,8 +28,8 @@ is_change (Add k) (Some (end, True)) = true
 is_change (Remove k) (Some (end, True)) = true
 is_change c ended = false
 
--- Returns the state (present or absent) that a call needs its key to have. If the call changes the key, this is the
--- opposite of the state after the call, otherwise it is the state after the call.
+-- Returns the state (present or absent) that a call needs its key to have. `leaves` is the state after the call. If the
+-- call changes the key, the result is the opposite of `leaves`; otherwise it is `leaves` itself.
 abbrev pub need_of : Bool → Presence → Presence
 need_of changes leaves = if changes then other leaves else leaves
 
@@ -36,12 +37,12 @@ abbrev pub end_of : ℕ → Option (ℕ × Reply) → ℕ
 end_of begun None = begun
 end_of begun (Some e) = e.0
 
--- Returns whether the second call starts at or before the end of the first, or the first is pending.
+-- Returns whether the second call starts at or before the end of the first, or the first call is pending.
 abbrev pub overlap : Option (ℕ × Reply) → ℕ → Bool
 overlap None begun = true
 overlap (Some e) begun = nat_le begun e.0
 
--- ---- A call as text: its thread, operation, key, reply, start and end
+-- ---- The text of a call: its thread, operation, key, reply, start and end
 abbrev pub thread_text : ℕ → List ℕ
 thread_text thread = codes "thread " ++ decimal thread ++ codes " "
 
@@ -61,7 +62,7 @@ end_text begun (Some e) = codes " " ++ reply_text e.1 ++ codes ", " ++ between b
 unfoldable pub made_text : StreamCall → List ℕ
 made_text x = thread_text x.thread ++ words.call_text x.call ++ key_text (key_of x.call).0 ++ end_text x.begun x.ended
 
--- ---- Contradictions in one order: one call leaves the key in one state, the next call needs the opposite state
+-- ---- Contradictions between calls that do not overlap, or between a call and the key's first or final state
 
 abbrev pub leaves_text : ℕ → Presence → List ℕ
 leaves_text key Present = codes "leaves key " ++ decimal key ++ codes " present,\n"
@@ -113,7 +114,7 @@ abbrev pub lines_in_order : ℕ → Presence → Option StreamCall → Option St
 lines_in_order key was first second =
     first_line key was first ++ second_line key (other was) second ++ third_line key (other was) first second
 
--- ---- Contradictions between two overlapping calls, whichever call takes effect first
+-- ---- Contradictions between two overlapping calls
 
 abbrev pub needs_key : ℕ → List ℕ
 needs_key key = codes "needs key " ++ decimal key ++ codes " "
@@ -125,8 +126,9 @@ abbrev pub nor_text : Presence → List ℕ
 nor_text Present = codes ", and no such add overlaps "
 nor_text Absent = codes ", and no such remove overlaps "
 
--- The next two definitions are parts of the text about two overlapping calls: no call can change the key between them.
--- `turned_there` is the part for the order with the first call first, `turned_back` the part for the other order.
+-- `turned_there` and `turned_back` are parts of the text about two overlapping calls: no call can change the key
+-- between the two calls. `turned_there` covers the case that the first call takes effect first, `turned_back` the case
+-- that the second does.
 unfoldable pub turned_there : ℕ → Presence → ℕ → ℕ → List ℕ
 turned_there key need from to = no_change key need ++ codes "that returned true or is pending overlaps " ++ between from to
 
@@ -145,8 +147,8 @@ lines_turned key was x y = turned_first key (need_of (is_change x.call x.ended) 
     ++ turned_there key (other was) x.begun (end_of y.begun y.ended)
     ++ turned_back (need_of (is_change x.call x.ended) was) y.begun (end_of x.begun x.ended)
 
--- Returns the lines of a contradiction about a key. If its two calls overlap, the lines describe both orders of the
--- calls.
+-- Returns the lines of a contradiction about a key. If the two calls overlap, the lines describe both orders of these
+-- two calls.
 abbrev pub lines_of : ℕ → Presence → Option StreamCall → Option StreamCall → List ℕ
 lines_of key was (Some x) (Some y) = if overlap x.ended y.begun then lines_turned key was x y else lines_in_order key was (Some x) (Some y)
 lines_of key was first second = lines_in_order key was first second

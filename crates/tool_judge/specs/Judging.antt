@@ -34,8 +34,8 @@ abbrev pub clash_text : ℕ → Option Clash → List ℕ
 clash_text key None = []
 clash_text key (Some c) = clash_lines key c
 
--- Returns the two lines of the answer if no order explains the recording, and the three lines of a contradiction if one
--- was found.
+-- Returns the two lines of the answer if no order explains the recording, followed by the three lines of a
+-- contradiction if one was found.
 abbrev pub refused_text : Refusal → Option Clash → List ℕ
 refused_text r clash = refused_lines r ++ clash_text r.key.0 clash
 
@@ -43,8 +43,8 @@ refused_text r clash = refused_lines r ++ clash_text r.key.0 clash
 abbrev pub Begins : List ℕ → List ℕ → Type 0
 Begins head text = (more : List ℕ) × (text ≡ head ++ more)
 
--- Holds if `judge` may print this answer for a verdict on this number of calls. The text begins with the lines of the
--- verdict. The status is 0 for `Linearizable` and 1 for `NotLinearizable`. Further lines can follow.
+-- Holds if `judge` may print `answer` for a verdict on `calls` calls. The text begins with the lines of the verdict,
+-- and further lines can follow. The status is 0 for `Linearizable` and 1 for `NotLinearizable`.
 abbrev pub IsAnswerTo : Verdict → ℕ → AnswerValue → Type 0
 IsAnswerTo Linearizable calls answer = Begins (ok_line calls) answer.text × (answer.status ≡ 0)
 IsAnswerTo (NotLinearizable refusal clash) calls answer = Begins (refused_text refusal clash) answer.text × (answer.status ≡ 1)
@@ -59,26 +59,26 @@ abbrev pub shown_in : Detail → Verdict → Verdict
 shown_in Whole verdict = verdict
 shown_in Brief verdict = without_clash verdict
 
--- Holds if the answer prints a correct verdict on this recording. A brief answer leaves out the contradiction.
+-- Holds if the answer states a correct verdict on the recording `c`. A brief answer leaves out the contradiction.
 pub record IsAnswerOn (detail : Detail) (c : Recording) (answer : AnswerValue) : Type 0 where
   pub recording : IsRecording c
   pub verdict : Verdict
   pub verdict_is : IsVerdictOnRecording c verdict
   pub answer_is : IsAnswerTo (shown_in detail verdict) (length c.calls) answer
 
--- Holds if `judge` may end with this result for the bytes of an input. The result is a correct answer for the recording
--- in the bytes, or the error of the first wrong line with its cause. It is also `CannotRead` for a failed read, or
--- `Memory` for a failed allocation.
+-- Holds if `judge` may end with the result `made` for the bytes of an input. The result is a correct answer for the
+-- recording in the bytes, the error of the first wrong line with its cause, `CannotRead` for a failed read, or `Memory`
+-- for a failed allocation.
 abbrev pub JudgesIn : Detail → List ℕ → Made → Type 0
 JudgesIn detail bytes (Ok answer) = (c : Recording) × Says bytes (Ok c) × (bytes ≡ recording_text c) × IsAnswerOn detail c answer
 JudgesIn detail bytes (Err t) = (t ≡ CannotRead) ⊎ ((t ≡ Memory) ⊎ ((fault : LineFault) × Says bytes (Err fault) × (t ≡ of_line_fault fault)))
 
--- Holds if `judge` may end with this result for the bytes of an input. An answer `not linearizable` must show the
--- contradiction that the judge found, if it found one.
+-- Holds if `judge` may end with the result `made` for the bytes of an input. An answer `not linearizable` must show the
+-- contradiction if the judge found one.
 abbrev pub Judges : List ℕ → Made → Type 0
 Judges bytes made = JudgesIn Whole bytes made
 
--- Holds if `judge --brief` may end with this result for the bytes of an input. An answer `not linearizable` begins with
--- its two lines; the contradiction need not follow.
+-- Holds if `judge --brief` may end with the result `made` for the bytes of an input. The text of an answer `not
+-- linearizable` begins with its two lines; the contradiction need not follow.
 abbrev pub JudgesBriefly : List ℕ → Made → Type 0
 JudgesBriefly bytes made = JudgesIn Brief bytes made

@@ -48,15 +48,15 @@ fn is_change(made: StreamCall) -> bool
     )
 }
 
-/// Returns whether a call needs its key present or absent. `leaves` is the key's state after the call. A call that
-/// changes the key needs the opposite of `leaves`, any other call needs `leaves` itself.
+/// Returns the state (present or absent) that a call needs its key to have. `leaves` is the state after the call. A
+/// call that changes the key needs the opposite of `leaves`; any other call needs `leaves` itself.
 fn need_of(changes: bool, leaves: Presence) -> Presence
     ensures { result ≡ lines.need_of changes leaves }
 {
     if changes { other(leaves) } else { leaves }
 }
 
-/// Returns when a call ended; if the call is pending, returns when it began.
+/// Returns the moment at which a call ended or, if the call is pending, the moment at which it began.
 fn end_of(made: StreamCall) -> u64
     ensures { result ≡ lines.end_of made.begun made.ended }
 {
@@ -66,7 +66,7 @@ fn end_of(made: StreamCall) -> u64
     }
 }
 
-/// Returns `true` if the second call starts at or before the end of the first, or if the first is pending.
+/// Returns `true` if the second call starts at or before the end of the first, or if the first call is pending.
 fn overlap(first: StreamCall, second: StreamCall) -> bool
     ensures { result ≡ lines.overlap first.ended second.begun }
 {
@@ -137,7 +137,7 @@ fn call_text(alloc: Global, made: StreamCall) -> Result<Vec<u8>, AllocError>
     Ok(text)
 }
 
-/// Returns the words that state whether the first call leaves the key present or absent.
+/// Returns the words that state in which state (present or absent) the first call leaves the key.
 fn leaves_text(alloc: Global, key: u32, was: Presence) -> Result<Vec<u8>, AllocError>
     ensures { IfOk result (λ text. text.items ≡ lines.leaves_text key was) }
 {
@@ -153,7 +153,7 @@ fn leaves_text(alloc: Global, key: u32, was: Presence) -> Result<Vec<u8>, AllocE
     }
 }
 
-/// Returns the words that state whether the second call needs the key to be present or absent.
+/// Returns the words that state in which state (present or absent) the second call needs the key.
 fn needs_text(alloc: Global, key: u32, need: Presence) -> Result<Vec<u8>, AllocError>
     ensures { IfOk result (λ text. text.items ≡ lines.needs_text key need) }
 {
@@ -201,8 +201,8 @@ fn final_text(alloc: Global, key: u32, need: Presence) -> Result<Vec<u8>, AllocE
     }
 }
 
-/// Returns line 1 of 3: the first call, and whether it leaves the key present or absent. If `first` is `None`, the line
-/// has the key's state at the start instead.
+/// Returns line 1 of 3: the first call, and the state in which it leaves the key. If `first` is `None`, the line states
+/// the key's first state instead.
 fn first_line(
     alloc: Global,
     key: u32,
@@ -222,8 +222,8 @@ fn first_line(
     }
 }
 
-/// Returns line 2 of 3: the second call, and whether it needs the key present or absent. If `second` is `None`, the
-/// line states the key's state at the end instead.
+/// Returns line 2 of 3: the second call, and the state in which it needs the key. If `second` is `None`, the line
+/// states the key's final state instead.
 fn second_line(
     alloc: Global,
     key: u32,
@@ -243,7 +243,8 @@ fn second_line(
     }
 }
 
-/// Returns the words for the missing call: the `add` or `remove` that would bring the key into the state `need`.
+/// Returns the words for a call that does not exist: an `add` or `remove` that would bring the key into the state
+/// `need`.
 fn no_change(alloc: Global, key: u32, need: Presence) -> Result<Vec<u8>, AllocError>
     ensures { IfOk result (λ text. text.items ≡ lines.no_change key need) }
 {
@@ -282,8 +283,8 @@ fn ends_text(alloc: Global, from: u64) -> Result<Vec<u8>, AllocError>
     Ok(text.into_bytes())
 }
 
-/// Returns the words for the period without a change of the key: between two calls, before the second call, or after
-/// the first.
+/// Returns the words for the period in which no call changes the key: between two calls, before the second call, or
+/// after the first.
 fn time_text(
     alloc: Global,
     first: Option<StreamCall>,
@@ -314,8 +315,8 @@ fn third_line(
     Ok(text)
 }
 
-/// Returns the three lines of a contradiction between two calls in this order, or between a call and the key's first or
-/// final state.
+/// Returns the three lines of a contradiction between two calls that do not overlap, or between a call and the key's
+/// first or final state.
 fn lines_in_order(
     alloc: Global,
     key: u32,
@@ -348,7 +349,7 @@ fn needs_key(alloc: Global, key: u32) -> Result<Vec<u8>, AllocError>
     Ok(text.into_bytes())
 }
 
-/// Returns the words for the state of the key that a call needs, and for the state that it leaves.
+/// Returns the words for the state of the key that a call needs, and for the state in which the call leaves the key.
 #[tactic(auto, unfolding(crate::specs::Clashes::needs_and_leaves))]
 fn needs_and_leaves(
     alloc: Global,
@@ -366,8 +367,8 @@ fn needs_and_leaves(
     Ok(text)
 }
 
-/// Returns the words for the case that the second of two overlapping calls takes effect first. No `add` or `remove`
-/// that would bring the key into the state `need` overlaps the period that is printed next.
+/// Returns the words for the case that the second of two overlapping calls takes effect first: no `add` or `remove`
+/// that would bring the key into the state `need` overlaps the period that the text names after these words.
 fn nor_text(alloc: Global, need: Presence) -> Result<Vec<u8>, AllocError>
     ensures { IfOk result (λ text. text.items ≡ lines.nor_text need) }
 {

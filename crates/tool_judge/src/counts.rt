@@ -3,10 +3,10 @@ use lset_text::{call_word, reply_word};
 use lset_words::{Call, Presence};
 use std::alloc::{AllocError, Global};
 
-/// A list with at most this many calls is printed in full.
+/// The maximum number of calls in a list that is printed in full.
 const NAMED: usize = 4;
 
-/// A longer list is printed in part: this many calls from its start, and as many from its end.
+/// The number of calls that are printed from the start of a longer list, and also from its end.
 const NAMED_OF_MANY: usize = 2;
 
 /// Writes a call's thread, start and end.
@@ -55,7 +55,7 @@ fn state_word(state: Presence) -> &'static str {
     }
 }
 
-/// Returns the operation that brings the key into a state: `add` for present, `remove` for absent.
+/// Returns the operation that brings a key into the state `state`: `add` for present, `remove` for absent.
 fn maker(count: &Count, state: Presence) -> Call {
     match state {
         Presence::Present => Call::Add(count.key),
@@ -63,9 +63,9 @@ fn maker(count: &Count, state: Presence) -> Call {
     }
 }
 
-/// Writes the calls of a contradiction by counting: together they need more changes of a key than other calls can make.
-/// If the key's first or final state takes part, writes this state too. If there are many calls, writes only the first
-/// and last ones, with the number of calls between them.
+/// Writes the calls of a contradiction by counting: together, these calls need more changes of a key than other calls
+/// can make. If the key's first or final state is part of the contradiction, writes that state too. If there are more
+/// than `NAMED` calls, writes only the first and last ones, with the number of calls between them.
 fn put_calls(out: &mut String, count: &Count) -> Result<(), AllocError> {
     let (key, all) = (count.key.0, count.calls.len());
     let mut is_first = true;
@@ -131,7 +131,8 @@ fn put_stretch(out: &mut String, count: &Count, is_one: bool) -> Result<(), Allo
     Ok(())
 }
 
-/// Writes the calls that could have changed the key back. In a contradiction by counting, they are fewer than needed.
+/// Writes the calls that could have changed the key back. In a contradiction by counting, there are fewer such calls
+/// than needed.
 fn put_backs(out: &mut String, count: &Count) -> Result<(), AllocError> {
     let (word, key) = (call_word(maker(count, other(count.was))), count.key.0);
     let all = count.backs.len();
@@ -161,9 +162,9 @@ fn put_backs(out: &mut String, count: &Count) -> Result<(), AllocError> {
     Ok(())
 }
 
-/// Writes the three lines of a contradiction by counting. Line 1 has the calls that need the key in one state. Line 2
-/// states how many times the key must change back between these calls. Line 3 has the calls that could have changed it
-/// back, which are fewer than needed. Shortens long lists of calls. Allocates.
+/// Writes the three lines of a contradiction by counting. Line 1 lists the calls that need the key in one state. Line 2
+/// states how many times the key must change back between the calls of line 1. Line 3 lists the calls that could have
+/// changed the key back; they are too few. Shortens long lists of calls. Allocates.
 pub fn put_count(out: &mut String, count: &Count) -> Result<(), AllocError> {
     write!(out, "contradiction: ")?;
     put_calls(out, count)?;
@@ -172,7 +173,7 @@ pub fn put_count(out: &mut String, count: &Count) -> Result<(), AllocError> {
     put_backs(out, count)
 }
 
-/// Returns `text`, preceded by the lines of the contradiction `count`, if there is one. Allocates.
+/// Returns `text`, preceded by the lines of the contradiction `count` if `count` is not `None`. Allocates.
 pub fn with_count(alloc: Global, count: &Option<Count>, text: &str) -> Result<String, AllocError> {
     let mut out = String::new(alloc);
     if let Some(count) = count {

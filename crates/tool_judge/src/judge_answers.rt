@@ -12,11 +12,11 @@ use std::alloc::{AllocError, Global};
 use std::io::Read;
 use tool_base::{Answer, READ_SIZE, Trouble};
 
-/// The level of detail of an answer. Every answer states the verdict. After `ok`, it states the number of calls that
-/// overlap a change of their key, and a remark if the recording was cut off.
+/// The level of detail of an answer. At every level, the answer states the verdict. After `ok`, the answer also states
+/// how many calls overlap a change of their key, and remarks on a recording that was cut off.
 #[derive(Clone, Copy, PartialEq, Eq)]
 pub(crate) enum Detail {
-    /// The answer also shows the contradiction if one was found, and advice if few calls overlap.
+    /// The answer also shows the contradiction if one was found, and gives advice if few calls overlap a change.
     Whole,
     /// The answer shows neither a contradiction nor advice.
     Brief,
@@ -32,7 +32,7 @@ fn without_clash(verdict: Verdict) -> Verdict
     }
 }
 
-/// Removes the parts of an answer that are not printed at this level of detail.
+/// Removes the parts of the answer `said` that are not printed at the level `detail`.
 fn in_detail(said: RecordingAnswer, detail: Detail) -> RecordingAnswer
     ensures verdict { result.verdict ≡ shown_in detail said.verdict }
     ensures calls { result.calls ≡ said.calls }
@@ -46,7 +46,7 @@ fn in_detail(said: RecordingAnswer, detail: Detail) -> RecordingAnswer
     }
 }
 
-/// Returns the printed text and the exit status for a verdict.
+/// Returns the text to print and the exit status for the verdict in `said`.
 fn answer_to(alloc: Global, said: RecordingAnswer, detail: Detail) -> Result<Answer, AllocError>
     ensures { IfOk result (λ a. IsAnswerTo said.verdict said.calls (record { text = a.text.items; status = a.status })) }
 {
@@ -68,7 +68,7 @@ fn answer_to(alloc: Global, said: RecordingAnswer, detail: Detail) -> Result<Ans
     }
 }
 
-/// Returns the answer for a recording that was read to its end. `detail` is the level of detail.
+/// Returns the answer for a recording that `reader` has read to its end.
 fn answer_of(alloc: Global, reader: RecordingReader, detail: Detail) -> Result<Answer, Trouble>
     ensures judges { (bytes : List ℕ) → IsRead bytes reader → JudgesIn detail bytes (tools.view result) }
     ensures read { IfErr result (λ t. t ≢ CannotRead) }
@@ -104,7 +104,7 @@ pub fn judge_bytes(alloc: Global, bytes: &[u8]) -> Result<Answer, Trouble>
     answer_of(alloc, reader, Detail::Whole)
 }
 
-/// Judges a recording that is read from an input. Stops reading at the end of the input or at the first error.
+/// Judges a recording that is read from `input`. Stops reading at the end of the input or at the first error.
 fn judge_in<R: Read>(alloc: Global, input: &mut R, detail: Detail) -> Result<Answer, Trouble>
     ensures { IfSome (R.remaining input.old) (λ bytes. JudgesIn detail bytes (tools.view result)) }
 {

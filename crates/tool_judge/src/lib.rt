@@ -1,6 +1,6 @@
-//! The command `judge` reads recorded calls of a set and prints whether some order explains them. The command `stats`
-//! counts the calls. If the command `show` refuses the order in a report, it prints below the picture whether another
-//! order explains the calls.
+//! The commands `judge` and `stats`. `judge` reads the recorded calls of a set and prints whether some order explains
+//! the calls. `stats` counts the calls. The crate also extends the command `show`: if a report's order is refused, the
+//! lines below the picture state whether another order explains the calls.
 #![tactic(auto)]
 
 mod clashes;

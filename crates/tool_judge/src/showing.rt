@@ -15,15 +15,15 @@ const UNKNOWN: &[u8] = b"it is not known whether another order explains this rep
 const NOT_INCREASING: &[u8] =
     b"not linearizable\nno order leaves these keys, which do not increase\n";
 
-/// A statement about all orders of a report's calls, not only about the order in the report.
+/// A statement about all orders of a report's calls, not only about the order in that report.
 #[derive(Drop)]
 pub enum Claim {
     /// No order ends with the report's final keys, because these keys are not in increasing order.
     NotIncreasing,
-    /// No order explains the call with this number, because no set can return this reply to it.
+    /// No order explains the call with this number, because no set can return the reply that the call has.
     NoSuchReply(u32, Call, Reply),
-    /// No order explains the calls and ends with the final keys. Contains the reason and, if they were found, the two
-    /// contradicting calls.
+    /// No order explains the calls and ends with the final keys. Contains the reason and, if found, two contradicting
+    /// calls.
     NotLinearizable(Refusal, Option<Clash>),
     /// Some order explains the calls and ends with the final keys.
     Explained,
@@ -32,7 +32,7 @@ pub enum Claim {
     Unknown,
 }
 
-/// Returns `true` if a set can return this reply to this call.
+/// Returns `true` if a set can return `reply` to `call`.
 fn is_reply_to(call: Call, reply: Reply) -> bool {
     match call {
         Call::Add(_) => matches!(reply, Reply::True | Reply::False | Reply::Full),
@@ -58,8 +58,8 @@ fn no_such_reply(calls: &[CallRecord]) -> Option<Claim> {
     None
 }
 
-/// Returns the call of the history that corresponds to `read`, a call as the judge read it. (The judge reads a
-/// `ceiling`, or an `add` that returned full, as a `contains`.)
+/// Returns the call of the history that corresponds to `read`, a call in the form in which the judge read it. (The
+/// judge reads a `ceiling`, or an `add` that returned full, as a `contains`.)
 fn recorded_call(history: &History, read: StreamCall) -> StreamCall {
     let calls = history.calls();
     let place = calls.partition_point(|made| u64::from(made.begun) < read.begun);
@@ -74,7 +74,7 @@ fn recorded_call(history: &History, read: StreamCall) -> StreamCall {
     }
 }
 
-/// Replaces the calls in a contradiction by the corresponding calls of the history.
+/// Replaces the calls in a contradiction with the corresponding calls of the history.
 fn as_made(history: &History, clash: Clash) -> Clash {
     Clash {
         was: clash.was,
@@ -116,7 +116,7 @@ fn no_such_reply_text(
     Ok(text.into_bytes())
 }
 
-/// Returns the lines below a picture: whether some order explains its calls.
+/// Returns the lines below a picture. They state whether some order explains the picture's calls.
 fn claim_text(alloc: Global, picture: &Picture) -> Result<Vec<u8>, AllocError> {
     match claim_on(alloc, picture)? {
         Claim::NotIncreasing => Vec::from_slice(alloc, NOT_INCREASING),

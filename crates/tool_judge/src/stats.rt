@@ -8,7 +8,7 @@ use std::collections::{BTreeMap, BTreeSet};
 use std::io::Read;
 use tool_base::{Answer, READ_SIZE, Trouble};
 
-/// Stands for the end of a pending call: later than every end in a recording.
+/// The end of a pending call. This value is greater than every end in a recording.
 const NEVER: u64 = u64::MAX;
 
 /// Counts of the calls of one operation.
@@ -41,14 +41,15 @@ impl Replies {
     }
 }
 
-/// A summary of the calls so far (of all calls, or of the calls on one key), for counting the calls that overlap.
+/// A summary of the calls so far (of all calls, or of the calls on one key). The summary suffices to count the calls
+/// that overlap another call.
 #[derive(Clone, Copy)]
 struct Span {
-    /// The latest end of these calls.
+    /// The latest end of the summarized calls.
     end: u64,
     /// The end of the call that began last.
     last_end: u64,
-    /// Whether the call that began last overlaps a call before it.
+    /// Whether the call that began last overlaps an earlier call.
     is_counted: bool,
 }
 
@@ -59,9 +60,9 @@ const NO_SPAN: Span = Span {
 };
 
 impl Span {
-    /// Adds the next call. Returns how many of two calls, the new one and the one before, are newly known to overlap
-    /// another call. No earlier call can be new: if it overlaps the new call, then it also overlaps the call that began
-    /// after it.
+    /// Adds a call to the summary. Returns how many of two calls, the added one and the one before it, are newly found
+    /// to overlap another call. No earlier call can be newly found: if an earlier call overlaps the added one, then it
+    /// also overlaps the call that began after it.
     fn add(&mut self, begun: u64, end: u64) -> u64 {
         let overlaps = self.end > begun;
         let last_overlaps = self.last_end > begun && !self.is_counted;
@@ -74,7 +75,7 @@ impl Span {
     }
 }
 
-/// Counts of the calls so far. Their size in memory grows with the numbers of keys, threads and pending calls.
+/// Counts of the calls so far. The size in memory grows with the numbers of keys, threads and pending calls.
 #[derive(Drop)]
 struct Counts {
     adds: Replies,
@@ -85,7 +86,7 @@ struct Counts {
     whole: Span,
     overlapping: u64,
     overlapping_of_key: u64,
-    /// The ends of the calls that are pending when the last call begins.
+    /// The ends of the calls that are pending when the most recent call begins.
     ends: Vec<u64>,
     most_pending: usize,
 }
@@ -106,7 +107,7 @@ impl Counts {
         }
     }
 
-    /// Adds the next call. Calls must be added in the order in which they began.
+    /// Adds a call. Calls must be added in the order in which they began.
     fn add(&mut self, call: StreamCall) -> Result<(), AllocError> {
         let begun = call.begun;
         let end = match call.ended {
@@ -157,7 +158,7 @@ impl Counts {
     }
 }
 
-/// Writes the counts of an operation.
+/// Writes the line with the counts of one operation.
 fn put_replies(out: &mut String, word: &str, replies: Replies) -> Result<(), AllocError> {
     let Replies {
         returned_true,
@@ -170,9 +171,9 @@ fn put_replies(out: &mut String, word: &str, replies: Replies) -> Result<(), All
     Ok(())
 }
 
-/// Counts the calls of a recording: by operation and reply, the pending calls, the threads and keys, the calls that
-/// overlap another call, and the most calls that are pending at the same time. Allocates. Blocks while reading the
-/// input.
+/// Counts the calls of a recording: by operation and reply, the pending calls, the threads and keys, and the calls that
+/// overlap another call. Also finds the maximum number of calls that are pending at the same time. Allocates. Blocks
+/// while reading the input.
 ///
 /// # Errors
 ///

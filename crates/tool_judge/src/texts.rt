@@ -27,8 +27,8 @@ fn is_few(overlapped: u64, calls: u64) -> bool {
     overlapped.saturating_mul(20) < calls
 }
 
-/// Returns the lines after `ok N calls`: the number of calls that overlap a change of their key, advice if these are
-/// few, and a remark if the recording was cut off.
+/// Returns the lines after `ok N calls`: the number of calls that overlap a change of their key, advice if there are
+/// few such calls, and a remark if the recording was cut off.
 fn notes(
     alloc: Global,
     calls: u64,
@@ -70,8 +70,8 @@ fn calls_of_key(alloc: Global, key: u32) -> Result<Vec<u8>, AllocError>
     Ok(text.into_bytes())
 }
 
-/// Returns the rest of the second line. If a moment (a time in the recording) is given, no order explains the key's
-/// calls up to this moment. Without a moment, no order ends with the key's final state.
+/// Returns the rest of the second line. If `moment` (a time in the recording) is given, the line states that no order
+/// explains the key's calls up to `moment`. Otherwise it states that no order ends with the key's final state.
 fn extent(alloc: Global, moment: Option<u64>) -> Result<Vec<u8>, AllocError>
     ensures { IfOk result (λ text. text.items ≡ extent moment) }
 {
@@ -93,7 +93,7 @@ fn refused_lines(alloc: Global, refusal: Refusal) -> Result<Vec<u8>, AllocError>
     Ok(text)
 }
 
-/// Returns the lines of a contradiction about a key. The text is empty if there is no contradiction.
+/// Returns the lines of a contradiction about a key, or an empty text if `clash` is `None`.
 fn clash_text(alloc: Global, key: u32, clash: Option<Clash>) -> Result<Vec<u8>, AllocError>
     ensures { IfOk result (λ text. text.items ≡ clash_text key clash) }
 {
@@ -117,15 +117,16 @@ fn refused_text(
     Ok(text)
 }
 
-/// Returns when the second call of a contradiction ended. Returns `None` if this call is pending, if the contradiction
-/// is with the final state, or if there is no contradiction.
+/// Returns when the second call of a contradiction ended. Returns `None` if the second call is pending, if the
+/// contradiction is with the final state, or if there is no contradiction.
 fn end_of(clash: Option<Clash>) -> Option<u64> {
     let (end, _) = clash?.second?.ended?;
     Some(end)
 }
 
 /// Returns a note if the second call of the contradiction ended after the moment (a time in the recording) of the
-/// refusal: the judge found no two contradicting calls up to that moment. Otherwise returns an empty string.
+/// refusal. The note states that the judge found no two contradicting calls up to that moment. Otherwise returns an
+/// empty string.
 fn later_note(alloc: Global, refusal: Refusal, clash: Option<Clash>) -> Result<String, AllocError> {
     match (refusal.moment, end_of(clash)) {
         (Some(moment), Some(end)) if moment < end => format!(in alloc;

@@ -1,4 +1,4 @@
--- The contract of the command `check`: its answer for each input.
+-- The contract of the command `check`: the correct answer for each input.
 use Rattle.std.specs.Prelude.{◌≡◌, ◌≢◌, ℕ, ◌⊎◌, List, [], ◌++◌, codes, Option, Some, None, Result, Ok, Err}
 use Rattle.std.specs.Fmt.{decimal}
 use Rattle.lset_history.specs.declared.fault.OrderFault.{OrderFault}
@@ -21,8 +21,8 @@ pub record IsRefused (r : ReportValue) (fault : OrderFault) : Type 0 where
   pub of_the_order : fault ≢ Memory
   pub not_explained : Explains r.history r.order r.keys → ⊥
 
--- Holds if this verdict on a report is correct. `None` is correct if the order explains the history and leaves exactly
--- the final keys. `Some` must contain the order's first error.
+-- Holds if a verdict on a report is correct. `None` is correct if the order explains the history and leaves exactly the
+-- final keys. `Some` must contain the order's first error.
 abbrev pub IsVerdict : ReportValue → Option OrderFault → Type 0
 IsVerdict r None = Explains r.history r.order r.keys
 IsVerdict r (Some fault) = IsRefused r fault
@@ -43,17 +43,17 @@ abbrev pub answer_of : Option OrderFault → AnswerValue
 answer_of None = record { text = codes "ok\n"; status = 0 }
 answer_of (Some fault) = record { text = refusal_text fault; status = 1 }
 
--- Holds if this answer of `check` has the correct verdict on this report.
+-- Holds if the answer of `check` states a correct verdict on the report `r`.
 abbrev pub IsAnswerOn : ReportValue → AnswerValue → Type 0
 IsAnswerOn r answer = (verdict : Option OrderFault) × IsVerdict r verdict × (answer ≡ answer_of verdict)
 
--- Holds if the error is the first error of the text.
+-- Holds if `t` is the first error of the text. The argument before `t` is the result of reading the text.
 abbrev pub IsFirstFault : Result ReportValue LineFault → Trouble → Type 0
 IsFirstFault (Err fault) t = t ≡ of_line_fault fault
 IsFirstFault (Ok r) t = ⊥
 
--- Holds if the result of `check` for a text is correct: the answer for the text's report, the first error of the text,
--- or a failed allocation.
+-- Holds if a result of `check` for a text is correct: the answer for the report in the text, the first error of the
+-- text, or a failed allocation.
 abbrev pub ChecksText : List ℕ → Made → Type 0
 ChecksText bytes (Ok answer) = (r : ReportValue) × IsReport r × (bytes ≡ report_text r) × IsAnswerOn r answer
 ChecksText bytes (Err t) = (t ≡ trouble.Memory) ⊎ IsFirstFault (reading bytes) t

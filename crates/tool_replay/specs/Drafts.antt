@@ -1,4 +1,4 @@
--- The event lines of a draft: those of a schedule, and lines that state where a thread stops.
+-- The event lines of a draft: the event lines of a schedule, and lines that state where a thread stops.
 use Rattle.std.specs.Prelude.{◌≡◌, ℕ, false, List, [], ◌∷◌, map, codes, Result}
 use Rattle.lset_text.specs.declared.words.Version.{Version}
 use Rattle.lset_text.specs.declared.causes.Cause.{Cause}
@@ -17,7 +17,7 @@ out_kind = (word (codes "go") ∷ any ∷ word (codes "out") ∷ [], λ t. Out t
 abbrev pub to_kind : LineKind DraftLine
 to_kind = (word (codes "go") ∷ any ∷ word (codes "to") ∷ number 1 MOST_ROW ∷ [], λ t. To t.1.0 t.1.1.1.0)
 
--- Returns the minimum number of events that the line can expand to.
+-- Returns the minimum number of events to which the line can expand.
 abbrev pub smallest_count : DraftLine → ℕ
 smallest_count (Plain line) = event_count line
 smallest_count (Out thread) = 1
@@ -26,10 +26,10 @@ smallest_count (To thread row) = 1
 abbrev pub drafts : EventLines DraftLine
 drafts = record { kinds = out_kind ∷ to_kind ∷ map (kind_as Plain) events.kinds; count = smallest_count }
 
--- Holds if a line with these fields does not state where a thread stops.
+-- Holds if a line with the fields `fields` does not state where a thread stops.
 abbrev pub IsPlain : List (List ℕ) → Type 0
 IsPlain fields = (v : Version) → (have_form v out_kind.0 fields ≡ false) × (have_form v to_kind.0 fields ≡ false)
 
--- Holds if a line with these fields states where a thread stops, and `read` is the result of reading this line.
+-- Holds if a line with the fields `fields` states where a thread stops, and `read` is the result of reading the line.
 abbrev pub Stops : List (List ℕ) → Result DraftLine Cause → Type 0
 Stops fields read = (v : Version) → first_of v Event drafts.kinds fields ≡ read

@@ -1,4 +1,4 @@
--- The contract of the command `replay`: the report that it prints for each input.
+-- The contract of the command `replay`: the report that `replay` prints for each input.
 use Rattle.std.specs.Prelude.{◌≡◌, ℕ, ◌⊎◌, List, Result, Ok, Err}
 use Rattle.lset_lists.specs.Tables.{table_of}
 use Rattle.lset_text.specs.declared.causes.Cause.TheVariants as cause
@@ -31,13 +31,12 @@ of_replay (replay.Busy number) = Line number cause.Busy
 of_replay (replay.Idle number) = Line number cause.Idle
 of_replay replay.Memory = Memory
 
--- Holds if the error is the first error of the text or, if the text is a schedule, the error of its replay.
+-- Holds if `t` is the first error of the text or, if the text is a schedule, the error of replaying that schedule.
 abbrev pub IsFirstFault : Result Plan LineFault → Trouble → Type 0
 IsFirstFault (Err fault) t = t ≡ of_line_fault fault
 IsFirstFault (Ok p) t = (refusal : ReplayFault) × (t ≡ of_replay refusal) × IsRefusal (table_of p.kind) (opening_in p) (events_of p) refusal
 
--- Holds if the result of `replay` for a text is correct: the text of the report, the first error, or a failed
--- allocation.
+-- Holds if a result of `replay` for a text is correct: the text of the report, the first error, or a failed allocation.
 abbrev pub ReplaysText : List ℕ → Made → Type 0
 ReplaysText bytes (Ok answer) =
     (p : Plan) × (r : ReportValue) × IsReported bytes p r × (answer ≡ record { text = report_text r; status = 0 })

@@ -1,11 +1,12 @@
 use lset_schedule::{Body, Line};
 
-/// The largest row of a step table that a line of a draft (a schedule that can state where a thread stops) can name.
+/// The largest row of a step table that a line of a draft can name. (A draft is a schedule that can state where a
+/// thread stops.)
 pub const MOST_ROW: u32 = 255;
 
 /// A line of a draft. `Plain` is a line of a schedule. `Out(thread)` steps a thread until its call has ended.
-/// `To(thread, row)` steps a thread until it is at this row of its list's step table, 1 to 255. `Out` and `To` take at
-/// least one step.
+/// `To(thread, row)` steps a thread until it is at row `row` (1 to 255) of its list's step table. `Out` and `To` take
+/// at least one step.
 #[derive(Clone, Copy)]
 pub enum DraftLine {
     Plain(Line),

@@ -79,9 +79,9 @@ impl EventLine for DraftLine {
 ///
 /// # Errors
 ///
-/// Returns the first wrong line, and the first check that this line fails. The checks are the checks of `read_schedule`
-/// for version 2, in the same order. The cause is `Number` if a thread is not a number or a row of the step table is
-/// not a number from 1 to 255. A line without a count is counted as one event.
+/// Returns the first wrong line, and the first check that the line fails. The checks, and their order, are those of
+/// `read_schedule` for version 2. The cause is `Number` if a thread is not a number or a row of the step table is not a
+/// number from 1 to 255. A line without a count is counted as one event.
 pub fn read_draft(alloc: Global, bytes: &[u8]) -> Result<Draft, LineFault> {
     read_text(alloc, Version::Two, TITLE.as_bytes(), bytes)
 }

@@ -3,7 +3,7 @@ use lset_text::kind_word;
 use std::alloc::{AllocError, Global};
 use tool_base::{Answer, Trouble, ValueName};
 
-/// The output that the command `example` should print.
+/// What the command `example` should print.
 #[derive(Clone, Copy)]
 pub enum ExampleRequest {
     /// The names of all examples.
@@ -13,8 +13,9 @@ pub enum ExampleRequest {
 }
 
 /// Reads the arguments of the command `example`. Without a name, the command prints all names. With a name, it prints
-/// this example's schedule; with a name and `broken`, the report of a broken list (a list without one of its checks).
-/// Returns the error `Name` if no example has the name, and `Unbroken` if the example has no such report.
+/// the example's schedule. With a name and `broken`, it prints the report of a broken list (a list without one of its
+/// checks). Returns the error `Name` if no example has the name, and `Unbroken` if the example has no report of a
+/// broken list.
 pub fn read_example_request(
     name: Option<&[u8]>,
     broken: bool,

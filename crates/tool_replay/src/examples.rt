@@ -13,8 +13,8 @@ pub(crate) struct Example {
     pub about: &'static str,
     /// The schedule's text.
     pub schedule: &'static str,
-    /// A report that the list would produce without the check that the example is about. No order explains its calls
-    /// and final keys, so `check` refuses it. Only six examples have such a report.
+    /// A report that the list would produce without the check that the example is about. `check` refuses the report,
+    /// because no order explains its calls and final keys. Only six examples have a broken report.
     pub broken_report: Option<&'static str>,
 }
 
@@ -148,7 +148,7 @@ pub(crate) const ALL: [Example; 18] = [
     },
 ];
 
-/// Returns the example with this name; `None` if there is none.
+/// Returns the example with the name `name`, or `None` if no example has that name.
 pub fn named(name: &[u8]) -> Option<Example> {
     for example in &ALL {
         if example.name.as_bytes() == name {

@@ -28,7 +28,7 @@ fn make_plain<M: Machine>(world: &mut World<M>, line: Line, left: u32) -> Result
     }
 }
 
-/// Executes one line of a draft, with at most `left` events. Returns the schedule line that replaces the draft line.
+/// Executes one line of a draft, with at most `left` events. Returns the line of the schedule that replaces `line`.
 fn make_line<M: Machine>(world: &mut World<M>, line: DraftLine, left: u32) -> Result<Line, Cause> {
     let most = left.min(MOST_STEPS);
     match line {
@@ -75,7 +75,8 @@ fn lines_on<M: Machine>(alloc: Global, draft: &Draft) -> Result<Vec<Line>, Troub
     Ok(lines)
 }
 
-/// A task that replaces the lines of a draft by schedule lines. `on_list` runs it on the list of the draft's kind.
+/// A task that replaces the lines of a draft by schedule lines. `on_list` runs the task on the list of the draft's
+/// kind.
 #[derive(Clone, Copy)]
 struct Expanding<'a> {
     alloc: Global,

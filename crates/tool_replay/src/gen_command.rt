@@ -13,7 +13,7 @@ use std::alloc::Global;
 use std::io::Write;
 use tool_base::{Answer, RandomRequest, Trouble, deliver, read_random_request};
 
-/// A task that generates a random schedule. `on_list` runs it on the list of the requested kind.
+/// A task that generates a random schedule. `on_list` runs the task on the list of the requested kind.
 #[derive(Clone, Copy)]
 struct Generating {
     alloc: Global,
@@ -49,8 +49,7 @@ fn schedule_for(alloc: Global, request: RandomRequest) -> Result<Schedule, GenFa
     on_list(request.kind, Generating { alloc, request })
 }
 
-/// Returns the schedule that `gen` prints for this request, with exit status 0. Returns `Memory` if an allocation
-/// fails.
+/// Returns the schedule that `gen` prints for `request`, with exit status 0. Returns `Memory` if an allocation fails.
 pub fn generate_text(alloc: Global, request: RandomRequest) -> Result<Answer, Trouble>
     requires { IsAccepted request.threads request.quota request.keys }
     ensures { Answers (Ok request) (tools.view result) }

@@ -4,8 +4,8 @@ use lset_replay::Steps;
 use lset_steps::{Event, Machine, World};
 use lset_text::Cause;
 
-/// Steps a thread until it is at row `row` of its step table, at least once and at most `most` times. Returns the
-/// number of steps. Row 0 means that the call has ended. Returns the error `Waits` if the thread is at another row
+/// Steps a thread, at least once and at most `most` times, until it is at row `row` of its step table. Returns the
+/// number of steps. Row 0 means that the call has ended. Returns the error `Waits` if the thread is not at row `row`
 /// after `most` steps.
 pub(crate) fn steps_to<M: Machine>(
     world: &mut World<M>,

@@ -1,4 +1,4 @@
-//! Writes traces. A trace contains a line for each event of a schedule. The line describes the effect of the event.
+//! Writes traces. A trace contains a line for each event of a schedule. Each line describes the effect of its event.
 
 mod chunks;
 mod event_line;
@@ -21,8 +21,8 @@ use traced_run::trace_into;
 pub struct Trace {
     /// Whether to write the chain of nodes after each event that changed it.
     pub chains: bool,
-    /// The broken list (a list without one of its checks) that runs the schedule. The trace's header names it in a line
-    /// `lacks NAME`. `None` selects the list that the schedule names.
+    /// The broken list (a list without one of its checks) that runs the schedule. A line `lacks NAME` in the trace's
+    /// header names the broken list. `None` selects the list that the schedule names.
     pub lacks: Option<BrokenList>,
 }
 
@@ -35,8 +35,8 @@ impl Tool for Trace {
 }
 
 /// Traces the schedule in `input` to `output`. Each event is written soon after it is executed, so the whole text is
-/// never in memory. Returns an answer without text. Its status is 1 if an event was refused, otherwise 0. If an
-/// allocation or a write fails, a part of the trace can already have been written. Allocates.
+/// never in memory. Returns an answer without text. The answer's status is 1 if an event was refused, otherwise 0. If
+/// an allocation or a write fails, part of the trace can already have been written. Allocates.
 pub fn trace_events<R: Read, W: Write>(
     alloc: Global,
     trace: Trace,

@@ -26,7 +26,8 @@ fn are_of_first(lines: &[Line]) -> bool
     true
 }
 
-/// Returns the lowest version of the schedule format that can express these opening keys (keys at the start) and lines.
+/// Returns the lowest version of the schedule format that can express the opening keys (keys at the start) in `opening`
+/// and the lines in `lines`.
 pub(crate) fn smallest_version(opening: &[u32], lines: &[Line]) -> Version
     ensures opening { HasOpening result opening.now }
     ensures calls { AllByRecursion (HasCallOfLine result) lines.now }

@@ -17,8 +17,8 @@ pub enum Form {
     Svg,
 }
 
-/// Parses a number from `smallest` to 4,294,967,295. Returns `absent` if `text` is `None`, and `None` if the text is
-/// not such a number.
+/// Parses a number from `smallest` to 4,294,967,295. Returns `absent` if `text` is `None`. Returns `None` if the text
+/// is not a number in that range.
 fn number_or(text: Option<&str>, smallest: u32, absent: u32) -> Option<u32> {
     match text {
         Some(text) => number(text.as_bytes(), smallest, u32::MAX),

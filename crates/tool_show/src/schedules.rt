@@ -6,7 +6,7 @@ use lset_replay::{RunCalls, calls_of, world_of};
 use lset_schedule::Schedule;
 use std::alloc::{AllocError, Global};
 
-/// A task that runs a schedule. `on_list` runs it on the list of the schedule's kind.
+/// A task that runs a schedule. `on_list` runs the task on the list of the schedule's kind.
 #[derive(Clone, Copy)]
 struct Running<'a> {
     alloc: Global,
@@ -26,12 +26,12 @@ impl Task for Running<'_> {
     }
 }
 
-/// Runs a schedule and returns its picture: the calls, an order that explains them, the linearization points, and the
-/// final keys.
+/// Runs a schedule and returns a picture of the run: the calls, an order that explains them, the linearization points,
+/// and the final keys.
 ///
 /// `schedule` must be within the limits, as every schedule from `read_schedule` is. If an event is not enabled, the
-/// picture ends before it and names its line number and the cause (`NoThread`, `Busy` or `Idle`). Returns `AllocError`
-/// if an allocation fails. (Such pictures of histories are due to Herlihy and Wing.)
+/// picture ends before that event, and names the event's line number and the cause (`NoThread`, `Busy` or `Idle`).
+/// Returns `AllocError` if an allocation fails. (Such pictures of histories are due to Herlihy and Wing.)
 pub(crate) fn picture_of_replay(alloc: Global, schedule: &Schedule) -> Result<Picture, AllocError>
     requires { IsSchedule (view schedule.now) }
 {

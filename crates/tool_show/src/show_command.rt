@@ -22,8 +22,8 @@ pub struct Show {
     pub form: Form,
     /// The range of moments (positions in the history) to draw.
     pub window: Window,
-    /// The broken list (a list without one of its checks) that runs the schedule; `None` for the list that the schedule
-    /// names.
+    /// The broken list (a list without one of its checks) that runs the schedule. `None` selects the list that the
+    /// schedule names.
     pub lacks: Option<BrokenList>,
 }
 
@@ -37,8 +37,9 @@ fn status_of(picture: &Picture) -> u8 {
 }
 
 impl Show {
-    /// Reads a schedule or a report and returns its picture. If a broken list (a list without one of its checks) is
-    /// selected, the text must be a schedule, and the picture shows the report of its run on that list. Allocates.
+    /// Reads a schedule or a report and returns its picture. If `self` selects a broken list (a list without one of its
+    /// checks), the text must be a schedule, and the picture shows the report of the schedule's run on the broken list.
+    /// Allocates.
     ///
     /// The error is `Memory`, or `Line` with the first error of the text. The text is read by `report_broken` if a
     /// broken list is selected, by `read_report` if the text starts with a report's title, and otherwise by

@@ -1,4 +1,4 @@
--- Every program (a thread's list of calls) has the requested number of calls, and this number fits in 32 bits.
+-- Lemmas: every program (a thread's list of calls) has the requested number of calls, and that number fits in 32 bits.
 use Rattle.std.proofs.Common.{◌≡◌, ℕ, zero, suc, ◌+◌, ◌<◌, ◌%◌, ◌^◌, List, [], ◌∷◌, length, map, All, refl, sym, ap, subst, arith}
 use Rattle.std.specs.List.{range_with_len}
 use Rattle.std.proofs.lemmas.List.Elements.{All-cons, All-nil, All-head, All-tail}

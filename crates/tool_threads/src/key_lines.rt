@@ -12,7 +12,7 @@ pub(crate) fn put_keys(out: &mut String, keys: &[u32]) -> Result<(), AllocError>
     Ok(())
 }
 
-/// The lines of an input that have not been read yet, and the number of the first of them.
+/// The lines of an input that have not been read yet, and the line number of the first unread line.
 #[derive(Clone, Copy)]
 struct Remaining<'a> {
     line: u64,
@@ -44,7 +44,7 @@ impl<'a> Remaining<'a> {
     }
 }
 
-/// Skips the lines that a server prints before its keys. Each of these lines is optional.
+/// Skips the lines that a server prints before its keys. Each line is optional.
 fn after_head(text: &[u8]) -> Remaining<'_> {
     let whole = Remaining { line: 1, text };
     whole
@@ -72,7 +72,7 @@ fn add_key(keys: &mut Vec<u32>, line: &[u8]) -> Result<(), Cause> {
     Ok(())
 }
 
-/// Reads the remaining lines. Each of them must be `key K`.
+/// Reads the remaining lines. Each line must be `key K`.
 fn keys_of_lines(alloc: Global, left: Remaining<'_>) -> Result<Vec<u32>, LineFault> {
     let mut keys = Vec::new(alloc);
     let mut line = left.line;
@@ -90,17 +90,17 @@ fn keys_of_lines(alloc: Global, left: Remaining<'_>) -> Result<Vec<u32>, LineFau
 
 /// Reads the opening keys of a set (the keys at the start) from lines `key K`, in strictly increasing order. Allocates.
 ///
-/// Skips the lines that a server prints before its keys: `listening A`, `sessions N` and `calls N`, in this order, each
+/// Skips the lines that a server prints before its keys: first `listening A`, then `sessions N`, then `calls N`, each
 /// optional, with any A and N. Therefore the output of one server can be the input of the next.
 ///
 /// # Errors
 ///
-/// Returns the first wrong line, with the first of these checks that fails:
+/// Returns the first wrong line, with the first of the following checks that fails:
 /// - the line ends with a newline;
 /// - `Line`: the line has two fields, and the first is `key`;
 /// - `Number`: the key is a decimal from 0 to 4,294,967,295 without leading zeros;
 /// - `TooMany`: at most `MOST_OPENING` keys precede the line;
-/// - `Opening`: the key is greater than the previous one.
+/// - `Opening`: the key is greater than the previous key.
 ///
 /// Returns `Memory` if an allocation fails.
 pub fn read_keys(alloc: Global, text: &[u8]) -> Result<Vec<u32>, LineFault> {

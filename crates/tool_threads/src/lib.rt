@@ -1,5 +1,5 @@
-//! The commands `run` and `serve`. `run` makes random calls in threads on one set. `serve` is a server for a set,
-//! on the loopback interface.
+//! The commands `run` and `serve`. `run` makes random calls on one set in several threads. `serve` runs a server for a
+//! set on the loopback interface.
 #![tactic(auto)]
 
 mod key_lines;

@@ -25,7 +25,8 @@ struct Counts {
 }
 
 impl Counts {
-    /// Counts a call that returned this reply. A reply of `ceiling` only counts as a call.
+    /// Counts a call with the reply `reply`. A reply of `ceiling` (the smallest key not less than the argument) is
+    /// counted as a call only.
     fn add(&mut self, reply: Reply) {
         self.calls = self.calls.wrapping_add(1);
         match reply {
@@ -37,9 +38,9 @@ impl Counts {
     }
 }
 
-/// Runs the programs of one round (each is the list of calls of one thread) in threads, on a set of the list `M` that
-/// opens with the keys `opening`. `M` must be the list that the request names. Returns the error `SystemCause::Opening`
-/// if there are more than 1,048,576 keys.
+/// Runs the programs of one round in threads, on a set of the list `M` that opens with the keys `opening`. (A program
+/// is the list of calls of one thread.) `M` must be the list that the request names. Returns the error
+/// `SystemCause::Opening` if `opening` has more than 1,048,576 keys.
 fn run_round<M: Running + Send + Sync, R: Threads + Wait + Sync>(
     rt: &R,
     alloc: Global,
@@ -106,13 +107,14 @@ fn run_rounds<M: Running + Send + Sync, R: Threads + Wait + Sync>(
     Ok(summary_text(alloc, counts, &keys)?)
 }
 
-/// Runs random programs (each is the list of calls of one thread) in threads, in rounds, with a new set for each round.
-/// The answer has exit status 0.
+/// Runs random programs in threads. (A program is the list of calls of one thread.) The programs run in rounds, and
+/// each round has a new set. The answer has exit status 0.
 ///
-/// All programs of a round run at the same time on one set. The programs of round `i`, counted from 0, are generated
-/// from the seed plus `64 * i` (wrapping). The first set opens empty, and every later set with the final keys of the
-/// previous round. The text begins with the lines `calls N`, `true N`, `false N`, `full N` and `keys N`. A line `key k`
-/// follows for each final key of the last round, in increasing order. Allocates. Blocks until all threads have ended.
+/// All programs of a round run at the same time on the round's set. The programs of round `i`, counted from 0, are
+/// generated from the seed plus `64 * i` (wrapping). The first set opens empty, and every later set with the final keys
+/// of the previous round. The text begins with the lines `calls N`, `true N`, `false N`, `full N` and `keys N`. A line
+/// `key k` follows for each final key of the last round, in increasing order. Allocates. Blocks until all threads have
+/// ended.
 pub fn run_lives<R: Threads + Wait + Sync>(
     rt: &R,
     alloc: Global,
@@ -135,9 +137,9 @@ pub fn run_lives<R: Threads + Wait + Sync>(
 /// the command's arguments, as `read_lives_request` reads them.
 ///
 /// The exit status is 0 if the answer was written. Otherwise one line about the error is written to `faults`, if
-/// possible. The exit status is then 2 if an argument is missing or wrong, 3 if an allocation failed, and 1 for any
-/// other error. An example is a round that would open with more than 1,048,576 keys. Allocates. Blocks until all
-/// threads have ended.
+/// possible, and the exit status is 2 if an argument is missing or wrong, 3 if an allocation failed, and 1 for any
+/// other error. An example of another error is a round that would open with more than 1,048,576 keys. Allocates. Blocks
+/// until all threads have ended.
 pub fn tool_run<R: Threads + Wait + Sync, W: Write, F: Write>(
     rt: &R,
     alloc: Global,

@@ -83,8 +83,8 @@ fn serve_list<
 /// Serves a set that opens with the keys `keys`, on the loopback interface. The answer has exit status 0 and the lines
 /// `sessions N` and `calls N`, followed by `key k` for each final key in increasing order.
 ///
-/// The server creates the set, listens, writes `listening 127.0.0.1:P` to `output` and flushes it. Only then does the
-/// server start its threads and accept connections, so the line is written even if a thread cannot be started.
+/// The server creates the set, listens, writes `listening 127.0.0.1:P` to `output` and flushes `output`. Only then does
+/// the server start its threads and accept connections, so the line is written even if a thread cannot be started.
 /// Allocates. Blocks until all connections have ended.
 ///
 /// A `match` selects the list, because the tasks of `lset_lists::on_list` run step tables, not sets with threads.
@@ -107,7 +107,7 @@ pub fn serve_set<
     }
 }
 
-/// Serves a set that opens with the keys in `input`. Reads `input` to its end first, as `read_keys` does, so the output
+/// Serves a set that opens with the keys in `input`. First reads `input` to its end, as `read_keys` does, so the output
 /// of one server can be the input of the next. The server does not store the set.
 pub fn serve_set_of<
     R: Net<Listener = TcpListener, Stream = TcpStream> + Threads + Wait + Clock + Sync,

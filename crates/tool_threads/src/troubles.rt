@@ -3,8 +3,8 @@ use lset_server::ServeCause;
 use lset_work::WorkCause;
 use tool_base::{SystemCause, Trouble, ValueName};
 
-/// Converts the error of `open_with` to the program's error. The number of seats (of threads that can call) and the
-/// quota were checked when the arguments were read, so they are within the limits.
+/// Converts the error of `open_with` to the program's error. The number of seats (per-thread handles to the set) and
+/// the quota (successful adds per seat) were checked when the arguments were read, so both are within the limits.
 pub(crate) fn opening_trouble(fault: OpenFault) -> Trouble {
     match fault {
         OpenFault::Seats => Trouble::Bad(ValueName::Threads),

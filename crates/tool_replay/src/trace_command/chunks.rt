@@ -1,5 +1,5 @@
-//! A buffer of fixed size for the text of a trace. The longest line of an event fits into it, so writing the line does
-//! not allocate.
+//! A buffer of fixed size for the text of a trace. The longest line of an event fits into the buffer, so writing that
+//! line does not allocate.
 use arrayvec::ArrayString;
 use itoa::Buffer;
 

@@ -1,4 +1,4 @@
-//! Writes the line of an event in a trace.
+//! Appends the line of an event to a trace.
 use crate::trace_command::chunks::{Chunk, put, put_number};
 use crate::trace_command::table_words::{TableWord, put_key, put_name, put_node, put_value};
 use lset_replay::{CallEnd, Deed, TracedEvent};
@@ -19,7 +19,7 @@ fn put_reply(out: &mut Chunk, reply: Reply) {
     }
 }
 
-/// Writes an access to a word, and the value that it read. A store is written with the value that it stored.
+/// Appends a description of a memory access to `out`: the word, and the value that was loaded or stored.
 fn put_access(out: &mut Chunk, action: Action, seen: u64) {
     let (verb, index) = match action {
         Action::Load(index) => ("load ", index),
@@ -46,7 +46,7 @@ fn put_access(out: &mut Chunk, action: Action, seen: u64) {
     put_value(out, word, seen);
 }
 
-/// Writes the name and the new value of a register that holds a node. Writes nothing if the value did not change.
+/// Appends the name and the new value of a register that holds a node. Appends nothing if the value did not change.
 fn put_node_change(out: &mut Chunk, name: &str, before: u64, after: u64) {
     if before != after {
         put(out, name);
@@ -54,7 +54,7 @@ fn put_node_change(out: &mut Chunk, name: &str, before: u64, after: u64) {
     }
 }
 
-/// Writes the name and the new value of a register that holds a key. Writes nothing if the value did not change.
+/// Appends the name and the new value of a register that holds a key. Appends nothing if the value did not change.
 fn put_key_change(out: &mut Chunk, name: &str, before: u64, after: u64) {
     if before != after {
         put(out, name);
@@ -62,7 +62,7 @@ fn put_key_change(out: &mut Chunk, name: &str, before: u64, after: u64) {
     }
 }
 
-/// Writes each changed register of a thread's private state, with its new value.
+/// Appends each changed register of a thread's private state, with the register's new value.
 fn put_changes(out: &mut Chunk, before: &Local, after: &Local) {
     put_node_change(out, " pred ", before.pred, after.pred);
     put_node_change(out, " curr ", before.curr, after.curr);
@@ -83,7 +83,7 @@ fn put_changes(out: &mut Chunk, before: &Local, after: &Local) {
     }
 }
 
-/// Writes the number of a call that an event began or ended.
+/// Appends the number of a call that an event began or ended.
 fn put_call(out: &mut Chunk, number: u32) {
     put(out, " call ");
     put_number(out, u64::from(number));
@@ -97,7 +97,7 @@ fn put_begin(out: &mut Chunk, call: Call, number: u32) {
     put_call(out, number);
 }
 
-/// Writes the event's effect, the row of the step table that the thread reached, and the registers that changed.
+/// Appends the event's effect, the row of the step table that the thread reached, and the registers that changed.
 fn put_deed(out: &mut Chunk, event: &TracedEvent) {
     match event.deed {
         Deed::Begin(call) => put_begin(out, call, event.call),

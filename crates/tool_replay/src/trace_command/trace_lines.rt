@@ -42,9 +42,9 @@ impl<W: Write> Sink for Output<'_, W> {
     }
 }
 
-/// Returns the beginning of a trace, before the first event: the header and a line for each opening key (key at the
-/// start). If `lacks` names a broken list (a list without one of its checks), a line `lacks NAME` follows the line of
-/// the list.
+/// Returns the beginning of a trace, before the first event: the header, and a line for each opening key (key at the
+/// start). If `lacks` names a broken list (a list without one of its checks), the header has a line `lacks NAME` after
+/// the line of the list.
 pub(crate) fn head_of(
     alloc: Global,
     schedule: &Schedule,

@@ -17,7 +17,8 @@ use lset_words::Kind;
 use std::alloc::Global;
 use tool_base::Trouble;
 
-/// Writes the trace of a run from its first event. Returns 1 if an event is refused, which ends the trace, otherwise 0.
+/// Writes the trace of a run from its first event. Returns 1 if an event is refused, otherwise 0. A refused event ends
+/// the trace.
 fn trace<W: Steps + Drop, S: Sink>(
     schedule: &Schedule,
     run: TracedRun<W>,
@@ -58,8 +59,8 @@ fn trace_on<M: Machine, S: Sink>(
     trace(schedule, run, sink)
 }
 
-/// Traces a schedule on the list that it names. Uses a `match` instead of `on_list`, because a task of `on_list` cannot
-/// contain `sink`.
+/// Traces a schedule on the list that the schedule names. Uses a `match` instead of `on_list`, because a task of
+/// `on_list` cannot contain `sink`.
 fn trace_named<S: Sink>(
     alloc: Global,
     schedule: &Schedule,
@@ -77,8 +78,8 @@ fn trace_named<S: Sink>(
     }
 }
 
-/// Reads a schedule from `text` and traces it to the destination. Returns 1 if an event is refused, which ends the
-/// trace, otherwise 0.
+/// Reads a schedule from `text` and traces it to the destination. Returns 1 if an event is refused, otherwise 0. A
+/// refused event ends the trace.
 pub(crate) fn trace_into<S: Sink>(
     alloc: Global,
     options: Trace,

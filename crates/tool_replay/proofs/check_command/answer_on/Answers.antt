@@ -1,7 +1,7 @@
 use Rattle.std.proofs.Common.{Some, sym, refl}
 use Rattle.tool_replay.proofs.check_command.answer_on.Goals as goal
 
--- `check_order` returns the first error of the order, and the printed line names this error.
+-- Lemma: `check_order` returns the first error of the order, and the printed line names that error.
 pub returns-in_ok-refusal_text-in-Err-clause-judged :
     goal.returns-in_ok-refusal_text-in-Err-clause-judged
 returns-in_ok-refusal_text-in-Err-clause-judged c =
