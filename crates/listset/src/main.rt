@@ -9,8 +9,8 @@ use std::io::{self, ErrorKind, Write};
 use std::process::ExitCode;
 use tool_base::{Trouble, deliver, put};
 
-// The commit of the sources, and whether they are proved. A build that knows both overwrites these bytes in the program
-// (`build/version_stamp.py`), so the lengths are fixed.
+// The commit of the sources, and whether the sources are proved. A build that knows both overwrites the bytes in the
+// program (`build/version_stamp.py`), so the lengths are fixed.
 const BUILT: &str = "commit 0000000000000000000000000000000000000000\nproof unknown\n";
 
 // The message for an argument that std cannot return as a `String`. (std cannot open a file with such a name either.)
@@ -36,7 +36,7 @@ fn end_without_text(rt: &HostRuntime) -> ExitCode {
     ExitCode::from(2)
 }
 
-/// Exits because an allocation failed while the arguments were read.
+/// Exits because an allocation failed while the program read its arguments.
 fn end_without_memory(rt: &HostRuntime) -> ExitCode {
     let (output, stderr) = (&mut io::writer(rt), &mut rt.stderr());
     ExitCode::from(deliver(Err(Trouble::Memory), output, stderr))
@@ -60,7 +60,8 @@ fn asks_for_origin(words: &[&str]) -> bool {
     words.len() == 2 && words[0] == "--version" && words[1] == "--long"
 }
 
-// Passes the runtime to other functions directly: only then can the runtime start threads and open sockets.
+// Passes the runtime to other functions directly: only a runtime that is passed directly can start threads and open
+// sockets.
 fn main(rt: HostRuntime) -> ExitCode {
     let given = match words_given(&rt) {
         Ok(given) => given,

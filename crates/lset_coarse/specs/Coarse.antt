@@ -11,8 +11,8 @@ use Rattle.lset_steps.specs.declared.rows.Targets.{Targets}
 use Rattle.lset_steps.specs.Steps.{Table}
 use Rattle.lset_steps.specs.Rows.{own_slot, begun, decided_on}
 
--- The rows of the step table where a call continues after its walk: to add its key, to remove its key, or to end with
--- its reply.
+-- The rows of the step table at which a call continues after its walk: to add its key (`adds`), to remove its key
+-- (`removes`), or to end with its reply (`leaves`).
 abbrev pub targets : Targets
 targets = record { adds = 5; removes = 8; leaves = 10 }
 
@@ -29,8 +29,8 @@ next_action l =
     else if l.pc == 9 then Store (link_index l.pred) (2 * l.succ)
     else Store 0 0
 
--- Returns the thread's private state after it has loaded curr's key. If this key is smaller than the call's, the walk
--- continues. Otherwise the call has a reply or will change the set.
+-- Returns the thread's private state after it has loaded curr's key. If the key of curr is smaller than the call's key,
+-- the walk continues. Otherwise the call has a reply or will change the set.
 abbrev pub at_key : ℕ → Local → Local
 at_key seen l =
     if nat_lt seen (target l.call) then record l { pc = 4; ckey = seen }

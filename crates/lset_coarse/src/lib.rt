@@ -15,16 +15,16 @@ use lset_words::{Call, HEAD, Key, Kind, LOCK, Reply};
 #[derive(Clone, Copy)]
 pub struct CoarseList;
 
-/// The rows of the step table where a call continues after its walk: to add its key, to remove its key, or to end with
-/// its reply.
+/// The rows of the step table at which a call continues after its walk: to add its key (`adds`), to remove its key
+/// (`removes`), or to end with its reply (`leaves`).
 const TARGETS: Targets = Targets {
     adds: 5,
     removes: 8,
     leaves: 10,
 };
 
-/// Returns the next access of a pending call to a shared word. The program counter `pc` is the row of the step table.
-/// The numbers in `local` must be small (`IsSmall`), as they are in every run.
+/// Returns the next access of a pending call to a shared word. The program counter `pc` is the number of a row of the
+/// step table. The numbers in `local` must be small (`IsSmall`), as they are in every run.
 #[inline(always)]
 pub fn next_action(local: &Local) -> Action
     requires { IsSmall local.now }
@@ -43,8 +43,8 @@ pub fn next_action(local: &Local) -> Action
     }
 }
 
-/// Returns the thread's private state after it has read `seen`, the key of `curr`. If this key is smaller than the
-/// call's, the walk continues. Otherwise the call has a reply or will change the set.
+/// Returns the thread's private state after it has loaded `seen`, the key of `curr`. If `seen` is smaller than the
+/// call's key, the walk continues. Otherwise the call has a reply or will change the set.
 #[inline(always)]
 fn at_key(local: &Local, seen: u64) -> Local
     ensures { result ≡ at_key seen local.now }
@@ -110,7 +110,8 @@ fn local_after(local: &Local, seen: u64) -> Local
     }
 }
 
-/// Returns the thread's private state after its next step, which saw `seen`, and the reply if the step ends the call.
+/// Returns the thread's private state after its next step, and the call's reply if the step ends the call. `seen` is
+/// the value that the step read or wrote.
 #[inline(always)]
 pub fn fed_by(local: &Local, seen: u64) -> Fed
     requires { IsSmall local.now }

@@ -1,5 +1,5 @@
 -- Lemmas about the rows of the table of commands: each row adds one argument or one subcommand, and a search by name
--- returns the command of the first row with this name.
+-- returns the command of the first row that has the name.
 use Rattle.std.proofs.Common.{◌≡◌, ◌+◌, ◌<◌, ◌∙◌, ℕ, Bool, true, false, List, map, take, drop, get_or, length, ap, sym}
 use Rattle.std.proofs.lemmas.List.{at_drop_more, map_more}
 use Rattle.std.proofs.lemmas.List.Sums.{fold_push}

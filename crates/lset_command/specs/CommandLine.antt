@@ -1,4 +1,4 @@
--- The program's command line, as clap's definitions describe it: the subcommands, their arguments, flags and options.
+-- The program's command line as clap defines it: the subcommands, with their arguments, flags and options.
 use Rattle.std.specs.Prelude.{◌≡◌, Result, IfOk, List, [], ◌∷◌, map, codes, Bool, true, false, ◌||◌, Option, Some, None, option_map, unwrap_or}
 use Rattle.std.specs.Prelude.{◌++◌, ⊤, string_bytes, if◌then◌else◌, option_and_then}
 use Rattle.std.specs.Borrow.{Bor}
@@ -28,7 +28,7 @@ flag_rule name = record (new_rule name) { long = Some name; action = Some SetTru
 abbrev pub option_rule : Text → Rule
 option_rule name = record (new_rule name) { long = Some name; value_names = 1 }
 
--- Returns clap's rule for an argument of this form.
+-- Returns clap's rule for an argument of the given form.
 abbrev pub rule_by : Text → Form → Rule
 rule_by name Value = new_rule name
 rule_by name Flag = flag_rule name
@@ -42,15 +42,15 @@ Argument = Text × Form
 abbrev pub TableRow : Type 0
 TableRow = Command × Text × List Argument
 
--- Returns clap's command with a rule for this argument added.
+-- Returns the clap command `a` with a rule for `argument` added.
 abbrev pub with_argument : App → Argument → App
 with_argument a argument = with_rule a (rule_by argument.0 argument.1)
 
--- Returns clap's rules for the command in this row of the table.
+-- Returns clap's rules for the command in `row`, a row of the table.
 abbrev pub app_in : TableRow → App
 app_in row = fold with_argument (new_app row.1) row.2
 
--- Returns the program's command with a subcommand for this row of the table added.
+-- Returns the program's command `a` with a subcommand for `row`, a row of the table, added.
 abbrev pub with_command : App → TableRow → App
 with_command a row = with_subcommand a (app_in row).top
 
@@ -58,7 +58,7 @@ with_command a row = with_subcommand a (app_in row).top
 abbrev pub table : List TableRow
 table = map (λ row. (row.0, row.1.now, map (λ argument. (argument.0.now, argument.1)) row.3.now)) COMMANDS.now
 
--- The rules of the whole program: it has a version and all subcommands. The words that it parses do not start with the
+-- The rules of the whole program, which has a version and all subcommands. The words to parse do not start with the
 -- program's name.
 abbrev pub listset : App
 listset = fold with_command (on_top (λ s. record s { no_binary_name = true; has_version = true }) (new_app (codes "listset"))) table
@@ -79,34 +79,34 @@ row_of row = (row.0, row.1.now, map argument_of row.3.now)
 
 -- ---- Commands as values of clap's type
 
--- Holds if an `App` describes a command of clap, and no argument of this command is global.
+-- Holds if `a` describes the clap command `c`, and no argument of `c` is global.
 abbrev pub IsApp : clap.Command → App → Type 0
 IsApp c a = (app_of c ≡ a) × ((out-Command c).has_globals ≡ false)
 
--- Holds if the `App` describes clap's command, or if this command could not be created.
+-- Holds if `a` describes the clap command in `made`, or if `made` is a failed allocation.
 abbrev pub Makes : Result clap.Command AllocError → App → Type 0
 Makes made a = IfOk made (λ c. IsApp c a)
 
--- Holds if the second command is the first command with this argument added, or if a command could not be created.
+-- Holds if the command `new` is the command `old` with the argument `arg` added, or if creating a command failed.
 abbrev pub MakesWithArg : Result clap.Command AllocError → Arg → Result clap.Command AllocError → Type 0
 MakesWithArg old arg new = (a : App) (r : Rule) → Makes old a → rule_of arg ≡ r → arg.global ≡ false → Makes new (with_rule a r)
 
--- Holds if the third command is the first command with the second added as a subcommand, or if a command could not be
--- created.
+-- Holds if the third command is the first command with the second added as a subcommand, or if creating a command
+-- failed.
 abbrev pub MakesWithSubcommand : Result clap.Command AllocError → Result clap.Command AllocError → Result clap.Command AllocError →
     Type 0
 MakesWithSubcommand old sub new = (a b : App) → Makes old a → Makes sub b → Makes new (with_subcommand a b.top)
 
 -- ---- The result of parsing a command line
 
--- Returns whether this is the name of a flag or an option. All other names are names of arguments.
+-- Returns whether `name` is the name of a flag or an option. All other names are names of arguments.
 abbrev pub is_option : Text → Bool
 is_option name = bytes_eq name (codes "svg") || (bytes_eq name (codes "from") || (bytes_eq name (codes "to")
     || (bytes_eq name (codes "width") || (bytes_eq name (codes "brief") || (bytes_eq name (codes "only")
     || (bytes_eq name (codes "chain") || (bytes_eq name (codes "broken") || bytes_eq name (codes "lacks"))))))))
 
--- Returns the values that a parse found for the argument with this name. The list is empty for the name of a flag or an
--- option.
+-- Returns the values that a parse found for the argument `name`. The list is empty if `name` is the name of a flag or
+-- an option.
 abbrev pub values_by : Text → List Row → List Text
 values_by name rows = if is_option name then [] else unwrap_or (all_of name rows) []
 
@@ -114,7 +114,7 @@ values_by name rows = if is_option name then [] else unwrap_or (all_of name rows
 abbrev pub values_in : List Row → List Text
 values_in rows = flat_map (λ row. values_by row.id rows) rows
 
--- Returns whether the flag with this name is on. clap represents a flag by the text `true` or `false`.
+-- Returns whether the flag `name` is on. clap represents a flag by the text `true` or `false`.
 abbrev pub is_on : Text → List Row → Bool
 is_on name rows = option_map_or (λ text. bytes_eq text (codes "true")) (first_of name rows) false
 
@@ -145,12 +145,12 @@ options_in rows = record {
   lacks = first_of (codes "lacks") rows;
 }
 
--- Returns the command with this name in these rows of the table, or `replay` if no row has this name.
+-- Returns the command with the given name in the given rows of the table, or `replay` if no row has that name.
 abbrev pub command_in : Text → List TableRow → Command
 command_in name [] = Replay
 command_in name (row ∷ rows) = if bytes_eq row.1 name then row.0 else command_in name rows
 
--- Returns the command with this name. A parse finds only names of commands in the table.
+-- Returns the command named `name`. A parse finds only names of commands in the table.
 abbrev pub command_named : Text → Command
 command_named name = command_in name table
 
@@ -175,7 +175,7 @@ abbrev pub random : List Argument
 random = kind ∷ (codes "THREADS", Value) ∷ (codes "QUOTA", Value) ∷ (codes "CALLS", Value) ∷ (codes "KEYS", Value)
     ∷ (codes "SEED", Value) ∷ []
 
--- Holds if the commands have these names, arguments and forms of arguments.
+-- Holds if each command has the name and the arguments stated here, and each argument has the stated form.
 pub record CommandsAreNamed : Type 0 where
   pub replay : IsNamed (codes "replay") Replay (file ∷ lacks ∷ [])
   pub judge : IsNamed (codes "judge") Judge (file ∷ (codes "brief", Flag) ∷ (codes "only", ValueOption) ∷ [])
@@ -193,7 +193,7 @@ pub record CommandsAreNamed : Type 0 where
   pub faults : IsNamed (codes "faults") Faults ((codes "CAUSE", Value) ∷ [])
   pub explain : IsNamed (codes "explain") Explain (file ∷ [])
 
--- Holds if no two of these rows of the table have the same name.
+-- Holds if no two of the given rows of the table have the same name.
 abbrev pub AreApart : List TableRow → Type 0
 AreApart [] = ⊤
 AreApart (row ∷ rows) = (row_named row.1 rows ≡ None) × AreApart rows
@@ -207,7 +207,7 @@ pub record Choice : Type 0 where
   pub values : List Text
   pub options : OptionValues
 
--- Returns the command that was chosen on the command line: `replay` if no command is named.
+-- Returns the command that was chosen on the command line, or `replay` if the command line names no command.
 abbrev pub choice_of : Option (Text × List Row) → Choice
 choice_of None = record { command = Replay; values = []; options = options_in [] }
 choice_of (Some found) = record { command = command_named found.0; values = values_in found.1; options = options_in found.1 }

@@ -10,11 +10,11 @@ use clap::error::ErrorKind;
 use clap::{Arg, ArgAction, ArgMatches, Error};
 use std::alloc::{AllocError, Global};
 
-/// The text that `--version` prints after the program's name: the version, then the Rattle kit and the logic with which
-/// the program was proved.
+/// The text that `--version` prints after the program's name. It consists of the version, and of the versions of the
+/// Rattle kit and of the logic with which the program was proved.
 pub const VERSION: &str = "0.1.0\nRattle kit 13, logic dac8208d650f15bf";
 
-/// Help texts that are computed by other crates.
+/// Help texts that other crates compute.
 #[derive(Clone, Copy)]
 pub struct Helps<'a> {
     /// The help for the command `faults`.
@@ -28,8 +28,8 @@ pub struct Helps<'a> {
 /// option, the flag is off and the option is `None`.
 #[derive(Drop)]
 pub struct Options {
-    /// The argument FILE, which is also in `values` of `Words`. Without FILE, `serve` reads nothing, and the other
-    /// commands that have this argument read standard input.
+    /// The argument FILE, which is also in `values` of `Words`. Without FILE, `serve` reads no input, and the other
+    /// commands that have the argument FILE read standard input.
     pub file: Option<String>,
     /// Whether `show` draws an SVG.
     pub svg: bool,
@@ -39,9 +39,9 @@ pub struct Options {
     pub to: Option<String>,
     /// The maximum length of the rows that `show` draws, in characters.
     pub width: Option<String>,
-    /// Whether `judge` prints the verdict only, without an explanation.
+    /// Whether `judge` prints only the verdict, without an explanation.
     pub brief: bool,
-    /// The key selected by `--only`: `judge` prints the calls on this key and no others.
+    /// The value of `--only`: `judge` prints only the calls on this key.
     pub only: Option<String>,
     /// Whether `trace` prints the chain of nodes.
     pub chain: bool,
@@ -60,7 +60,7 @@ pub struct Words {
 }
 
 impl Words {
-    /// Returns the path of the file that the command reads; `None` if the command line has no path. The argument `-`
+    /// Returns the path of the file that the command reads, or `None` if the command line has no path. The argument `-`
     /// means standard input. (The path of a file named `-` is `./-`.)
     pub fn path(&self) -> Option<&str>
         ensures { option_map (λ path. path.now) result ≡ path_of (choice_in self.now) }
@@ -99,7 +99,7 @@ fn value_option<'a>(alloc: Global, name: &'a str, value_name: &'a str, help: &'a
         .help(help)
 }
 
-// Adds an argument to `command` if this command was created. The callers use this function instead of `?`: an early
+// Adds an argument to `command` if `command` is not an error. The callers use this function instead of `?`: an early
 // return drops all arguments, and most of the proof would be about these drops.
 fn and_arg<'a>(
     command: Result<clap::Command<'a>, AllocError>,
@@ -110,7 +110,7 @@ fn and_arg<'a>(
     command?.arg(arg)
 }
 
-// Adds a subcommand to `command` if both were created without an error.
+// Adds a subcommand to `command` if neither of the two is an error.
 fn and_subcommand<'a>(
     command: Result<clap::Command<'a>, AllocError>,
     subcommand: Result<clap::Command<'a>, AllocError>,
@@ -134,7 +134,7 @@ fn arg_of<'a>(alloc: Global, row: &'a ArgumentRow, helps: Helps<'a>) -> Arg<'a>
     }
 }
 
-// Adds an argument for each row of the table to `command`, if this command was created.
+// Adds an argument to `command` for each row of the table, if `command` is not an error.
 fn with_arguments<'a>(
     alloc: Global,
     command: Result<clap::Command<'a>, AllocError>,
@@ -150,7 +150,7 @@ fn with_arguments<'a>(
     command
 }
 
-// Replaces the usage that `clap` writes, if the table has a usage.
+// Replaces the usage text that `clap` writes with `usage` if `usage` is not `None`.
 fn with_usage<'a>(command: clap::Command<'a>, usage: Option<&'a str>) -> clap::Command<'a>
     ensures { (a : App) → IsApp command.entry a → IsApp result a }
 {
@@ -160,7 +160,7 @@ fn with_usage<'a>(command: clap::Command<'a>, usage: Option<&'a str>) -> clap::C
     }
 }
 
-// Replaces the help that `clap` writes, if `name` is `faults`.
+// Replaces the help text that `clap` writes if `name` is `faults`.
 fn with_help<'a>(command: clap::Command<'a>, name: &str, helps: Helps<'a>) -> clap::Command<'a>
     ensures { (a : App) → IsApp command.entry a → IsApp result a }
 {
@@ -195,7 +195,7 @@ fn command_of<'a>(
     with_arguments(alloc, Ok(command), row.3, helps)
 }
 
-// Adds a subcommand for each row of the table to `program`, if this command was created.
+// Adds a subcommand to `program` for each row of the table, if `program` is not an error.
 fn with_commands<'a>(
     alloc: Global,
     program: Result<clap::Command<'a>, AllocError>,
@@ -235,7 +235,7 @@ fn is_option(name: &str) -> bool
     )
 }
 
-// Appends the values that `clap` found for an argument name, if any.
+// Appends the values that `clap` found for an argument, if any.
 fn push_values(
     alloc: Global,
     values: &mut Vec<String>,
@@ -267,7 +267,7 @@ fn values_of(alloc: Global, found: &ArgMatches<'_>) -> Result<Vec<String>, Alloc
     Ok(values)
 }
 
-// Returns `true` if the flag with this name is on.
+// Returns `true` if the flag `name` is on.
 fn is_on(found: &ArgMatches<'_>, name: &str) -> bool
     ensures { result ≡ is_on name.now (rows_of (found_of found.now)) }
 {
@@ -277,7 +277,7 @@ fn is_on(found: &ArgMatches<'_>, name: &str) -> bool
     }
 }
 
-// Returns the value of an option; `None` if the option is missing.
+// Returns the value of an option, or `None` if the option is missing.
 fn option_text(
     alloc: Global,
     found: &ArgMatches<'_>,
@@ -326,7 +326,7 @@ fn no_options() -> Options
     }
 }
 
-// Returns the command with this name, or the default command if no row of `rows` has this name.
+// Returns the command named `name`, or the default command if no row of `rows` has that name.
 fn command_in(name: &str, rows: &[CommandRow]) -> Command
     ensures { result ≡ command_in name.now (map row_of rows.now) }
 {
@@ -338,7 +338,7 @@ fn command_in(name: &str, rows: &[CommandRow]) -> Command
     Command::Replay
 }
 
-/// Lemma: the table has each command with its name and its arguments, and no two commands have the same name.
+/// Lemma: the table contains each command with its name and its arguments, and no two commands have the same name.
 pub fn commands_are_named()
     ensures named { CommandsAreNamed }
     ensures differ { NamesDiffer }
@@ -361,8 +361,8 @@ pub fn words_given<'a>(
     helps: Helps<'a>,
 ) -> Result<Words, Error>
     ensures taken { IfOk result (λ w. choice_in w ≡ choice_of (subcommand_of listset (texts words.entry.now))) }
-    // Succeeds only if clap's definition of a parse succeeds. The kind of an error is the one that this definition
-    // states, or `OutOfMemory` if an allocation failed.
+    // Returns a command only if a parse by clap's definition succeeds. The kind of an error is the kind that clap's
+    // definition states, or `OutOfMemory` if an allocation failed.
     ensures refused { FailsBy (fault_of listset (texts words.entry.now)) result }
 {
     let matches = program_command(alloc, helps)?.try_get_matches_from(words)?;
@@ -383,7 +383,7 @@ pub fn words_given<'a>(
     })
 }
 
-/// Returns `true` if an error of `words_given` means that an allocation failed.
+/// Returns `true` if `error`, an error of `words_given`, means that an allocation failed.
 pub fn is_out_of_memory(error: &Error) -> bool
     ensures { IsTrue result ↔ (kind_of error.now ≡ OutOfMemory) }
 {

@@ -1,5 +1,6 @@
-//! The table of the program's commands. The command line, its help, and its definition in `specs/` come from this table.
-//! (The rows are tuples: a definition in `specs/` reads no constant of a struct that contains a reference.)
+//! The table of the program's commands. The parser of the command line, the help texts, and the definition in `specs/`
+//! are derived from the table. (The rows are tuples, because a definition in `specs/` cannot read a constant of a
+//! struct that contains a reference.)
 
 /// A command of the program.
 #[derive(Clone, Copy)]
@@ -32,7 +33,7 @@ pub enum Command {
     Explain,
 }
 
-/// How an argument is typed.
+/// The form of an argument on the command line.
 #[derive(Clone, Copy)]
 pub enum Form {
     /// A value, identified by its position.
@@ -43,7 +44,8 @@ pub enum Form {
     ValueOption,
 }
 
-/// An argument of a command: its name, its form, the name of the value of an option (else empty), and its help.
+/// An argument of a command: its name, its form, its value's name if it is an option (otherwise empty), and its help
+/// text.
 pub type ArgumentRow = (&'static str, Form, &'static str, &'static str);
 
 /// A command, with:
@@ -51,7 +53,7 @@ pub type ArgumentRow = (&'static str, Form, &'static str, &'static str);
 /// - its line in the list of commands, which is also the first line of its help;
 /// - its arguments, in the order of the help (values are typed in this order);
 /// - its usage, or `None` if `clap` writes the usage (with each value in brackets);
-/// - the end of its help: notes, an example and the form of an error.
+/// - the end of its help: notes, an example, and the form of an error message.
 pub type CommandRow = (
     Command,
     &'static str,
@@ -64,7 +66,7 @@ pub type CommandRow = (
 /// The help of the option `--lacks`. The names of the broken lists (lists without one of their checks) follow.
 pub const LACKS_HELP: &str = "Run a broken list, with one check removed";
 
-// Arguments of several commands.
+// Arguments that several commands share.
 const KIND: ArgumentRow = (
     "KIND",
     Form::Value,
@@ -111,7 +113,7 @@ const RECORDING: ArgumentRow = (
 
 const LACKS: ArgumentRow = ("lacks", Form::ValueOption, "NAME", LACKS_HELP);
 
-/// The commands, in the order of the help. The first is the default.
+/// The commands, in the order of the help. The first command is the default.
 pub const COMMANDS: &[CommandRow] = &[
     (
         Command::Replay,

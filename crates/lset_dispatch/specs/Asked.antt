@@ -1,6 +1,6 @@
--- The jobs that command lines ask for. A job is a command with its checked arguments. Nothing is proved about the
--- output of some commands, which is only tested. Examples are `judge --only` and commands that run a broken list (a
--- list without one of its checks).
+-- The jobs that command lines ask for. A job is a command with its checked arguments. For some commands, such as `judge
+-- --only` and commands that run a broken list (a list without one of its checks), nothing is proved about the output,
+-- which is only tested.
 use Rattle.std.specs.Prelude.{Bool, true, false, List, Option, Some, None, Result, Ok, Err}
 use Rattle.clap.specs.Words.{Text}
 use Rattle.lset_command.specs.CommandLine.{Choice, OptionValues}
@@ -22,8 +22,8 @@ abbrev pub asked_replay : Option Text → Option Asked
 asked_replay None = Some (Ok (Replay None))
 asked_replay (Some name) = None
 
--- Returns the job of `judge`: with `--brief` the verdict alone, otherwise the verdict with all details. With `--only`,
--- nothing is proved.
+-- Returns the job of `judge`: to print only the verdict with `--brief`, otherwise the verdict with all details. With
+-- `--only`, nothing is proved.
 abbrev pub asked_judge : Option Text → Bool → Option Asked
 asked_judge None true = Some (Ok Verdict)
 asked_judge None false = Some (Ok Judge)
@@ -40,11 +40,11 @@ asked_by command.Check values options = Some (Ok Check)
 asked_by command.Gen values options = Some (asked_gen (random_request_of values))
 asked_by other values options = None
 
--- Returns the job that a command line asks for, if something is proved about its command.
+-- Returns the job that a command line asks for. `None` if nothing is proved about the command.
 abbrev pub asked : Choice → Option Asked
 asked choice = asked_by choice.command choice.values choice.options
 
--- Holds if a command line can ask for this job.
+-- Holds if a command line can ask for the given job.
 abbrev pub IsKnown : Job → Type 0
 IsKnown (Gen random) = IsAccepted random.threads random.quota random.keys
 IsKnown job = Unit {0}

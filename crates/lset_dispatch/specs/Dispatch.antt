@@ -1,5 +1,4 @@
--- How the program ends, depending on its command line: with the result of a command, or with an error in the command
--- line.
+-- How the program ends for a given command line: with the result of a command, or with an error in the command line.
 use Rattle.std.specs.Prelude.{◌≡◌, ◌≢◌, ℕ, ◌⊎◌, List, [], Option, Some, None, IfSome, Ok, Err}
 use Rattle.std.specs.Io.KnownBytes.{Keeps}
 use Rattle.clap.specs.Words.{Text, fault_of, kind_of, subcommand_of, HasKind}
@@ -17,14 +16,14 @@ use Rattle.lset_dispatch.specs.Asked.{Asked, asked}
 use Rattle.lset_dispatch.specs.declared.job.Job.{Job}
 use Rattle.lset_dispatch.specs.declared.job.Job.TheVariants.{Replay, Judge, Verdict, Check, Gen}
 
--- A statement about how a command ends. Its arguments are the bytes of output before and after the command, the bytes
--- of stderr before and after the command, and the exit status.
+-- A statement about how a command ends. The arguments of an `Ending` are the bytes of the output before and after the
+-- command, the bytes of stderr before and after the command, and the exit status.
 abbrev pub Ending : Type 1
 Ending = Option (List ℕ) → Option (List ℕ) → Option (List ℕ) → Option (List ℕ) → ℕ → Type 0
 
 -- ---- Accepted command lines
 
--- Holds if the command ends with its result for the bytes of the input.
+-- Holds if the command ends with a correct result for the bytes of the input.
 abbrev pub EndsOnBytes : (List ℕ → Made → Type 0) → Option (List ℕ) → Ending
 EndsOnBytes Makes input output_old output_new stderr_old stderr_new status =
     Ends (λ made. IfSome input (λ bytes. Makes bytes made)) output_old output_new stderr_old stderr_new status
@@ -43,9 +42,9 @@ JobEnds (Gen random) input output_old output_new stderr_old stderr_new status =
     Ends (Answers (Ok random)) output_old output_new stderr_old stderr_new status
 JobEnds job input output_old output_new stderr_old stderr_new status = Unit {0}
 
--- Holds if a job ends correctly. Without a path, it ends with its result for standard input. With a path, it ends with
--- its result for the bytes of some file, or with `CannotRead`. (Nothing is proved about which file this is, or that it
--- is read from its start.)
+-- Holds if a job ends correctly. Without a path, the job ends with the result for standard input. With a path, it ends
+-- with the result for the bytes of some file, or with `CannotRead`. (Nothing is proved about which file is read, or
+-- that it is read from the start.)
 abbrev pub EndsOn : Option Text → Job → (Option (List ℕ) → Type 0) → Option (List ℕ) → Ending
 EndsOn None job IsFile input output_old output_new stderr_old stderr_new status =
     JobEnds job input output_old output_new stderr_old stderr_new status
@@ -54,7 +53,7 @@ EndsOn (Some path) job IsFile input output_old output_new stderr_old stderr_new 
     ⊎ ((bytes : Option (List ℕ)) × IsFile bytes × JobEnds job bytes output_old output_new stderr_old stderr_new status)
 
 -- Holds if the program ends correctly for the job that a command line asks for: as `EndsOn` describes or, if an
--- argument is wrong, with an error that names this argument.
+-- argument is wrong, with an error that names the wrong argument.
 abbrev pub EndsAsked : Option Asked → Option Text → (Option (List ℕ) → Type 0) → Option (List ℕ) → Ending
 EndsAsked None path IsFile input output_old output_new stderr_old stderr_new status = Unit {0}
 EndsAsked (Some (Ok job)) path IsFile input output_old output_new stderr_old stderr_new status =
@@ -76,13 +75,13 @@ IsHelp kind = (kind ≡ DisplayHelp) ⊎ (kind ≡ DisplayVersion)
 abbrev pub IsMistake : ErrorKind → Type 0
 IsMistake kind = (kind ≢ OutOfMemory) × (kind ≢ DisplayHelp) × (kind ≢ DisplayVersion)
 
--- Holds if the result is correct for a user who asked for the help or the version: a text with status 0, or the error
+-- Holds if a result is correct for a user who asked for the help or the version: a text with status 0, or the error
 -- `Memory`.
 abbrev pub Helps : ErrorKind → Made → Type 0
 Helps kind made = (made ≡ Err Memory) ⊎ (IsHelp kind × (text : List ℕ) × (made ≡ Ok (record { text = text; status = 0 })))
 
--- Holds if a wrong command line ends with status 2 and writes nothing to the output. clap writes a text on stderr.
--- Nothing is proved about this text.
+-- Holds if a wrong command line ends with status 2 and writes nothing to the output. clap writes a text to stderr;
+-- nothing is proved about that text.
 abbrev pub Refuses : ErrorKind → Ending
 Refuses kind output_old output_new stderr_old stderr_new status =
     IsMistake kind × Keeps output_old output_new × (text : List ℕ) × AppendsFront stderr_old stderr_new text × (status ≡ 2)
@@ -92,7 +91,7 @@ Declines kind output_old output_new stderr_old stderr_new status =
     Ends (Helps kind) output_old output_new stderr_old stderr_new status
     ⊎ Refuses kind output_old output_new stderr_old stderr_new status
 
--- ---- The whole program: accepted or refused command lines, as clap's definitions decide
+-- ---- The whole program, for accepted and refused command lines
 
 abbrev pub Runs : List Text → (Option (List ℕ) → Type 0) → Option (List ℕ) → Ending
 Runs words IsFile input output_old output_new stderr_old stderr_new status =

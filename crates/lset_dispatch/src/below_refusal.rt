@@ -1,5 +1,5 @@
-//! Appends lines to the answer `not linearizable` of `judge`: an explanation, or the advice to use a file. An
-//! explanation requires that the recording is read a second time, which is not possible with a pipe.
+//! Appends lines to the answer `not linearizable` of `judge`: an explanation, or the advice to use a file. For an
+//! explanation, the recording must be read a second time, which is not possible with a pipe.
 
 ghost use Rattle.std.specs.Prelude.{ℕ, List};
 ghost use Rattle.tool_base.specs.Tools.{view};
@@ -18,7 +18,7 @@ const OF_A_FILE: &[u8] = b"\nto learn what is wrong, judge a file: listset judge
 const FAILED: &[u8] =
     b"\nno explanation: memory ran out, or the file has changed since it was judged\n";
 
-/// Returns the number of lines of the answer `not linearizable`; 0 for any other answer.
+/// Returns the number of lines of the answer `not linearizable`, or 0 for any other answer.
 fn refused_lines(made: &Result<Answer, Trouble>) -> usize {
     match made {
         Ok(answer) if answer.status != 0 => {
@@ -29,7 +29,8 @@ fn refused_lines(made: &Result<Answer, Trouble>) -> usize {
     }
 }
 
-/// Returns the lines that explain why a recording is refused. The verdict before them has `used` lines.
+/// Returns the lines that explain why a recording is refused. `used` is the number of lines of the verdict, which
+/// precedes the explanation.
 fn explanation<R: Read>(
     alloc: Global,
     input: &mut R,
@@ -64,7 +65,7 @@ pub(crate) fn explained<H: Files>(
     }
 }
 
-/// If the answer refuses a recording, appends the advice to use a file. Used for recordings that were read from a pipe.
+/// If the answer refuses a recording, appends the advice to use a file. For recordings that were read from a pipe.
 pub(crate) fn pointed(made: Result<Answer, Trouble>) -> Result<Answer, Trouble>
     ensures { (bytes : List ℕ) → Judges bytes (view made) → Judges bytes (view result) }
 {

@@ -23,8 +23,9 @@ use tool_base::{Answer, FAULTS, Trouble, deliver, put};
 use tool_explain::{explain_input, explain_unopened};
 
 /// Handles a command line that `words_given` refused, and returns the exit status. If the user asked for the help or
-/// the version, writes it to `output` with status 0, or status 1 if it cannot be written completely. If an allocation
-/// failed, writes that to `stderr` with status 3. Otherwise writes the mistake to `stderr` with status 2.
+/// the version, writes the text to `output`; the status is 0, or 1 if the text cannot be written completely. If an
+/// allocation failed, writes an error message to `stderr` with status 3. Otherwise describes the mistake on `stderr`
+/// with status 2.
 fn decline<W: Write, E: Write>(alloc: Global, error: &Error, output: &mut W, stderr: &mut E) -> u8
     ensures { Declines (kind_of error.now)
         (W.contents output.old) (W.contents output.new) (E.contents stderr.old) (E.contents stderr.new) result }
@@ -45,7 +46,7 @@ fn decline<W: Write, E: Write>(alloc: Global, error: &Error, output: &mut W, std
 }
 
 /// Returns the help for the option `--lacks`: the names of the broken lists (lists without one of their checks), each
-/// with the kind of list that it was made from.
+/// with the kind of the intact list.
 fn lacks_help(alloc: Global) -> Result<String, AllocError> {
     let mut help = String::from_str(alloc, LACKS_HELP)?;
     for (number, broken) in ALL.iter().enumerate() {
@@ -61,8 +62,9 @@ fn lacks_help(alloc: Global) -> Result<String, AllocError> {
 ///
 /// # Errors
 ///
-/// The error has the text for the user: the help or the version if the user asked for it (`exit_code` 0), or the
-/// mistake in the command line (`exit_code` 2). If `is_out_of_memory` returns `true`, an allocation failed.
+/// The error contains the text for the user: the help or the version if the user asked for it (`exit_code` 0), or a
+/// description of the mistake in the command line (`exit_code` 2). If `is_out_of_memory` returns `true`, an allocation
+/// failed.
 pub fn tool_words(alloc: Global, words: &[&str]) -> Result<Words, Error>
     ensures taken { IfOk result (λ w. choice_in w ≡ choice_of (subcommand_of listset (texts words.entry.now))) }
     ensures refused { FailsBy (fault_of listset (texts words.entry.now)) result }
@@ -95,13 +97,13 @@ fn explain_file<H: Files>(rt: &H, alloc: Global, path: &str) -> Result<Answer, T
     }
 }
 
-/// Runs the program with this command line, which does not contain the program's name, and returns the exit status.
-/// Reads the named file through `rt`, or reads `input` if the file is `-` or no file is named. Writes the result to
-/// `output`, or an error to `stderr`.
+/// Runs the program with the command line `words`, which does not contain the program's name, and returns the exit
+/// status. Reads the named file through `rt`, or reads `input` if the file is `-` or no file is named. Writes the
+/// result to `output`, or an error to `stderr`.
 ///
-/// `serve` opens its set with the keys in FILE or, if FILE is `-`, in `input`; without FILE, it reads nothing. If an
-/// argument is wrong, no file is opened. Allocates. `run` and `serve` start threads on `rt` and block until these end.
-/// `serve` listens on `rt`.
+/// `serve` opens its set with the keys in FILE or, if FILE is `-`, in `input`; without FILE, it reads no input. If an
+/// argument is wrong, no file is opened. Allocates. `run` and `serve` start threads on `rt` and block until the threads
+/// end. `serve` listens on `rt`.
 pub fn run_words<
     H: Files + Net<Listener = TcpListener, Stream = TcpStream> + Threads + Wait + Clock + Sync,
     R: Read,

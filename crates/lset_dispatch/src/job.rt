@@ -17,7 +17,7 @@ use tool_show::{Show, read_show};
 pub(crate) enum Job {
     Replay(Option<BrokenList>),
     Judge,
-    /// Print the verdict of `judge` alone, without a contradiction, advice or explanation.
+    /// Print only the verdict of `judge`, without a contradiction, advice or an explanation.
     Verdict,
     /// Print the recorded calls on one key.
     OneKey(u32),
@@ -40,8 +40,8 @@ pub(crate) enum Job {
     Explain,
 }
 
-/// Returns the broken list (a list without one of its checks) that the option `--lacks` names; `None` if the option is
-/// missing.
+/// Returns the broken list (a list without one of its checks) that the option `--lacks` names, or `None` if the option
+/// is missing.
 fn find_broken(lacks: &Option<String>) -> Result<Option<BrokenList>, ValueName> {
     match lacks {
         None => Ok(None),
@@ -60,7 +60,7 @@ fn read_replay(lacks: &Option<String>) -> Result<Job, ValueName>
     }
 }
 
-/// Parses a key.
+/// Parses a key: a decimal number from 0 to 4,294,967,295.
 fn read_key(text: &str) -> Result<u32, ValueName> {
     number(text.as_bytes(), 0, u32::MAX).ok_or(ValueName::Key)
 }

@@ -22,7 +22,8 @@ use tool_replay::{
 };
 use tool_threads::{run_lives, serve_set, serve_set_of};
 
-/// Replays the schedule in the input, on a broken list (a list without one of its checks) if `broken` names one.
+/// Replays the schedule in the input. If `broken` names a broken list (a list without one of its checks), replays the
+/// schedule on that list.
 fn replay<R: Read, W: Write, E: Write>(
     alloc: Global,
     broken: Option<BrokenList>,
@@ -53,7 +54,7 @@ fn judge<R: Read, W: Write, E: Write>(
     deliver(pointed(made), output, stderr)
 }
 
-/// Judges the recording in the input and prints the verdict alone, without a contradiction, advice or explanation.
+/// Judges the recording in the input and prints only the verdict, without a contradiction, advice or an explanation.
 fn judge_verdict<R: Read, W: Write, E: Write>(
     alloc: Global,
     input: &mut R,
@@ -67,8 +68,8 @@ fn judge_verdict<R: Read, W: Write, E: Write>(
     deliver(made, output, stderr)
 }
 
-/// Judges the recording in `file`, which is open. If the recording is refused, reads the file at `path` again and
-/// prints an explanation.
+/// Judges the recording in `file`, which is already open. If the recording is refused, reads the file at `path` again
+/// and prints an explanation.
 fn judge_file<H: Files, R: Read, W: Write, E: Write>(
     rt: &H,
     alloc: Global,
@@ -86,7 +87,7 @@ fn judge_file<H: Files, R: Read, W: Write, E: Write>(
 }
 
 /// Runs a job and returns the exit status. Writes the result to `output`, or an error message of one line to `stderr`.
-/// Some jobs read `input`. Allocates. `run` and `serve` start threads on `rt` and block until these end. `serve`
+/// Some jobs read `input`. Allocates. `run` and `serve` start threads on `rt` and block until the threads end. `serve`
 /// listens on `rt`.
 pub(crate) fn run_job<
     H: Net<Listener = TcpListener, Stream = TcpStream> + Threads + Wait + Clock + Sync,

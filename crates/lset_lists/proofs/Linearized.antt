@@ -1,6 +1,6 @@
 -- Proof that the calls of a run have exactly one order by linearization points, and that this order explains the run.
--- The proof assumes that the run has an account (a record of each event's effect on the set), and that a list contains
--- its final keys.
+-- The proof assumes that the run has an account (a record of each event's effect on the set), and that some list
+-- contains exactly the run's final keys.
 use Rattle.std.proofs.Common.{ℕ, List, sym, subst, arith}
 use Rattle.lset_words.specs.declared.history.Placed.{Placed}
 use Rattle.lset_words.specs.Words.{Opening}

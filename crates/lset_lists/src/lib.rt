@@ -1,5 +1,5 @@
 //! The five lists: the machine of each kind of list (its algorithm as a table of steps), and the theorem that every run
-//! of each machine is linearizable. `on_list` runs a `Task` on a list if its kind is known only at run time.
+//! of each machine is linearizable. `on_list` runs a `Task` on a list whose kind is known only at run time.
 #![tactic(auto)]
 
 mod theorem;
@@ -49,10 +49,10 @@ impl List for LockFreeList {
 pub trait Task {
     type Out;
 
-    /// The precondition of the task, for the list of this kind.
+    /// The precondition of the task, for a list of the given kind.
     ghost may: { Self → Kind → Type 0 };
 
-    /// The postcondition of the task, for a list with this step table.
+    /// The postcondition of the task, for a list with the given step table.
     ghost done: { Self → Table → Self.Out → Type 0 };
 
     /// Runs the task on the list `M`.
@@ -61,7 +61,7 @@ pub trait Task {
         ensures { done self M.table result };
 }
 
-/// Runs the task on the list of this kind, and returns the task's result.
+/// Runs the task on the list of the kind `kind`, and returns the task's result.
 pub fn on_list<T: Task + Drop>(kind: Kind, task: T) -> T::Out
     requires { T.may task kind }
     ensures { T.done task (table_of kind) result }

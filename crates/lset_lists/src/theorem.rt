@@ -1,5 +1,5 @@
-//! The main theorem, for every machine (a list algorithm as a table of steps): for each run, of any length, some order
-//! of its calls explains the run.
+//! The main theorem, for every machine (a list algorithm as a table of steps): each run, of any length, is explained by
+//! some order of its calls.
 ghost use Rattle.lset_lists.specs.Headline.{RunsAreLinearizable, PlacementExplainsRuns};
 
 use lset_steps::Machine;
@@ -14,9 +14,9 @@ pub fn runs_are_linearizable<M: Machine>()
     placement_explains_runs::<M>();
 }
 
-/// Theorem: the order of a run's calls by their linearization points (the placement) exists and is unique. This order
-/// linearizes the history of the run and leaves the same keys as the run. The theorem covers every machine (a list
-/// algorithm as a table of steps) and every run within the limits of `runs_are_linearizable`.
+/// Theorem: the order of a run's calls by their linearization points (the placement) exists and is unique. The
+/// placement linearizes the history of the run and leaves the same keys as the run. The theorem covers every machine (a
+/// list algorithm as a table of steps) and every run within the limits of `runs_are_linearizable`.
 pub fn placement_explains_runs<M: Machine>()
     ensures { PlacementExplainsRuns M.table }
 {

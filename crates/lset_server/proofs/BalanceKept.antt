@@ -1,5 +1,5 @@
--- Proof: sending, receiving, splitting a pass (permission to use the channel) and joining passes preserve the invariant
--- of the channel.
+-- Proof: the invariant of the channel is preserved when a message is sent or received, and when a pass (permission to
+-- use the channel) is split or two passes are joined.
 use Rattle.std.proofs.Common.{◌≡◌, ◌≢◌, ℕ, zero, suc, ◌+◌, ◌-◌, ◌<◌, ◌≤◌, List, [], ◌∷◌, ◌++◌, set, sym, refl, ap, ◌∙◌, subst}
 use Rattle.std.proofs.Common.{⊎_elim, arith}
 use Rattle.std.proofs.lemmas.List.{append-nil}

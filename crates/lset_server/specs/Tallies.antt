@@ -1,6 +1,6 @@
 -- The invariant of the channel that passes connections to the workers. A pass (permission to use the channel) has a
--- tally: the numbers of the connections that were sent and received with it. No connection is lost or duplicated: each
--- number was sent exactly as often as it was received or is in the queue.
+-- tally: the numbers of the connections that were sent and received with the pass. No connection is lost or duplicated:
+-- each number was sent exactly as often as it was received or is in the queue.
 use Rattle.std.specs.Prelude.{◌≡◌, ◌==◌, ◌≤◌, ◌<◌, ℕ, ◌+◌, zero, suc, List, [], ◌∷◌, ◌++◌, if◌then◌else◌}
 use mathlib.Core.Option.{some}
 use lib.ListN.{get_elem?}
@@ -18,11 +18,11 @@ abbrev pub number_of : {S : Type 0} → Message S → List ℕ
 number_of (message.Connection c) = c.number ∷ []
 number_of message.Close = []
 
--- Returns the numbers of the connections in these messages.
+-- Returns the numbers of the connections in the given messages.
 abbrev pub numbers : {S : Type 0} → List (Message S) → List ℕ
 numbers = flat_map number_of
 
--- Returns the sum of the weights of these numbers. `h` maps each number to its weight.
+-- Returns the sum of the weights of the given numbers. `h` maps each number to a weight.
 abbrev pub weigh : (ℕ → ℕ) → List ℕ → ℕ
 weigh h [] = 0
 weigh h (x ∷ xs) = h x + weigh h xs
@@ -45,9 +45,9 @@ total f (v ∷ vs) = f v + total f vs
 abbrev pub IdleIsEmpty : List Tally → Type 0
 IdleIsEmpty views = (port : ℕ) (v : Tally) → get_elem? views port ≡ some v → v.parts ≡ 0 → (v.sent ≡ []) × (v.received ≡ [])
 
--- Holds if the channel has lost and duplicated nothing. For any weights h, the numbers sent have the same total weight
--- as the numbers received and those in the queue. The passes (permissions to use the channel) together have all parts,
--- and a pass without parts has sent and received nothing.
+-- Holds if the channel has lost and duplicated nothing. For any weights h, the total weight of the numbers sent equals
+-- the total weight of the numbers received and the numbers in the queue. The passes (permissions to use the channel)
+-- together have all parts, and a pass without parts has sent and received nothing.
 abbrev pub IsBalanced : List ℕ → List Tally → Type 0
 IsBalanced queue views =
     (total (λ v. v.parts) views ≡ PARTS)
@@ -59,8 +59,8 @@ abbrev pub numbers_below : ℕ → List ℕ
 numbers_below zero = []
 numbers_below (suc n) = numbers_below n ++ n ∷ []
 
--- Holds if all passes of a channel (permissions to use it) were joined into one pass with tally v. The numbers 0 to n -
--- 1 were sent, in order. Each of these numbers was received exactly once, and no other number was received.
+-- Holds if all passes of a channel (permissions to use it) were joined into one pass with tally v, the numbers 0 to n -
+-- 1 were sent in order, and exactly these numbers were received, each once.
 pub record ReceivedOnce (n : ℕ) (v : Tally) : Type 0 where
   pub parts : v.parts ≡ PARTS
   pub sent : v.sent ≡ numbers_below n

@@ -11,8 +11,8 @@ use std::alloc::Global;
 use std::collections::LinkedList;
 use std::sync::Wait;
 
-/// The right to use the channel can be split into this many parts: one for each of up to `MOST_THREADS` workers, and
-/// one for the sender. The holder of all parts knows all connections that were sent and received.
+/// The number of parts into which the right to use the channel can be split: one for each of up to `MOST_THREADS`
+/// workers, and one for the sender. The owner of all parts knows all connections that were sent and received.
 pub(crate) const PARTS: u64 = MOST_THREADS as u64 + 1;
 
 /// An accepted connection with its number. Connections are numbered from 0, in order of acceptance.
@@ -30,8 +30,8 @@ pub(crate) enum Message<S> {
 }
 
 /// The tally of a pass (permission to use the channel): how many parts the pass has, and which connections were sent
-/// and received with it. The tally of a pass with all parts lists all connections that were sent and received. Exists
-/// in contracts only.
+/// and received with it. The tally of a pass with all parts lists all connections that were sent and received. A
+/// `Tally` exists only in contracts.
 pub(crate) struct Tally {
     pub parts: u64,
     pub sent: LinkedList<u64>,
@@ -51,8 +51,8 @@ impl<S> Protocol<Message<S>, Tally> for NothingLost {
     ghost first = { tally PARTS [] [] };
 }
 
-/// Defines the tallies after a part of a pass (permission to use the channel) is split off as a new pass, and after two
-/// passes are joined.
+/// Defines the tallies after a new pass (permission to use the channel) is split off another pass, and after two passes
+/// are joined.
 pub(crate) struct Parting;
 
 impl Split<Tally> for Parting {
@@ -73,7 +73,7 @@ impl Join<Tally> for Parting {
     ghost spent = { tally 0 [] [] };
 }
 
-/// The change of the sender's tally (the numbers of the connections sent) when the sender sends a message.
+/// The change of the sender's tally (the numbers of the connections sent) when a message is sent.
 pub(crate) struct Sending;
 
 impl<S> Outcome<Message<S>, Tally> for Sending {
@@ -84,7 +84,7 @@ impl<S> Lesson<Message<S>, Tally> for Sending {
     ghost fact = { λ v items. ⊤ };
 }
 
-/// The change of the receiver's tally (the numbers of the connections received) when the receiver receives a message.
+/// The change of the receiver's tally (the numbers of the connections received) when a message is received.
 pub(crate) struct Receiving;
 
 impl<S> Outcome<Message<S>, Tally> for Receiving {
@@ -113,7 +113,7 @@ pub(crate) type Receiver<S> = RuledReceiver<Message<S>, Tally, NothingLost>;
 /// A pass: the right to send and receive on the channel. Zero-sized.
 pub(crate) type Token<S> = Pass<Message<S>, Tally>;
 
-/// Sends a message. Blocks while the channel is full. `pass` must be a right to use this channel.
+/// Sends a message. Blocks while the channel is full. `pass` must be a permission to use the channel of `to`.
 pub fn send<S: Drop, R: Wait>(
     rt: &R,
     to: &Sender<S>,
@@ -130,7 +130,7 @@ pub fn send<S: Drop, R: Wait>(
     to.send_as::<Sending, R>(rt, pass, message)
 }
 
-/// Receives a message. Blocks until a message arrives. `pass` must be a right to use this channel.
+/// Receives a message. Blocks until a message arrives. `pass` must be a permission to use the channel of `from`.
 pub fn receive<S: Drop, R: Wait>(
     rt: &R,
     from: &Receiver<S>,
@@ -146,7 +146,7 @@ pub fn receive<S: Drop, R: Wait>(
     from.recv_as::<Receiving, R>(rt, pass)
 }
 
-/// Splits a new pass (permission to use the channel) for a receiver off the sender's `pass`.
+/// Splits a new pass (permission to use the channel), for a receiver, off the sender's `pass`.
 pub(crate) fn cut_part<S: Drop>(to: &Sender<S>, pass: &mut Token<S>) -> Token<S>
     requires channel { IsSeatAt (sends_on to.now) pass.old }
     requires parts { 1 < (view pass.old).parts }
@@ -169,7 +169,7 @@ pub(crate) fn take_back<S: Drop>(to: &Sender<S>, pass: &mut Token<S>, other: Tok
 }
 
 /// Lemma: if `pass` (permission to use the channel) has all parts, the connections sent are exactly the connections
-/// received and the connections in the queue. The function has no effect at run time.
+/// received and the connections in the queue. The function does nothing at run time.
 pub(crate) fn balance<S: Drop>(to: &Sender<S>, pass: &mut Token<S>)
     requires channel { IsSeatAt (sends_on to.now) pass.old }
     requires all { (view pass.old).parts ≡ PARTS }

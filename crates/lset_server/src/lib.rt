@@ -1,5 +1,5 @@
-//! The server of a running set. Clients connect, and each connection is served in a session. Each seat (per-thread
-//! handle) of the set has its own worker thread.
+//! A server for a running set. Clients connect, and each connection is served in a session. Each seat (per-thread
+//! handle to the set) has its own worker thread.
 #![tactic(auto)]
 
 mod channel;

@@ -1,7 +1,7 @@
-//! Closes a connection without losing answers. Suppose that a server closes a connection before it has read all bytes
-//! that the client sent. The system then resets the connection, and the client loses the answers that have not reached
-//! it. If a session ends before the client has stopped sending, the server therefore first closes only its sending
-//! side, and continues to read for a while.
+//! Closes a connection without losing answers. If a server closes a connection before it has read all bytes that the
+//! client sent, the system resets the connection, and the client loses the answers that have not reached it yet.
+//! Therefore, if a session ends before the client has stopped sending, the server first closes only the sending side of
+//! the connection, and continues to read for a while.
 ghost use Rattle.std.specs.Prelude.{◌≡◌, false};
 
 use lset_session::{Device, EndReason, Source};
@@ -35,7 +35,7 @@ impl<R: Clock> Read for Closing<'_, R> {
     }
 }
 
-/// Reads and ignores bytes until the input ends, a read fails, or `MOST_DROPPED` bytes are read.
+/// Reads and ignores bytes until the input ends, a read fails, or `MOST_DROPPED` bytes have been read.
 fn drop_rest<I: Source>(reader: &mut I)
     requires { I.has_failed reader.old ≡ false }
 {
@@ -53,10 +53,10 @@ fn drop_rest<I: Source>(reader: &mut I)
     }
 }
 
-/// Prepares a connection for closing, after its session has ended for the reason `why`. If the session ended before its
+/// Prepares a connection for closing after its session has ended for the reason `why`. If the session ended before its
 /// input did (reason `Quit`, `Long` or `Limit`), closes the sending side. Then reads the client's remaining bytes, for
-/// at most one second and 1,048,576 bytes. Meanwhile the system can deliver the answers. Returns at once if the system
-/// refuses to close the sending side.
+/// at most one second and at most 1,048,576 bytes. Meanwhile the system can deliver the answers. Returns at once if the
+/// system refuses to close the sending side.
 pub(crate) fn take_leave<R: Clock>(rt: &R, stream: &TcpStream, why: EndReason) {
     match why {
         EndReason::Quit | EndReason::Long | EndReason::Limit => {}

@@ -1,5 +1,5 @@
-//! Serves a running set to the connections that a listener accepts. A seat is a per-thread handle: one thread calls the
-//! set through it. Seats can be merged into one seat.
+//! Serves a running set to the connections that a listener accepts. A seat is one thread's handle to the set. Several
+//! seats can be merged into one.
 ghost use Rattle.std.specs.Prelude.{◌≡◌, ◌≢◌, ◌<◌, ◌≤◌, ◌↔◌, ◌++◌, [], All, None, Some, length, map, sum_by};
 ghost use Rattle.std.specs.Prelude.{IfErr, IfOk, IfSome, IsOk, OnOk};
 ghost use Rattle.std.specs.Option.{option_map};
@@ -27,7 +27,7 @@ use thiserror::Error;
 /// The cause of a `ServeFault`.
 #[derive(Clone, Copy, Debug, PartialEq, Eq, Error)]
 pub enum ServeCause {
-    /// Not all seats of the set were passed to `serve`. (Seats that were merged into another seat are passed with it.)
+    /// Not all seats of the set were passed to `serve`. (A seat that was merged into a passed seat counts as passed.)
     /// No connection was accepted.
     #[error("not all seats of the set were passed")]
     Seats,
@@ -48,8 +48,8 @@ pub enum ServeCause {
     Left,
 }
 
-/// The result of `serve`: the number of sessions, the number of calls made in them, and the final keys in increasing
-/// order.
+/// The result of `serve`: the number of sessions, the number of calls made in the sessions, and the final keys in
+/// increasing order.
 #[derive(Drop)]
 pub struct Served {
     pub sessions: u64,
@@ -59,7 +59,7 @@ pub struct Served {
 }
 
 /// The error of `serve`. After `Seats`, no connection was accepted, and `back` contains the set and the seats
-/// (per-thread handles). After the other causes, `back` is `None`.
+/// (per-thread handles to the set). After any other cause, `back` is `None`.
 #[derive(Drop, Error)]
 #[error("{cause}")]
 pub struct ServeFault<M: Running> {
@@ -122,8 +122,8 @@ fn close_all<R: Wait>(
     Ok(())
 }
 
-/// Accepts `sessions` connections and sends them to the workers. Then sends each worker the notice that no more will
-/// arrive.
+/// Accepts `sessions` connections and sends them to the workers. Then notifies each worker that no more connections
+/// will arrive.
 fn send_all<R: Wait>(
     rt: &R,
     listener: &TcpListener,
@@ -142,7 +142,7 @@ fn send_all<R: Wait>(
 }
 
 /// Starts the workers, sends them `sessions` connections, and waits for them to end. Returns the pass (permission to
-/// use the channel), which has all parts again, and the seat that results from merging all seats.
+/// use the channel), which has all parts again, and the seat (handle to the set) into which all seats were merged.
 fn serve_in<'s, E, R: Threads + Wait + Clock + Sync, M: Running + Send + Sync>(
     alloc: Global,
     scope: &Scope<'s, E>,
@@ -220,11 +220,11 @@ fn serve_all<R: Threads + Wait + Clock + Sync, M: Running + Send + Sync>(
 
 /// Serves a set to `sessions` connections, with one worker thread for each of `seats`.
 ///
-/// `seats` must belong to `set`. Connections are numbered from 0, and wait in a channel with one place for each of
-/// `seats`. Each worker runs `buffered_session` on its seat, for one connection after another. A session that ends with
-/// a read or write error does not end the server. At the end, the seats are merged into one (gathered) and the set is
-/// closed. Blocks until all connections have been accepted and all workers have ended. Each worker blocks while it
-/// waits for its client.
+/// `seats` must belong to `set`. Connections are numbered from 0. They wait in a channel that has room for one
+/// connection per seat. Each worker runs `buffered_session` on its seat, for one connection after another. A session
+/// that ends with a read or write error does not end the server. At the end, the seats are merged into one (gathered)
+/// and the set is closed. Blocks until all connections have been accepted and all workers have ended. Each worker
+/// blocks while it waits for its client.
 ///
 /// # Errors
 ///
@@ -237,7 +237,7 @@ fn serve_all<R: Threads + Wait + Clock + Sync, M: Running + Send + Sync>(
 /// - `Left`: the workers received fewer connections than were accepted.
 /// - `Memory`: an allocation failed.
 ///
-/// After each cause except `Seats`, the workers that were started end, and the set is dropped.
+/// After any cause except `Seats`, the workers that were started end, and the set is dropped.
 pub fn serve<R: Threads + Wait + Clock + Sync, M: Running + Send + Sync>(
     rt: &R,
     alloc: Global,

@@ -1,5 +1,4 @@
-//! The worker threads of a server, one for each seat. A seat is a per-thread handle: one thread calls the set through
-//! it.
+//! The worker threads of a server, one for each seat. A seat is one thread's handle to the set.
 ghost use Rattle.std.specs.Prelude.{◌≡◌, ◌≢◌, ◌<◌, ◌≤◌, ◌-◌, ◌*◌, ◌++◌, List, [], ◌∷◌, All, length, map, sum_by};
 ghost use Rattle.std.specs.Prelude.{IfErr, IfOk, IfSome, MatchOption, OnOk};
 ghost use Rattle.std.specs.Option.{option_map};
@@ -25,8 +24,8 @@ use std::sync::Wait;
 use std::thread::{Promise, PromisedHandle, Scope, Threads};
 use std::time::Clock;
 
-/// The result of a worker thread: its pass (permission to use the channel), its seat, and how many sessions and calls
-/// it has completed.
+/// The result of a worker thread: its pass (permission to use the channel), its seat (handle to the set), and the
+/// numbers of sessions and calls that the thread has completed.
 #[derive(Drop)]
 pub(crate) struct WorkerResult<M: Running> {
     pub pass: Token<TcpStream>,
@@ -35,8 +34,8 @@ pub(crate) struct WorkerResult<M: Running> {
     pub calls: u64,
 }
 
-/// The arguments of a worker thread, for its contract: its channel, its set, its seat, and the maximum number of its
-/// sessions.
+/// The arguments of a worker thread, for the thread's contract: the channel, the set, the seat (per-thread handle to
+/// the set), and the maximum number of sessions.
 #[derive(Drop)]
 pub(crate) struct WorkerPromise<M: Running> {
     pub from: Snapshot<Receiver<TcpStream>>,
@@ -54,7 +53,7 @@ impl<M: Running> Promise<WorkerResult<M>> for WorkerPromise<M> {
 /// A started worker thread.
 pub(crate) type Worker<M> = PromisedHandle<WorkerResult<M>, WorkerPromise<M>>;
 
-/// Waits for the next connection. Returns `None` if no more connections arrive.
+/// Waits for the next connection. Returns `None` if no more connections will arrive.
 fn next<R: Wait>(
     rt: &R,
     from: &Receiver<TcpStream>,
@@ -72,8 +71,8 @@ fn next<R: Wait>(
     }
 }
 
-/// Serves one client in a session on `seat` (a per-thread handle), and prepares the connection for closing. Returns the
-/// number of calls made. A read or write error ends only this session.
+/// Serves one client in a session on `seat` (a per-thread handle to the set), and prepares the connection for closing.
+/// Returns the number of calls made. A read or write error ends only the session with this client.
 fn hold<R: Wait + Clock, M: Running>(
     rt: &R,
     stream: &TcpStream,
@@ -92,8 +91,8 @@ fn hold<R: Wait + Clock, M: Running>(
     ended.calls
 }
 
-/// Serves connections on `seat` (a per-thread handle), until no more connections arrive or `most` connections have been
-/// received.
+/// Serves connections on `seat` (a per-thread handle to the set) until no more connections arrive or `most` connections
+/// have been received.
 fn work<R: Wait + Clock, M: Running>(
     rt: &R,
     from: &Receiver<TcpStream>,
@@ -126,7 +125,8 @@ fn work<R: Wait + Clock, M: Running>(
     }
 }
 
-/// The sums of all workers' sessions and calls, and the seat (per-thread handle) that results from merging their seats.
+/// The total numbers of the workers' sessions and calls, and the seat (per-thread handle to the set) into which the
+/// workers' seats were merged.
 #[derive(Drop)]
 pub(crate) struct Gathered<M: Running> {
     pub seat: Option<Seat<M>>,
@@ -175,7 +175,7 @@ impl<'s, R: Threads + Wait + Clock + Sync, M: Running + Send + Sync> Pool<'s, R,
     }
 
     /// Starts a worker thread on each seat. Each worker has its own pass (permission to use the channel), which is
-    /// split off the sender's `pass`. Allocates the memory for all thread handles before it starts the first thread.
+    /// split off the sender's `pass`. The memory for all thread handles is allocated before the first thread starts.
     pub fn start_all<E>(
         &self,
         alloc: Global,
@@ -209,7 +209,7 @@ impl<'s, R: Threads + Wait + Clock + Sync, M: Running + Send + Sync> Pool<'s, R,
     }
 
     /// Waits for the worker threads to end, joins their passes (permissions to use the channel) to `pass`, and merges
-    /// their seats into one.
+    /// their seats (per-thread handles to the set) into one.
     pub fn join_all(&self, pass: &mut Token<TcpStream>, workers: Vec<Worker<M>>) -> Gathered<M>
         requires pass { IsSeatAt (sends_on self.now.to) pass.old × (0 < (view pass.old).parts) }
         requires owed { All (λ h. (receives_on h.promise.from.value ≡ sends_on self.now.to)

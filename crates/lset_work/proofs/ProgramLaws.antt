@@ -48,7 +48,7 @@ pub call_at : (r r1 r2 : Record) (cs : List Call) (ys ys' : List Reply) (i : ℕ
 call_at r r1 r2 cs ys ys' i d a lt each more before now =
     call_more r r1 r2 cs ys ys' i (get_or cs i d) a lt (get_or_default cs i d (get_or cs i d) lt) each more before now
 
--- ---- Lemmas about waiting for (joining) the next thread
+-- ---- Lemmas about joining the next thread
 
 worked-append : (rs : List Record) (ps : List (List Call)) (ys : List (List Reply)) (r : Record) (p : List Call) (y : List Reply)
     → length ps ≡ length rs → length ys ≡ length rs
@@ -109,8 +109,8 @@ run_more set seats programs last replies seat done now program told h made same 
           (starts_on now.events done.events seat.events from later);
     }
 
--- The invariant while threads are joined. The threads in `joined` have ended, and their seats (per-thread handles) were
--- merged into `last`. The threads in `rest` are still to be joined.
+-- The invariant while threads are joined. The threads in `joined` have ended, and their seats (per-thread handles to
+-- the set) were merged into `last`. The threads in `rest` have not been joined yet.
 pub record SoFar {H V : Type 0} (set : SetValue) (seat : H → SeatValue) (program : H → List Call) (items : V → List Reply)
     (hs rest : List H) (last : Option SeatValue)
     (vs : List V) : Type 0 where

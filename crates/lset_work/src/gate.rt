@@ -1,8 +1,9 @@
 ghost use Rattle.std.specs.Prelude.{◌≡◌, Bool, true, false, IsTrue};
 
-/// A gate: decides before each call of a program whether this call is made. A gate cannot access the set.
+/// A gate: a callback that decides, before each call of a program, whether the call is made. A gate cannot access the
+/// set.
 pub trait Gate {
-    /// States whether this gate can return false, that is, can stop a program (the calls of one thread).
+    /// States whether the gate can return false, that is, can stop a program (the calls of one thread).
     ghost may_shut: { Self → Bool } = { λ _. true };
 
     /// Returns whether to make call number `call` (from 0) of the program of thread `seat`.
@@ -10,7 +11,7 @@ pub trait Gate {
         ensures { may_shut self.now ≡ false → IsTrue result };
 }
 
-/// A gate that lets every call pass.
+/// A gate that permits every call.
 #[derive(Clone, Copy, Debug)]
 pub struct Always;
 

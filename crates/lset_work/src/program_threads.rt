@@ -1,4 +1,4 @@
-//! The threads of `work`: functions that start them, run their programs, and join them.
+//! The threads of `work`: functions that start the threads, run their programs, and join the threads.
 ghost use Rattle.std.specs.Prelude.{◌≡◌, ◌<◌, ◌≤◌, ◌^◌, [], IfSome, MatchBool, MatchOption, All, map, length, true, vec_capacity};
 ghost use Rattle.lset_rule.specs.Runs.{StartsWith};
 ghost use Rattle.lset_work.specs.Programs.{HaveRun, IsMadeOn};
@@ -12,16 +12,16 @@ use std::snapshot::Snapshot;
 use std::sync::Wait;
 use std::thread::{Promise, PromisedHandle, Scope, Threads};
 
-/// The result of a thread: its seat (per-thread handle), and the replies to the calls of its program. The replies are
-/// `None` if the gate (a callback that permits or refuses each call) has stopped the program.
+/// The result of a thread: its seat (per-thread handle to the set), and the replies to the calls of its program. `None`
+/// in place of the replies means that the gate (a callback that permits or refuses each call) stopped the program.
 #[derive(Drop)]
 pub(crate) struct Done<M: Running> {
     pub seat: Seat<M>,
     pub replies: Option<Vec<Reply>>,
 }
 
-/// The promise of a thread in contracts: to make all calls of its program on its seat, unless the gate (a callback that
-/// permits or refuses each call) stops the program.
+/// What a thread promises in its contract: to make all calls of its program on its seat (per-thread handle to the set),
+/// unless the gate (a callback that permits or refuses each call) stops the program.
 #[derive(Drop)]
 pub(crate) struct WorkerPromise<M: Running, G: Gate> {
     pub set: Snapshot<LiveSet<M>>,
@@ -40,8 +40,8 @@ impl<M: Running, G: Gate> Promise<Done<M>> for WorkerPromise<M, G> {
 /// A started thread that runs a program.
 pub(crate) type Worker<M, G> = PromisedHandle<Done<M>, WorkerPromise<M, G>>;
 
-/// Makes the calls of a program until the gate (a callback that permits or refuses each call) stops the program, and
-/// appends the replies. Returns whether all calls were made.
+/// Makes the calls of a program, and appends the replies. Stops early if the gate (a callback that permits or refuses
+/// each call) refuses a call. Returns whether all calls were made.
 fn make_calls<R: Wait, M: Running, G: Gate>(
     rt: &R,
     set: &LiveSet<M>,
@@ -97,7 +97,7 @@ fn run_program<R: Wait, M: Running, G: Gate>(
 }
 
 /// The values that all threads share: the set, the gate (a callback that permits or refuses each call), and the runtime
-/// that they use to wait.
+/// on which the threads wait.
 #[derive(Drop)]
 pub(crate) struct Shared<'s, R, M: Running, G: Gate> {
     pub rt: &'s R,
@@ -131,8 +131,8 @@ impl<'s, R: Wait + Sync, M: Running + Send + Sync, G: Gate + Sync> Shared<'s, R,
             .ok()
     }
 
-    /// Starts a thread for each seat. The thread makes the calls of the seat's program. Returns `None` if the system
-    /// refuses to start a thread.
+    /// Starts a thread for each seat (per-thread handle to the set). The thread makes the calls of the seat's program.
+    /// Returns `None` if the system refuses to start a thread.
     pub fn start_all<E>(
         &self,
         scope: &Scope<'s, E>,
@@ -163,15 +163,15 @@ impl<'s, R: Wait + Sync, M: Running + Send + Sync, G: Gate + Sync> Shared<'s, R,
     }
 }
 
-/// The replies of all programs, and the seat (per-thread handle) that results from merging all seats.
+/// The replies of all programs, and the seat (per-thread handle to the set) into which all seats were merged.
 #[derive(Drop)]
 pub(crate) struct Gathered<M: Running> {
     pub seat: Option<Seat<M>>,
     pub replies: Vec<Vec<Reply>>,
 }
 
-/// Waits for the threads to end and merges their seats into one. Returns `None` if the gate (a callback that permits or
-/// refuses each call) has stopped a program.
+/// Waits for the threads to end and merges their seats (per-thread handles to the set) into one. Returns `None` if the
+/// gate (a callback that permits or refuses each call) stopped a program.
 pub(crate) fn join_all<R: Threads, M: Running, G: Gate>(
     rt: &R,
     set: &LiveSet<M>,

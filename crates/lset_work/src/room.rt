@@ -1,4 +1,4 @@
-//! The vectors that the threads fill. All are allocated before the first thread starts.
+//! The vectors that the threads fill. All vectors are allocated before the first thread starts.
 ghost use Rattle.std.specs.Prelude.{◌≡◌, ◌<◌, ◌≤◌, ◌^◌, [], IfSome, All, map, length, vec_capacity};
 
 use crate::gate::Gate;
@@ -7,7 +7,7 @@ use lset_live::Running;
 use lset_words::{Call, Reply};
 use std::alloc::Global;
 
-/// A program of calls, with space for the replies.
+/// A program of calls, and a vector with enough capacity for the replies.
 #[derive(Drop)]
 pub(crate) struct Program {
     pub calls: Vec<Call>,
@@ -17,8 +17,8 @@ pub(crate) struct Program {
     ghost short: { length calls.items < 2 ^ 32 },
 }
 
-/// The vectors that the threads fill, with enough space: the programs with their replies, the handles of the threads,
-/// and the vectors of replies.
+/// The vectors that the threads fill, each with enough capacity: the programs with their replies, the handles of the
+/// threads, and the vectors of replies.
 #[derive(Drop)]
 pub(crate) struct Room<M: Running, G: Gate> {
     pub programs: Vec<Program>,

@@ -1,5 +1,5 @@
-//! Runs programs of calls on the seats of a running set, all at the same time. A seat is a per-thread handle: one
-//! thread calls the set through it.
+//! Runs programs of calls on the seats of a running set, all at the same time. A seat is one thread's handle to the
+//! set.
 ghost use Rattle.std.specs.Prelude.{◌≡◌, ◌<◌, ◌^◌, ◌↔◌, IfOk, IfErr, IsOk, MatchResult, All, map, length, true};
 ghost use Rattle.lset_live.specs.Explained.{IsOneLegalOrder};
 ghost use Rattle.lset_work.specs.Programs.{Fit, GivesBack, HaveRun, IsOfThreads, IsWorkInTime, worked};
@@ -24,7 +24,7 @@ pub struct Outcome {
     pub keys: Vec<u32>,
 }
 
-/// Runs each program on its seat in a thread of `scope`, and merges the seats into one.
+/// Runs each program on its seat (per-thread handle to the set), in a thread of `scope`, and merges the seats into one.
 fn run_in<'s, E, R: Threads + Wait + Sync, M: Running + Send + Sync, G: Gate + Sync>(
     scope: &Scope<'s, E>,
     rt: &'s R,
@@ -53,7 +53,8 @@ fn run_in<'s, E, R: Threads + Wait + Sync, M: Running + Send + Sync, G: Gate + S
     Ok(gathered)
 }
 
-/// Runs each program on its seat in its own thread, and merges the seats into one when all threads have ended.
+/// Runs each program on its seat (per-thread handle to the set), in its own thread, and merges the seats into one when
+/// all threads have ended.
 fn run_all<R: Threads + Wait + Sync, M: Running + Send + Sync, G: Gate + Sync>(
     rt: &R,
     set: &LiveSet<M>,
@@ -112,9 +113,9 @@ pub fn work<R: Threads + Wait + Sync, M: Running + Send + Sync, G: Gate + Sync>(
     ensures replies { IfOk result (λ o. map (λ v. length v.items) o.replies.items ≡ map (λ p. length p.items) programs.items) }
     ensures outcome { IfOk result (λ o. IsOneLegalOrder set.shape (worked
         (map (λ s. s.past) seats.items) (map (λ p. p.items) programs.items) (map (λ v. v.items) o.replies.items)) o.keys.items) }
-    // The legal order of all calls also linearizes a history. The history begins with the events that the seats had
-    // seen before `work`. In the order, a call that had ended in these events precedes all calls that began later. (A
-    // seat can learn from a receipt that a call has ended: a receipt contains the events that another seat had seen.)
+    // The legal order of all calls also linearizes a history that begins with the events that the seats had seen before
+    // `work`. A call that had ended in the seen events precedes, in the order, all calls that began later. (A seat can
+    // learn from a receipt that a call has ended: a receipt contains the events that another seat had seen.)
     ensures in_time { IfOk result (λ o. IsWorkInTime M.table set.shape seats.items (worked
         (map (λ s. s.past) seats.items) (map (λ p. p.items) programs.items) (map (λ v. v.items) o.replies.items)) o.keys.items) }
     // The cause is `Programs` if and only if the numbers of programs, seats and threads of the set do not match.

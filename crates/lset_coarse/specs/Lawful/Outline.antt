@@ -28,15 +28,15 @@ use Rattle.lset_steps.proofs.Turns.Turn.{passes, changes, answers}
 use Rattle.lset_steps.specs.Rows.{decided_on, goes_to, own_slot}
 use Rattle.lset_coarse.specs.Coarse.{coarse, targets}
 
--- Holds if a step of thread `t` follows the protocol of CoarseList. The step is an allowed access to a shared word
--- (`WordStep`). In addition, while another thread holds the lock, the step changes neither the words nor the numbers of
--- used slots (nodes for adds).
+-- Holds if a step of thread `t` follows the protocol of CoarseList: the step is an allowed access to a shared word
+-- (`WordStep`), and if another thread holds the lock, the step changes neither the words nor the number of used slots
+-- (nodes for adds) of any thread.
 abbrev pub LeavesHolder : Sizes → ℕ → List ℕ → (ℕ → ℕ) → Action → List ℕ → (ℕ → ℕ) → Option (Key × Bool) → Type 0
 LeavesHolder sz t ws used a ws' used' change = WordStep false sz t ws used a ws' used' change
     × ((u : ℕ) → u ≢ t → slice_index ws 0 ≡ u + 1 → (ws' ≡ ws) × (used' ≡ used))
 
--- Holds if the list has the same keys, links, lock and numbers of used slots (nodes for adds) in two states v and w.
--- The holder of the lock relies on these.
+-- Holds if the views v and w have the same keys, links, lock and numbers of used slots (nodes for adds). The lock's
+-- holder relies on all of them being unchanged.
 pub record Same (v w : View) : Type 0 where
   pub keys : w.key ≡ v.key
   pub links : w.link ≡ v.link
@@ -62,8 +62,8 @@ one_lock = record {
   still = λ v q u e. record { keys = refl; links = refl; list_lock = refl; used = refl };
 }
 
--- Holds if the thread with number `me` - 1 holds the list's lock, and its walk is at node pred of the chain. Pred's key
--- is smaller than `key`, and curr is the node after pred.
+-- Holds if thread `me` - 1 holds the list's lock, the chain contains pred, the key of pred is smaller than `key`, and
+-- curr is the node after pred.
 pub record Walking (v : View) (me key pred curr : ℕ) : Type 0 where
   pub mine : v.list_lock ≡ me
   pub at : InChain v pred
@@ -90,12 +90,12 @@ pub data At (q t : ℕ) (vs : ℕ → View) (first now : ℕ) (v : View) (done :
   at10 : l.pc ≡ 10 → v.list_lock ≡ t + 1 → (r : Reply) → l.reply ≡ Some r → Due done q vs first now t l.call r
       → At q t vs first now v done l
 
--- If no link changes, each segment of the chain stays the same.
+-- Lemma: if no link changes, each segment of the chain stays the same.
 segment_same : (v w : View) → w.link ≡ v.link → (i j : ℕ) (ns : List ℕ) → Segment v i ns j → Segment w i ns j
 segment_same v w e i j [] x = x
 segment_same v w e i j (a ∷ ns) x = (x.0, x.1, segment_same v w e (w.link i / 2) j ns (rw e x.2))
 
--- Steps of other threads preserve the assertions of thread `t`.
+-- Lemmas: steps of other threads preserve the assertions of thread `t`.
 module _ (q t : ℕ) (vs : ℕ → View) (first now : ℕ) (v w : View) (done : Bool) (l : Local) (r : v.list_lock ≡ t + 1 → Same v w) where
   module _ (x : Window v t l) where
     s : Same v w
@@ -168,12 +168,13 @@ module _ (sz : Sizes) (t : ℕ) (vs : ℕ → View) (first now : ℕ) (ws : List
   curr_published : Window V t l → V.published l.curr
   curr_published w = in_chain_published V M.ordered l.curr (curr_at w)
 
-  -- `Walking` holds for each node of the chain with a smaller key than the call's, together with the node after it.
+  -- Lemma: `Walking` holds for each node of the chain whose key is smaller than the call's key, and for the node after
+  -- it.
   walks : (a : ℕ) → slice_index ws 0 ≡ t + 1 → InChain V a → node_key ws a < target l.call
       → Walking V (t + 1) (target l.call) a (node_link ws a / 2)
   walks a mine i lt = record { mine = mine; at = i; follows = even_next a i; below = lt }
 
-  -- `Window` still holds after the thread has written to its own slot (the node for its next successful add).
+  -- Lemma: `Window` still holds after the thread has written to its own slot (the node for its next successful add).
   window_on : (w : View) → Quiet V w → w.list_lock ≡ slice_index ws 0 → Window V t l → Window w t l
   window_on w quiet lock x =
       let pred = in_chain_published V M.ordered l.pred x.at in

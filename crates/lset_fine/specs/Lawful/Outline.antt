@@ -25,7 +25,8 @@ use Rattle.lset_steps.proofs.Turns.{Turn, Follows, node_locks, locks_nodes, due_
 use Rattle.lset_steps.proofs.Turns.Turn.{passes, changes, answers}
 use Rattle.lset_fine.specs.Fine.{fine, targets}
 
--- Holds if thread t holds the locks of pred and of curr, the node after pred. Pred's key is smaller than the call's.
+-- Holds if thread t holds the locks of pred and of curr, curr is the node after pred, and the key of pred is smaller
+-- than the call's key.
 abbrev Window : View → ℕ → Local → Type 0
 Window v t l = Between v t (target l.call) l.pred l.curr
 
@@ -51,7 +52,7 @@ pub data At (q t : ℕ) (vs : ℕ → View) (first now : ℕ) (v : View) (done :
   at13 : l.pc ≡ 13 → v.lock l.pred ≡ t + 1 → (r : Reply) → l.reply ≡ Some r → Due done q vs first now t l.call r
       → At q t vs first now v done l
 
--- Steps of other threads preserve the assertions of thread `t`.
+-- Lemmas: steps of other threads preserve the assertions of thread `t`.
 module _ (q t : ℕ) (vs : ℕ → View) (first now : ℕ) (v w : View) (done : Bool) (l : Local) (r : Rely v w q t) where
   s : Leaves v w t
   s = leaves_of r
