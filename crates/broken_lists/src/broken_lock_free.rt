@@ -1,5 +1,6 @@
-//! Implements the steps of two broken LockFreeLists. In the first list, `add` replaces the link of a node even if the
-//! link is marked. In the second list, `remove` never marks a node.
+//! Implements the steps of two broken LockFreeLists (lists without one of their checks). In the first list, `add`
+//! replaces the link of a node even if the link is marked. In the second list, `remove` unlinks a node without marking
+//! it.
 ghost use Rattle.lset_steps.specs.Rows.{IsSmall};
 
 use lset_lock_free::{effect_of, fed_by, next_action};
@@ -8,13 +9,13 @@ use lset_steps::rows::{link_index, own_slot};
 use lset_steps::{Action, Fed, Local};
 use lset_words::{Key, Reply};
 
-/// Returns a link word that leads to `node`. Its mark is the mark that the thread has read earlier and stored in
-/// `pkey`.
+/// Returns a link word that points to `node`. The mark of the link word is the mark that the thread read earlier and
+/// stored in `pkey`.
 fn marked_as_seen(node: u64, local: &Local) -> u64 {
     node.wrapping_mul(2).wrapping_add(local.pkey)
 }
 
-/// Returns the next access to a word by a thread of a LockFreeList whose `add` replaces the link of `pred` even if this
+/// Returns the next access to a word by a thread of a LockFreeList whose `add` replaces the link of `pred` even if the
 /// link is marked.
 pub(crate) fn next_whatever_mark(local: &Local) -> Action
     requires { IsSmall local.now }
@@ -63,7 +64,8 @@ pub(crate) fn effect_whatever_mark(local: &Local, seen: u64) -> Option<(Key, boo
     }
 }
 
-/// Returns a thread's state after a step of a LockFreeList whose `remove` unlinks a node without marking it first.
+/// Returns a thread's state after a step of a LockFreeList whose `remove` unlinks a node without first marking the
+/// node.
 pub(crate) fn fed_without_mark(local: &Local, seen: u64) -> Fed
     requires { IsSmall local.now }
 {

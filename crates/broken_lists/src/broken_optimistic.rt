@@ -1,4 +1,5 @@
-//! Implements the steps of two broken OptimisticLists. Their check of the two locked nodes (validation) is too weak.
+//! Implements the steps of two broken OptimisticLists, whose validation (the check of the two locked nodes) is too
+//! weak.
 ghost use Rattle.lset_steps.specs.Rows.{IsSmall};
 
 use lset_optimistic::fed_by;
@@ -12,8 +13,8 @@ fn past_the_walk(local: Local) -> Local {
     }
 }
 
-/// Returns a thread's state after a step of an OptimisticList without a second traversal. Its validation only checks
-/// that `pred` links to `curr`.
+/// Returns a thread's state after a step of an OptimisticList without a second walk. The validation only checks that
+/// `pred` links to `curr`.
 pub(crate) fn fed_without_walk(local: &Local, seen: u64) -> Fed
     requires { IsSmall local.now }
 {
@@ -24,8 +25,8 @@ pub(crate) fn fed_without_walk(local: &Local, seen: u64) -> Fed
     }
 }
 
-/// Returns a thread's state after its second traversal has loaded a key, in an OptimisticList that compares keys
-/// instead of nodes. This traversal ends at the first key that is not smaller than the key of `pred`.
+/// Returns a thread's state after its second walk has loaded a key, in an OptimisticList that compares keys instead of
+/// nodes. The second walk ends at the first key that is not smaller than the key of `pred`.
 pub(crate) fn arrived_by_key(seen: u64, local: &Local) -> Local {
     if local.pkey < seen {
         Local {

@@ -1,4 +1,5 @@
-//! Reads a schedule for a broken list (a list without one of its checks), runs it, and returns a report of the run.
+//! Reads a schedule for a broken list (a list without one of its checks), runs the schedule, and returns a report of
+//! the run.
 ghost use Rattle.std.specs.Prelude.{◌≡◌, IfOk};
 ghost use Rattle.lset_words.specs.Words.{Opens};
 ghost use Rattle.lset_text.specs.declared.words.Version.TheVariants.{Two};
@@ -15,7 +16,7 @@ use std::alloc::{AllocError, Global};
 /// The number of the line that names the kind of list. Lines are counted from 1.
 const KIND_LINE: u64 = 2;
 
-/// Reads a schedule for a broken list. Allocates.
+/// Reads a schedule for a broken list (a list without one of its checks). Allocates.
 ///
 /// # Errors
 ///
@@ -42,15 +43,15 @@ fn run_calls(alloc: Global, broken: BrokenList, schedule: &Schedule) -> Result<R
     calls_of(alloc, schedule, world)
 }
 
-/// Reads a schedule for a broken list, runs it, and returns a report of version 2. The order in the report has the
-/// calls sorted by linearization point, as `lset_replay::calls_of` computes them. This order does not always explain
-/// the calls. Allocates.
+/// Reads a schedule for a broken list (a list without one of its checks), runs it, and returns a report in version 2 of
+/// the format. The report contains the calls in an order: sorted by linearization point, as `lset_replay::calls_of`
+/// computes it. The order does not always explain the calls. Allocates.
 ///
 /// # Errors
 ///
-/// Returns the errors of `read_broken_schedule`. If an event is not enabled, or its step would access a word that the
-/// list does not have (`Lost`), returns the line and the cause. If an allocation fails during the run, returns `Memory`
-/// in line 2.
+/// Returns the errors of `read_broken_schedule`. If an event is not enabled, or if its step would access a word that
+/// the list does not have (`Lost`), returns the line and the cause. If an allocation fails during the run, returns
+/// `Memory` in line 2.
 pub fn report_broken(alloc: Global, broken: BrokenList, text: &[u8]) -> Result<Report, LineFault>
     ensures { IfOk result (λ r. r.version ≡ Two) }
 {

@@ -1,4 +1,4 @@
-//! Creates broken lists (lists with one check removed), to run schedules on them.
+//! Creates broken lists (lists without one of their checks), on which schedules can run.
 ghost use Rattle.lset_schedule.specs.Plan.{opening_in, view};
 ghost use Rattle.lset_words.specs.Words.{Opens};
 
@@ -8,11 +8,12 @@ use lset_schedule::Schedule;
 use lset_words::layout_opening;
 use std::alloc::{AllocError, Global};
 
-/// Creates a broken list for a schedule, before the first event. Ignores the kind of list that the schedule names.
+/// Creates a broken list (a list without one of its checks) for a schedule, before the first event. Ignores the kind of
+/// list that the schedule names.
 ///
-/// `lset_replay::calls_of` collects the calls of the run and an order of them. If `check_order` rejects this order,
-/// another order can still explain the calls. `schedule` must be within the limits, as every schedule from
-/// `read_schedule` is. Returns `AllocError` if an allocation fails.
+/// After a run, `lset_replay::calls_of` collects the calls of the run and computes an order of the calls. If
+/// `check_order` rejects the computed order, another order can still explain the calls. `schedule` must be within the
+/// limits, as every schedule from `read_schedule` is. Returns `AllocError` if an allocation fails.
 pub fn broken_world_of(
     alloc: Global,
     broken: BrokenList,

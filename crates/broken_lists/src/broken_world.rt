@@ -20,8 +20,8 @@ pub struct BrokenWorld {
     locals: Vec<Local>,
 }
 
-/// Returns whether all numbers in a thread's private state are within their limits. Computing with such numbers cannot
-/// overflow.
+/// Returns whether all numbers in a thread's private state are within their limits. If they are, computing with them
+/// cannot overflow.
 fn is_small(local: &Local) -> bool
     ensures { IsTrue result → IsSmall local.now }
 {
@@ -35,7 +35,7 @@ fn is_small(local: &Local) -> bool
 }
 
 /// Returns the value that `action` reads or writes: the stored value for a store, otherwise the current value of the
-/// word. Returns `None` if the list has no such word.
+/// word. Returns `None` if the list does not have the word that `action` accesses.
 fn sight(words: &[u64], action: Action) -> Option<u64> {
     let (Action::Load(word) | Action::Exchange(word, _, _) | Action::Store(word, _)) = action;
     let held = *words.get(word as usize)?;
@@ -58,7 +58,8 @@ fn write(words: &mut Vec<u64>, action: Action, seen: u64) {
 }
 
 impl BrokenWorld {
-    /// Creates a broken list that contains `keys`, before the first event. Returns `AllocError` if an allocation fails.
+    /// Creates a broken list (a list without one of its checks) that contains `keys`, before the first event. Returns
+    /// `AllocError` if an allocation fails.
     pub fn opened(
         alloc: Global,
         broken: BrokenList,
@@ -79,7 +80,8 @@ impl BrokenWorld {
         })
     }
 
-    /// Starts a call. Returns `NoThread` if the thread does not exist, `Busy` if the thread already has a pending call.
+    /// Starts a call. Returns `NoThread` if the thread does not exist, and `Busy` if the thread already has a pending
+    /// call.
     fn begin(&mut self, thread: u32, call: Call) -> Result<Told, Cause> {
         let broken = self.broken;
         let local = self.locals.get_mut(thread as usize).ok_or(Cause::NoThread)?;

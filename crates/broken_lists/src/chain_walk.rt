@@ -1,5 +1,5 @@
 //! Walks along the links of a broken list (a list without one of its checks) from the head. The words can have any
-//! values, because a broken list can lose its nodes.
+//! values, because a broken list can lose nodes.
 
 ghost use Rattle.std.specs.Prelude.{◌<◌, ◌^◌, IsTrue};
 
@@ -8,22 +8,22 @@ use lset_words::{key_index, link_index};
 use std::alloc::{AllocError, Global};
 use std::collections::BTreeSet;
 
-/// An invalid node number: no list has this many nodes. A walk along the links stops at this number.
+/// An invalid node number, greater than any node number of a list. A walk along the links stops at `NO_NODE`.
 const NO_NODE: u64 = 1 << 32;
 
-/// A node that a walk along the links has reached: its key, its mark, and the number of the next node.
+/// A node that a walk along the links has reached: its key, its mark, and the number of the node to which it links.
 #[derive(Clone, Copy)]
 struct Met {
     place: ChainKey,
     next: u64,
 }
 
-/// Returns the word with this index, or 0 if the list has fewer words.
+/// Returns the word with index `index`, or 0 if the list has fewer words.
 fn word_at(words: &[u64], index: u64) -> u64 {
     words.get(index as usize).copied().unwrap_or(0)
 }
 
-/// Returns whether the list has this node and the node is neither the head nor the tail.
+/// Returns whether the list contains node `node`, and `node` is neither the head nor the tail.
 fn is_met(words: &[u64], node: u64) -> bool
     ensures { IsTrue result → node < 2 ^ 32 }
 {

@@ -1,8 +1,8 @@
 //! Implements the steps of the broken lists (lists without one of their checks). In each `match`, the flaw is in the
 //! arm that does not call the function of the intact list.
 //!
-//! Steps are defined for every thread state with small numbers (`IsSmall`), even if no run leads to this state. `seen`
-//! is the value that a load read, a store wrote, or a compare-and-exchange found.
+//! Steps are defined for every thread state with small numbers (`IsSmall`), even for a state that no run reaches.
+//! `seen` is the value that a load read, a store wrote, or a compare-and-exchange found.
 ghost use Rattle.lset_steps.specs.Rows.{IsSmall};
 
 use crate::lists::BrokenList;
@@ -16,8 +16,8 @@ use lset_steps::rows::{begun as begun_at, lock_index};
 use lset_steps::{Action, Fed, Local};
 use lset_words::{Call, Key};
 
-/// Returns the value that a thread uses if it overlooks the mark at row `row` of its step table. At this row, the value
-/// is `seen` with the lowest bit (the mark) cleared. At any other row, it is `seen`.
+/// Returns the value that a thread uses if it overlooks the mark at row `row` of its step table. At row `row`, the
+/// value is `seen` with the lowest bit (the mark) cleared. At any other row, the value is `seen` itself.
 fn without_mark(row: u8, local: &Local, seen: u64) -> u64 {
     if local.pc == row {
         2 * (seen / 2)
@@ -26,7 +26,8 @@ fn without_mark(row: u8, local: &Local, seen: u64) -> u64 {
     }
 }
 
-/// Returns a thread's state after the start of `call`. A broken list starts a call as the intact list does.
+/// Returns a thread's state after the start of `call`. A broken list (a list without one of its checks) starts a call
+/// as the intact list does.
 pub fn begun(broken: BrokenList, call: Call, local: &Local) -> Local {
     match broken {
         Lock | SecondLock | HandOverHand | SecondWalk | SameNode => begun_at(1, call, local),

@@ -1,8 +1,8 @@
 //! The broken lists. A broken list is one of the five lists with one check removed.
 //!
-//! `BrokenList` names a broken list, and the module `flaws` defines its steps. A broken list violates laws that the
-//! trait `Machine` requires. Therefore its state is a `BrokenWorld`, not a `World`. `broken_world_of` creates this
-//! state for a schedule. Some runs have calls that no order explains.
+//! `BrokenList` names a broken list, and the module `flaws` defines the list's steps. A broken list violates laws that
+//! the trait `Machine` requires. Therefore the state of a broken list is a `BrokenWorld`, not a `World`.
+//! `broken_world_of` creates the state for a schedule. In some runs of a broken list, no order explains the calls.
 #![tactic(auto)]
 
 mod broken_fine; // the steps of broken FineLists

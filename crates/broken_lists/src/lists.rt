@@ -1,25 +1,25 @@
 use lset_words::Kind;
 
-/// A list with one check removed. It is named after this check.
+/// A list with one check removed. A `BrokenList` is named after the removed check.
 #[derive(Clone, Copy, Debug, PartialEq, Eq)]
 pub enum BrokenList {
     /// CoarseList: a call continues even if it did not get the lock.
     Lock,
     /// FineList: `remove` locks only `pred`.
     SecondLock,
-    /// FineList: a traversal unlocks `pred` before it locks `curr`.
+    /// FineList: a walk unlocks `pred` before it locks `curr`.
     HandOverHand,
     /// OptimisticList: the validation checks only that `pred` links to `curr`.
     SecondWalk,
-    /// OptimisticList: the second traversal compares keys instead of nodes.
+    /// OptimisticList: the second walk compares keys instead of nodes.
     SameNode,
-    /// LazyList: the validation ignores the marks.
+    /// LazyList: the validation ignores marks.
     MarksInValidation,
     /// LazyList: `contains` ignores the mark.
     MarkInContains,
-    /// LazyList: `ceiling` ignores the marks.
+    /// LazyList: `ceiling` ignores marks.
     MarkInCeiling,
-    /// LockFreeList: `remove` unlinks a node without marking it first.
+    /// LockFreeList: `remove` unlinks a node without first marking the node.
     Mark,
     /// LockFreeList: `add` replaces `pred`'s link even if `pred` is marked.
     MarkInAdd,
@@ -49,7 +49,7 @@ pub const ALL: [BrokenList; 13] = [
 ];
 
 impl BrokenList {
-    /// Returns the name that selects this list in `--lacks NAME`.
+    /// Returns the name that selects the list in `--lacks NAME`.
     pub fn name(self) -> &'static str {
         match self {
             BrokenList::Lock => "lock",
@@ -68,7 +68,7 @@ impl BrokenList {
         }
     }
 
-    /// Returns the kind of the intact list, before the check was removed.
+    /// Returns the kind of the intact list, from which the check was removed.
     pub fn kind(self) -> Kind {
         match self {
             BrokenList::Lock => Kind::Coarse,
@@ -86,7 +86,7 @@ impl BrokenList {
     }
 }
 
-/// Returns the broken list with this name, or `None` if no broken list has this name.
+/// Returns the broken list named `name`, or `None` if no broken list has that name.
 pub fn named(name: &[u8]) -> Option<BrokenList> {
     for broken in &ALL {
         if broken.name().as_bytes() == name {

@@ -1,4 +1,4 @@
--- Proof of the effect of each row of the step table, by computation.
+-- Proof, by computation, of the effect of each row of the step table.
 use Rattle.std.proofs.Common.{◌≡◌, ℕ, ◌*◌, ◌/◌, ◌%◌, Bool, true, false, if◌then◌else◌, Option, Some, None, ◌==◌, refl, ◌∙◌}
 use Rattle.std.specs.Prelude.{nat_lt}
 use Rattle.lset_words.specs.declared.Call.{Call}

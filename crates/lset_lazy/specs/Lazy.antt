@@ -14,8 +14,8 @@ use Rattle.lset_steps.specs.Steps.{Table}
 use Rattle.lset_steps.specs.Rows.{own_slot, decided_on}
 use Rattle.lset_steps.specs.ReadRows.{begun_reading, read_action, read_fed, continued, leaves_with}
 
--- The rows of the step table where a call continues after its walk: to add its key, to remove its key, or to end with
--- its reply.
+-- The rows of the step table at which a call continues after its walk: to add its key (`adds`), to remove its key
+-- (`removes`), or to end with its reply (`leaves`).
 abbrev pub targets : Targets
 targets = record { adds = 8; removes = 11; leaves = 13 }
 
@@ -37,8 +37,8 @@ next_action l =
     else if l.pc == 14 then Store (lock_index l.pred) 0
     else read_action l
 
--- Returns the thread's private state after it has loaded curr's key. If this key is smaller than the call's, the walk
--- continues. Otherwise the call takes the locks.
+-- Returns the thread's private state after it has loaded curr's key. If the key of curr is smaller than the call's key,
+-- the walk continues. Otherwise the call takes the locks.
 abbrev pub at_key : ℕ → Local → Local
 at_key seen l = if nat_lt seen (target l.call) then record l { pc = 3; ckey = seen } else record l { pc = 4; ckey = seen }
 
@@ -53,11 +53,11 @@ abbrev pub at_pred : ℕ → Local → Local
 at_pred seen l = if seen == 2 * l.curr then record l { pc = 7 } else gives_up l
 
 -- Returns the thread's private state after it has loaded the link of curr, with both nodes locked. Validation fails if
--- curr has a mark. Otherwise the call has a reply or will change the set.
+-- the link has a mark. Otherwise the call has a reply or will change the set.
 abbrev pub at_curr : ℕ → Local → Local
 at_curr seen l = if seen % 2 == 0 then decided_on targets l.ckey (record l { succ = seen / 2 }) else gives_up l
 
--- Returns the outcome of the step that releases the last lock: the call ends with its reply or, without a reply,
+-- Returns the outcome of the step that releases the second lock: the call ends with its reply or, without a reply,
 -- starts again.
 abbrev pub released : Option Reply → Local → Fed
 released None l = continued (record l { pc = 1 })

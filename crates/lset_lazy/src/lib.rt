@@ -21,16 +21,16 @@ use lset_words::{Call, HEAD, Key, Kind, Reply};
 #[derive(Clone, Copy)]
 pub struct LazyList;
 
-/// The rows of the step table where a call continues after its walk: to add its key, to remove its key, or to end with
-/// its reply.
+/// The rows of the step table at which a call continues after its walk: to add its key (`adds`), to remove its key
+/// (`removes`), or to end with its reply (`leaves`).
 const TARGETS: Targets = Targets {
     adds: 8,
     removes: 11,
     leaves: 13,
 };
 
-/// Returns the next access of a pending call to a shared word. The program counter `pc` is the row of the step table.
-/// The numbers in `local` must be small (`IsSmall`), as they are in every run.
+/// Returns the next access of a pending call to a shared word. The program counter `pc` is the number of a row of the
+/// step table. The numbers in `local` must be small (`IsSmall`), as they are in every run.
 #[inline(always)]
 pub fn next_action(local: &Local) -> Action
     requires { IsSmall local.now }
@@ -54,8 +54,8 @@ pub fn next_action(local: &Local) -> Action
     }
 }
 
-/// Returns the thread's private state after its walk continues from `pred` to the next node. The walk loads the key of
-/// this node next.
+/// Returns the thread's private state after its walk has moved on to the node after `pred`. Next, the walk loads that
+/// node's key.
 #[inline(always)]
 fn walked_from(pred: u64, local: &Local, seen: u64) -> Local
     ensures { result ≡ record local.now { pc = 2; pred = pred; curr = seen / 2 } }
@@ -68,8 +68,8 @@ fn walked_from(pred: u64, local: &Local, seen: u64) -> Local
     }
 }
 
-/// Returns the thread's private state after it has read `seen`, the key of `curr`. If this key is smaller than the
-/// call's, the walk continues. Otherwise the call takes the locks.
+/// Returns the thread's private state after it has loaded `seen`, the key of `curr`. If `seen` is smaller than the
+/// call's key, the walk continues. Otherwise the call takes the locks.
 #[inline(always)]
 fn at_key(local: &Local, seen: u64) -> Local
     ensures { result ≡ at_key seen local.now }
@@ -108,7 +108,7 @@ fn at_pred(local: &Local, seen: u64) -> Local
     }
 }
 
-/// Returns the thread's private state after it has read the link of `curr`. If `curr` is not marked, the call has a
+/// Returns the thread's private state after it has loaded the link of `curr`. If `curr` is not marked, the call has a
 /// reply or will change the set. Otherwise validation fails.
 #[inline(always)]
 fn at_curr(local: &Local, seen: u64) -> Local
@@ -125,8 +125,8 @@ fn at_curr(local: &Local, seen: u64) -> Local
     }
 }
 
-/// Returns the thread's private state after the call has changed the set. The call has the reply `True`, and releases
-/// the locks next.
+/// Returns the thread's private state after the call has changed the set. The call has the reply `True`, and next
+/// releases the locks.
 #[inline(always)]
 fn succeeds(local: Local) -> Local
     ensures { result ≡ record local { pc = 13; reply = Some True } }
@@ -138,7 +138,7 @@ fn succeeds(local: Local) -> Local
     }
 }
 
-/// Returns the outcome of the step that releases the last lock: the call ends with its reply or, without a reply,
+/// Returns the outcome of the step that releases the second lock: the call ends with its reply or, without a reply,
 /// starts again.
 #[inline(always)]
 fn released(local: &Local) -> Fed

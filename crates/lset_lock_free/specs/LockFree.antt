@@ -13,8 +13,8 @@ use Rattle.lset_steps.specs.Steps.{Table}
 use Rattle.lset_steps.specs.Rows.{own_slot, decided_on}
 use Rattle.lset_steps.specs.ReadRows.{begun_reading, read_action, read_fed, continued, leaves_with}
 
--- The rows of the step table where a call continues after its walk: to add its key or to remove its key. A call that
--- changes nothing ends at once (`leaves`, row 0).
+-- The rows of the step table at which a call continues after its walk: to add its key (`adds`) or to remove its key
+-- (`removes`). A call that changes nothing ends at once (`leaves`, row 0).
 abbrev pub targets : Targets
 targets = record { adds = 5; removes = 8; leaves = 0 }
 
@@ -32,25 +32,25 @@ next_action l =
     else if l.pc == 10 then Exchange (link_index l.pred) (2 * l.curr) (2 * l.succ)
     else read_action l
 
--- Returns the outcome of the step that has loaded the link of curr. If the link has a mark, the call attempts to unlink
--- curr next. Otherwise the call loads curr's key next.
+-- Returns the outcome of the step that has loaded the link of curr. If the link has a mark, the call next attempts to
+-- unlink curr. Otherwise the call next loads curr's key.
 abbrev pub at_link : ℕ → Local → Fed
 at_link seen l =
     if seen % 2 == 0 then continued (record l { pc = 4; succ = seen / 2 }) else continued (record l { pc = 3; succ = seen / 2 })
 
--- Returns the outcome of the last step of a walk. The call ends with its reply, or continues at the row of the step
+-- Returns the outcome of the final step of a walk. The call ends with its reply, or continues at the row of the step
 -- table that adds or removes its key.
 abbrev pub decision_of : Local → Fed
 decision_of l = record { local = l; answer = if l.pc == 0 then l.reply else None }
 
--- Returns the outcome of the step that has loaded curr's key. If this key is smaller than the call's, the walk
--- continues. Otherwise the call ends with a reply, or will change the set.
+-- Returns the outcome of the step that has loaded curr's key. If the key of curr is smaller than the call's key, the
+-- walk continues. Otherwise the call ends with a reply, or will change the set.
 abbrev pub at_key : ℕ → Local → Fed
 at_key seen l =
     if nat_lt seen (target l.call) then continued (record l { pc = 2; pred = l.curr; curr = l.succ })
     else decision_of (decided_on targets seen l)
 
--- Returns the outcome of a failed exchange: the call walks again from the head.
+-- Returns the outcome of a failed compare-and-exchange: the call starts its walk again from the head.
 abbrev pub again : Local → Fed
 again l = continued (record l { pc = 1 })
 

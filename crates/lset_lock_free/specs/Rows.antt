@@ -14,16 +14,17 @@ use Rattle.lset_steps.specs.Rows.{own_slot, goes_to, ceiling_at}
 use Rattle.lset_steps.specs.ReadRows.{continued, leaves_with}
 use Rattle.lset_steps.specs.RowLaws.{Does, HasReading, nothing}
 
--- Returns the outcome of a step if the call continues at row `pc` of the step table.
+-- Returns the outcome of a step after which the call continues at row `pc` of the step table.
 abbrev pub on_to : ℕ → Local → Fed
 on_to pc l = continued (record l { pc = pc })
 
--- Returns the outcome of a step that ends the call with this reply.
+-- Returns the outcome of a step that ends the call with reply `r`.
 abbrev pub answers : Reply → Local → Fed
 answers r l = leaves_with r (record l { reply = Some r })
 
--- Decides how a call continues at the first key that is not smaller than its own. An `add` that will change the set
--- continues at row 5 of the step table, and a `remove` that will change it at row 8. All other calls end with a reply.
+-- Decides how a call continues at the first key that is not smaller than the call's key. An `add` that will change the
+-- set continues at row 5 of the step table, and a `remove` that will change the set at row 8. Any other call ends with
+-- a reply.
 abbrev pub decides : Call → Local → ℕ → Fed
 decides (Add k) l seen =
     if seen == target (Add k) then answers False l
@@ -33,8 +34,8 @@ decides (Remove k) l seen = if seen == target (Remove k) then continued (goes_to
 decides (Contains k) l seen = if seen == target (Contains k) then answers True l else answers False l
 decides (Ceiling k) l seen = answers (ceiling_at seen) l
 
--- Returns the change of the set by an exchange that expects `old`. If the exchange sees `old`, it succeeds, and adds
--- the call's key (`put_in` is true) or removes it.
+-- Returns the change of the set by a compare-and-exchange that expects the value `old`. If it finds `old`, it succeeds
+-- and adds the call's key (if `put_in` is true) or removes the key. Otherwise it changes nothing.
 abbrev pub tells_where : ℕ → Bool → Local → ℕ → Option (Key × Bool)
 tells_where old put_in l seen = if seen == old then Some (key_of l.call, put_in) else None
 
@@ -47,13 +48,13 @@ pub record LockFreeRows (T : Table) : Type 0 where
       (λ l seen. if seen % 2 == 0 then continued (record l { pc = 4; succ = seen / 2 })
       else continued (record l { pc = 3; succ = seen / 2 }))
       nothing
-  -- If `curr` is marked, the walk unlinks `curr` by an exchange of the link of `pred`. If the exchange fails, the walk
-  -- starts again from the head.
+  -- If `curr` is marked, the walk unlinks `curr` by a compare-and-exchange of the link of `pred`. If the
+  -- compare-and-exchange fails, the walk starts again from the head.
   pub row_3 : Does T 3 (λ l. Exchange (link_index l.pred) (2 * l.curr) (2 * l.succ))
       (λ l seen. if seen == 2 * l.curr then continued (record l { pc = 2; curr = l.succ }) else on_to 1 l)
       nothing
-  -- If `curr` is not marked, the walk loads the key of `curr`. If this key is smaller than the call's, the walk
-  -- continues with the next node. Otherwise the call ends with a reply, or will change the set.
+  -- If `curr` is not marked, the walk loads the key of `curr`. If the loaded key is smaller than the call's key, the
+  -- walk continues with the next node. Otherwise the call ends with a reply, or will change the set.
   pub row_4 : Does T 4 (λ l. Load (key_index l.curr))
       (λ l seen. if nat_lt seen (target l.call) then continued (record l { pc = 2; pred = l.curr; curr = l.succ })
       else decides l.call l seen)
@@ -61,18 +62,18 @@ pub record LockFreeRows (T : Table) : Type 0 where
   -- An `add` writes the key and the link of its own slot, a node that is not yet in the chain.
   pub row_5 : Does T 5 (λ l. Store (key_index (own_slot l)) (target l.call)) (λ l seen. on_to 6 l) nothing
   pub row_6 : Does T 6 (λ l. Store (link_index (own_slot l)) (2 * l.curr)) (λ l seen. on_to 7 l) nothing
-  -- An `add` links its own slot, a new node, after `pred`. This adds the key to the set and uses up the slot. If the
-  -- exchange fails, the call starts again.
+  -- An `add` links its own slot, a new node, after `pred`. The link adds the key to the set and uses up the slot. If
+  -- the compare-and-exchange fails, the call starts again.
   pub row_7 : Does T 7 (λ l. Exchange (link_index l.pred) (2 * l.curr) (2 * own_slot l))
       (λ l seen. if seen == 2 * l.curr then leaves_with True (record l { used = l.used + 1 }) else on_to 1 l)
       (λ l. tells_where (2 * l.curr) true l)
-  -- A `remove` loads the link of the node with its key.
+  -- A `remove` loads the link of the node that has its key.
   pub row_8 : Does T 8 (λ l. Load (link_index l.curr)) (λ l seen. continued (record l { pc = 9; succ = seen / 2 })) nothing
-  -- A `remove` marks the node with its key. This removes the key from the set. If the link has changed since it was
-  -- loaded, the exchange fails, and the call starts again.
+  -- A `remove` marks the node that has its key, which removes the key from the set. If the link of the node has changed
+  -- since it was loaded, the compare-and-exchange fails, and the call starts again.
   pub row_9 : Does T 9 (λ l. Exchange (link_index l.curr) (2 * l.succ) (2 * l.succ + 1))
       (λ l seen. if seen == 2 * l.succ then on_to 10 l else on_to 1 l)
       (λ l. tells_where (2 * l.succ) false l)
-  -- A `remove` attempts once to unlink the node that it has marked, and ends. If the attempt fails, a later walk
+  -- A `remove` attempts once to unlink the node that it has marked, and then ends. If the attempt fails, a later walk
   -- unlinks the node.
   pub row_10 : Does T 10 (λ l. Exchange (link_index l.pred) (2 * l.curr) (2 * l.succ)) (λ l seen. leaves_with True l) nothing

@@ -17,21 +17,22 @@ use lset_steps::rows::{Targets, decide, key_index, link_index, own_slot};
 use lset_steps::{Action, Fed, Local, Machine, OpenReads};
 use lset_words::{Call, HEAD, Key, Kind, Reply};
 
-/// The list-based set without locks. To remove a node, an exchange of the node's own link marks it, and an exchange of
-/// the previous node's link then unlinks it. Any `add` or `remove` that reaches a marked node can unlink the node.
+/// The list-based set without locks. A `remove` first marks a node by a compare-and-exchange of the node's link, and
+/// then unlinks the node by a compare-and-exchange of the previous node's link. Any `add` or `remove` that reaches a
+/// marked node can unlink the node.
 #[derive(Clone, Copy)]
 pub struct LockFreeList;
 
-/// The rows of the step table where a call continues after its walk: to add its key or to remove its key. A call that
-/// changes nothing ends at once (`leaves`, row 0).
+/// The rows of the step table at which a call continues after its walk: to add its key (`adds`) or to remove its key
+/// (`removes`). A call that changes nothing ends at once (`leaves`, row 0).
 const TARGETS: Targets = Targets {
     adds: 5,
     removes: 8,
     leaves: 0,
 };
 
-/// Returns the next access of a pending call to a shared word. The program counter `pc` is the row of the step table.
-/// The numbers in `local` must be small (`IsSmall`), as they are in every run.
+/// Returns the next access of a pending call to a shared word. The program counter `pc` is the number of a row of the
+/// step table. The numbers in `local` must be small (`IsSmall`), as they are in every run.
 #[inline(always)]
 pub fn next_action(local: &Local) -> Action
     requires { IsSmall local.now }
@@ -50,8 +51,8 @@ pub fn next_action(local: &Local) -> Action
     }
 }
 
-/// Returns the outcome of a step that brings the walk to `curr`, the node after `pred`. The walk loads the link of
-/// `curr` next.
+/// Returns the outcome of a step that moves the walk to `curr`, the node after `pred`. The walk next loads the link of
+/// `curr`.
 #[inline(always)]
 fn at_node(pred: u64, curr: u64, local: &Local) -> Fed
     ensures { result ≡ continued (record local.now { pc = 2; pred = pred; curr = curr }) }
@@ -64,8 +65,8 @@ fn at_node(pred: u64, curr: u64, local: &Local) -> Fed
     })
 }
 
-/// Returns the outcome of the step that has read the link of `curr`. If the link has a mark, the call attempts to
-/// unlink `curr` next. Otherwise the call loads the key of `curr` next.
+/// Returns the outcome of the step that has loaded the link of `curr`. If the link has a mark, the call next attempts
+/// to unlink `curr`. Otherwise the call next loads the key of `curr`.
 #[inline(always)]
 fn at_link(local: &Local, seen: u64) -> Fed
     ensures { result ≡ at_link seen local.now }
@@ -78,7 +79,7 @@ fn at_link(local: &Local, seen: u64) -> Fed
     })
 }
 
-/// Returns the outcome of the last step of a walk. The call ends with its reply, or continues at the row of the step
+/// Returns the outcome of the final step of a walk. The call ends with its reply, or continues at the row of the step
 /// table that adds or removes its key.
 #[inline(always)]
 fn decision_of(local: Local) -> Fed
@@ -88,8 +89,8 @@ fn decision_of(local: Local) -> Fed
     Fed { local, answer }
 }
 
-/// Returns the outcome of the step that has read `seen`, the key of `curr`. If this key is smaller than the call's, the
-/// walk continues. Otherwise the call ends with a reply, or will change the set.
+/// Returns the outcome of the step that has loaded `seen`, the key of `curr`. If `seen` is smaller than the call's key,
+/// the walk continues. Otherwise the call ends with a reply, or will change the set.
 #[inline(always)]
 fn at_key(local: &Local, seen: u64) -> Fed
     ensures { result ≡ at_key seen local.now }
@@ -102,7 +103,7 @@ fn at_key(local: &Local, seen: u64) -> Fed
 }
 
 /// Returns the outcome of the step that has linked the thread's new node into the chain. The thread's number of used
-/// slots increases by one, and the call ends with `True`.
+/// slots (nodes for adds) increases by one, and the call ends with the reply `True`.
 #[inline(always)]
 fn puts_in(local: &Local) -> Fed
     requires { IsSmall local.now }
@@ -115,7 +116,7 @@ fn puts_in(local: &Local) -> Fed
     leaves_with(Reply::True, local)
 }
 
-/// Returns the outcome of a failed exchange: the call walks again from the head.
+/// Returns the outcome of a failed compare-and-exchange: the call starts its walk again from the head.
 #[inline(always)]
 fn again(local: &Local) -> Fed
     ensures { result ≡ again local.now }
@@ -123,7 +124,8 @@ fn again(local: &Local) -> Fed
     continued(Local { pc: 1, ..*local })
 }
 
-/// Returns the thread's private state after its next step, which saw `seen`, and the reply if the step ends the call.
+/// Returns the thread's private state after its next step, and the call's reply if the step ends the call. `seen` is
+/// the value that the step read or wrote.
 #[inline(always)]
 pub fn fed_by(local: &Local, seen: u64) -> Fed
     requires { IsSmall local.now }
@@ -149,8 +151,8 @@ pub fn fed_by(local: &Local, seen: u64) -> Fed
     }
 }
 
-/// Returns the key that the next step adds (`true`) or removes (`false`), or `None` if the step changes nothing. Only
-/// a successful exchange changes the set.
+/// Returns the key that the next step adds (`true`) or removes (`false`), or `None` if the step changes nothing. Only a
+/// successful compare-and-exchange changes the set.
 #[inline(always)]
 pub fn effect_of(local: &Local, seen: u64) -> Option<(Key, bool)>
     requires { IsSmall local.now }

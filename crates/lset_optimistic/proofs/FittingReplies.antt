@@ -1,4 +1,4 @@
--- Proof: if a call of OptimisticList changes nothing, its reply is correct at the moment of one of the call's own
+-- Proof: if a call of OptimisticList changes nothing, the call's reply is correct at the moment of one of its own
 -- loads.
 use Rattle.std.specs.Prelude.{◌≡◌, ◌≢◌, ℕ, zero, suc, ◌+◌, ◌/◌, ◌<◌, ◌≤◌, ◌⊎◌, Bool, true, false, Option, Some, None, List}
 use Rattle.std.specs.Prelude.{if◌then◌else◌, ◌==◌, ◌||◌, nat_lt, slice_index_or, slice_set, length, refl}
@@ -83,8 +83,8 @@ fits_at op last es r t tn k l goes e reply y =
     (has_changed (log_of optimistic op es) t k) (local_of s t) reply i.memory th tn e th.at
     (ap (λ (x : Local). x.reply) (sym (link_row s.words (local_of s t) e)) ∙ y)
 
--- Holds if a step to row 14 or 15 of the step table yields the thread's reply in one of three ways. The step is at row
--- 8 and decides the reply, or changes the set, or is at row 14 and the thread already has the reply.
+-- Holds if a step to row 14 or 15 of the step table yields the thread's reply in one of three ways: the step is at row
+-- 8 and decides the reply, the step changes the set, or the step is at row 14 and the thread already has the reply.
 abbrev Came : Local → ℕ → Reply → Type 0
 Came l seen reply = (l.pc ≡ 8) ⊎ (is_change (optimistic.effect l seen) ≡ true) ⊎ ((l.pc ≡ 14) × (l.reply ≡ Some reply))
 
@@ -168,8 +168,8 @@ module _ (op : Opening) (last : ℕ) (es : ℕ → Event) (r : Run optimistic op
   abbrev S : ℕ → State
   S k = state_at optimistic op es k
 
-  -- States that if a thread has a reply, has changed nothing and is about to release a lock, its reply was correct at
-  -- one of the call's earlier loads.
+  -- Holds if any reply of a thread that has changed nothing and is about to release a lock (row 14 or 15 of the step
+  -- table) was correct at an earlier load of the call.
   abbrev Settled : ℕ → LastCall → Local → Type 0
   Settled now x l = (reply : Reply) → 14 ≤ l.pc → l.reply ≡ Some reply → x.changed ≡ false
       → FitsAtALoad op es x.begun now t l.call reply

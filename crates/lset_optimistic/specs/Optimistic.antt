@@ -12,8 +12,8 @@ use Rattle.lset_steps.specs.declared.rows.Targets.{Targets}
 use Rattle.lset_steps.specs.Steps.{Table}
 use Rattle.lset_steps.specs.Rows.{own_slot, begun, decided_on}
 
--- The rows of the step table after a walk: an `add` adds its key from row 9 on, and a `remove` removes its key from
--- row 12 on. A call that already has its reply continues at row 14.
+-- The rows of the step table at which a call continues after its walks: an `add` adds its key from row 9 on, a `remove`
+-- removes its key from row 12 on, and a call that already has its reply continues at row 14.
 abbrev pub targets : Targets
 targets = record { adds = 9; removes = 12; leaves = 14 }
 
@@ -35,23 +35,23 @@ next_action l =
     else if l.pc == 14 then Store (lock_index l.pred) 0
     else Store (lock_index l.curr) 0
 
--- Returns the thread's private state after it has loaded curr's key. If this key is smaller than the call's, the walk
--- continues. Otherwise the call takes the locks.
+-- Returns the thread's private state after it has loaded curr's key. If the key of curr is smaller than the call's key,
+-- the walk continues. Otherwise the call takes the locks.
 abbrev pub at_key : ℕ → Local → Local
 at_key seen l = if nat_lt seen (target l.call) then record l { pc = 3; ckey = seen } else record l { pc = 4; ckey = seen }
 
--- Returns the thread's private state after it has taken both locks. The second walk then begins at the head. If pred
--- is the head, this walk has already arrived there.
+-- Returns the thread's private state after it has taken both locks. The second walk then begins at the head. If pred is
+-- the head, the second walk has already arrived.
 abbrev pub at_locks : Local → Local
 at_locks l = if l.pred == 0 then record l { pc = 8; node = 0 } else record l { pc = 6; node = 0 }
 
--- Returns the thread's private state after validation has failed. The thread has no reply, and releases both locks
--- next.
+-- Returns the thread's private state after validation has failed. The thread has no reply, and next releases both
+-- locks.
 abbrev pub gives_up : Local → Local
 gives_up l = record l { pc = 14; reply = None }
 
--- Returns the thread's private state after the second walk has loaded the key of `node`. Validation fails if this key
--- is greater than pred's. If `node` is pred, the second walk has arrived.
+-- Returns the thread's private state after the second walk has loaded the key of `node`. Validation fails if the key of
+-- `node` is greater than the key of pred. If `node` is pred, the second walk has arrived.
 abbrev pub at_node : ℕ → Local → Local
 at_node seen l =
     if nat_lt l.pkey seen then gives_up l
@@ -59,7 +59,7 @@ at_node seen l =
     else record l { pc = 6 }
 
 -- Returns the thread's private state after the second walk has arrived at pred and loaded pred's link. If the link
--- leads to curr, the call has a reply or will change the set. Otherwise validation fails.
+-- points to curr, the call has a reply or will change the set. Otherwise validation fails.
 abbrev pub at_link : ℕ → Local → Local
 at_link seen l = if seen / 2 == l.curr then decided_on targets l.ckey l else gives_up l
 

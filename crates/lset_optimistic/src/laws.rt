@@ -3,17 +3,18 @@
 
 ghost use Rattle.lset_optimistic.specs.Promises.{ValidatedWalk, OptimisticRepliesFit};
 
-/// Lemma: once the second walk of a call has reached the first of the two locked nodes, this node is in the chain until
-/// its lock is released. This holds even if the walk has passed nodes that were being unlinked. A call gets its reply
-/// or changes the list only after its walk has reached this node. (Herlihy and Shavit's validation. The proof uses the
-/// hindsight of O'Hearn and others: each node of the walk was in the chain at some time since the lock was taken.)
+/// Lemma: once the second walk of a call has reached the first of the two locked nodes, that node is in the chain until
+/// its lock is released, even if the walk has passed nodes that were being unlinked. A call gets its reply or changes
+/// the list only after its second walk has reached the first locked node. (Herlihy and Shavit's validation. The proof
+/// uses the hindsight of O'Hearn and others: each node of the walk was in the chain at some moment since the lock was
+/// taken.)
 pub fn validated_walk()
     ensures { ValidatedWalk }
 {}
 
-/// Lemma: if a call ends without having changed the set, its reply was correct at one of its own loads. At this load,
-/// after the second walk, the thread saw that the first of the two locked nodes leads to the second. (Herlihy and
-/// Shavit's linearization points of calls without a change.)
+/// Lemma: if a call ends without having changed the set, its reply was correct at one of the call's own loads. In that
+/// load, after the second walk, the thread saw that the link of the first locked node points to the second locked node.
+/// (Herlihy and Shavit's linearization points of calls that change nothing.)
 pub fn optimistic_replies_fit()
     ensures { OptimisticRepliesFit }
 {}

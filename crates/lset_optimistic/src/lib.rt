@@ -28,21 +28,22 @@ use lset_steps::rows::{
 use lset_steps::{Action, Fed, Local, Machine};
 use lset_words::{Call, HEAD, Key, Kind, Reply};
 
-/// The list-based set that walks without locks, and then locks the two nodes where the walk ended. A second walk from
-/// the head checks that the first of these nodes is still in the chain and leads to the second.
+/// The list-based set that walks without locks, and then locks the two nodes at which the walk ended. A second walk
+/// from the head checks that the first locked node is still in the chain, and that its link points to the second locked
+/// node.
 #[derive(Clone, Copy)]
 pub struct OptimisticList;
 
-/// The rows of the step table where a call continues after its walk: to add its key, to remove its key, or to end with
-/// its reply.
+/// The rows of the step table at which a call continues after its walks: to add its key (`adds`), to remove its key
+/// (`removes`), or to end with its reply (`leaves`).
 const TARGETS: Targets = Targets {
     adds: 9,
     removes: 12,
     leaves: 14,
 };
 
-/// Returns the next access of a pending call to a shared word. The program counter `pc` is the row of the step table.
-/// The numbers in `local` must be small (`IsSmall`), as they are in every run.
+/// Returns the next access of a pending call to a shared word. The program counter `pc` is the number of a row of the
+/// step table. The numbers in `local` must be small (`IsSmall`), as they are in every run.
 #[inline(always)]
 pub fn next_action(local: &Local) -> Action
     requires { IsSmall local.now }
@@ -66,8 +67,8 @@ pub fn next_action(local: &Local) -> Action
     }
 }
 
-/// Returns the thread's private state after its walk continues from `pred` to the next node. `pkey` is the key of
-/// `pred`, and `link` is its link, which leads to the next node.
+/// Returns the thread's private state after its walk has moved to `pred`. `pkey` is the key of `pred`, and `link` is
+/// the link of `pred`, which points to the node that the walk visits next.
 #[inline(always)]
 fn walks_on(local: &Local, pred: u64, pkey: u64, link: u64) -> Local
     ensures { result ≡ record local.now { pc = 2; pred = pred; pkey = pkey; curr = link / 2 } }
@@ -81,8 +82,8 @@ fn walks_on(local: &Local, pred: u64, pkey: u64, link: u64) -> Local
     }
 }
 
-/// Returns the thread's private state after it has read `seen`, the key of `curr`. If this key is smaller than the
-/// call's, the walk continues. Otherwise the call takes the locks.
+/// Returns the thread's private state after it has loaded `seen`, the key of `curr`. If `seen` is smaller than the
+/// call's key, the walk continues. Otherwise the call takes the locks.
 #[inline(always)]
 fn at_key(local: &Local, seen: u64) -> Local
     ensures { result ≡ at_key seen local.now }
@@ -96,7 +97,7 @@ fn at_key(local: &Local, seen: u64) -> Local
 }
 
 /// Returns the thread's private state at the start of the second walk, which begins at the head. If pred is the head,
-/// the walk has already arrived.
+/// the second walk has already arrived.
 #[inline(always)]
 fn at_locks(local: &Local) -> Local
     ensures { result ≡ at_locks local.now }
@@ -121,8 +122,8 @@ fn gives_up(local: &Local) -> Local
     }
 }
 
-/// Returns the thread's private state after the second walk has read the key `seen`. Validation fails if the walk has
-/// passed pred, the node that the first walk found. If the walk is at pred, the walk has arrived.
+/// Returns the thread's private state after the second walk has loaded the key `seen`. Validation fails if the second
+/// walk has passed pred, the node that the first walk found. If the second walk is at pred, it has arrived.
 #[inline(always)]
 fn at_node(local: &Local, seen: u64) -> Local
     ensures { result ≡ at_node seen local.now }
@@ -136,7 +137,7 @@ fn at_node(local: &Local, seen: u64) -> Local
     }
 }
 
-/// Returns the thread's private state after it has read the link of pred. If the link still leads to curr, the call
+/// Returns the thread's private state after it has loaded the link of pred. If the link still points to curr, the call
 /// has a reply or will change the set. Otherwise validation fails.
 #[inline(always)]
 fn at_link(local: &Local, seen: u64) -> Local
@@ -149,7 +150,7 @@ fn at_link(local: &Local, seen: u64) -> Local
     }
 }
 
-/// Returns the thread's private state after it has released its last lock. A call without a reply starts again.
+/// Returns the thread's private state after it has released its second lock. A call without a reply starts again.
 #[inline(always)]
 fn at_end(local: &Local) -> Local
     ensures { result ≡ at_end local.now.reply local.now }

@@ -61,8 +61,8 @@ pub(crate) fn steps_out(
     Ok(number_at(made.line(made.count()), 2))
 }
 
-/// Returns the trace of the lines before the error, followed by 10,000 steps of the thread. Returns `None` if the lines
-/// cannot be expanded, or if the thread's call ends within the 10,000 steps.
+/// Returns the trace of the lines before the error, followed by up to 10,000 steps of the thread. The trace ends early
+/// if the thread's call ends. Returns `None` if the lines cannot be expanded.
 fn trace_up_to(
     alloc: Global,
     lines: &Lines<'_>,

@@ -31,7 +31,8 @@ use Rattle.lset_steps.proofs.Turns.{Turn, Follows, Outcome, node_locks, locks_no
 use Rattle.lset_steps.proofs.Turns.Turn.{passes, changes, answers}
 use Rattle.lset_lazy.specs.Lazy.{lazy, targets, next_action, at_key, gives_up, at_pred, at_curr, released, fed_by, effect_of}
 
--- Holds if thread t holds the locks of pred and of curr, the node after pred. Pred's key is smaller than the call's.
+-- Holds if thread t holds the locks of pred and of curr, curr is the node after pred, and the key of pred is smaller
+-- than the call's key.
 abbrev Window : View → ℕ → Local → Type 0
 Window v t l = Between v t (target l.call) l.pred l.curr
 

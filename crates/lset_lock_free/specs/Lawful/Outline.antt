@@ -37,7 +37,7 @@ use Rattle.lset_steps.proofs.Turns.Turn.{passes, changes, answers, ends}
 use Rattle.lset_lock_free.specs.LockFree.{lock_free, targets, decision_of, at_key, at_link, again, next_action, fed_by, effect_of}
 
 -- Holds if, at some moment from `first` to `now` (a moment is the number of events so far), node `a` was in the chain,
--- `b` was the next node, and `P` was true. At this moment, thread `t` had made `count` successful adds.
+-- `b` was the node after `a`, `P` was true, and thread `t` had made `count` successful adds.
 pub record Was (vs : ℕ → View) (first now a b t count : ℕ) (P : View → Type 0) : Type 0 where
   pub at : ℕ
   pub from : first ≤ at
@@ -47,25 +47,25 @@ pub record Was (vs : ℕ → View) (first now a b t count : ℕ) (P : View → T
   pub holds : P (vs at)
   pub same_count : (vs at).used t ≡ count
 
--- Holds if, at some moment from `first` to `now` (a moment is the number of events so far), pred was in the chain, its
--- key was smaller than the call's, and curr was the node after pred. At this moment, the thread had made `count`
--- successful adds.
+-- Holds if, at some moment from `first` to `now` (a moment is the number of events so far), pred was in the chain, the
+-- key of pred was smaller than the call's key, curr was the node after pred, and the thread had made `count` successful
+-- adds.
 abbrev pub Link : (ℕ → View) → ℕ → ℕ → ℕ → ℕ → ℕ → ℕ → ℕ → Type 0
 Link vs first now key pred curr t count = Was vs first now pred curr t count (λ v. v.key pred < key)
 
 -- Holds if, at some moment from `first` to `now` (a moment is the number of events so far), curr was in the chain
--- without a mark, and succ was the node after curr. At this moment, the thread had made `count` successful adds.
+-- without a mark, succ was the node after curr, and the thread had made `count` successful adds.
 abbrev pub Open : (ℕ → View) → ℕ → ℕ → ℕ → ℕ → ℕ → ℕ → Type 0
 Open vs first now curr succ t count = Was vs first now curr succ t count (λ v. v.link curr % 2 ≡ 0)
 
--- The proof outline: the assertion of thread `t` before each row of the step table. The last case is for all rows of
+-- The proof outline: the assertion of thread `t` before each row of the step table. The final case covers all rows of
 -- `contains` and `ceiling`.
 pub data At (q t : ℕ) (vs : ℕ → View) (first now : ℕ) (v : View) (done : Bool) (l : Local) : Type 0 where
   at0 : l.pc ≡ 0 → At q t vs first now v done l
   at1 : l.pc ≡ 1 → done ≡ false → At q t vs first now v done l
   at2 : l.pc ≡ 2 → done ≡ false → Spot v (target l.call) l.pred l.curr
       → Link vs first now (target l.call) l.pred l.curr t (v.used t) → At q t vs first now v done l
-  -- If the thread's last step unlinked the node between pred and curr, curr is now the node after pred.
+  -- If the thread has just unlinked the node between pred and curr, curr is now the node after pred.
   at2_now : l.pc ≡ 2 → done ≡ false → Spot v (target l.call) l.pred l.curr → first ≤ now → InChain v l.pred
       → v.link l.pred / 2 ≡ l.curr → At q t vs first now v done l
   at3 : l.pc ≡ 3 → done ≡ false → Spot v (target l.call) l.pred l.curr → v.published l.succ → v.link l.curr ≡ 2 * l.succ + 1
@@ -88,7 +88,7 @@ pub data At (q t : ℕ) (vs : ℕ → View) (first now : ℕ) (v : View) (done :
       → v.link l.curr ≡ 2 * l.succ + 1 → At q t vs first now v done l
   at_read : Reading vs first now done l → At q t vs first now v done l
 
--- An assertion about the past still holds after the next event.
+-- Lemma: an assertion about the past still holds after the next event.
 was_on : {vs : ℕ → View} {first now a b t count count' : ℕ} {P : View → Type 0} → count' ≡ count
     → Was vs first now a b t count P → Was vs first (suc now) a b t count' P
 was_on {now = now} e x = record {
@@ -101,7 +101,7 @@ was_on {now = now} e x = record {
   same_count = x.same_count ∙ sym e;
 }
 
--- If the properties in `Was` hold now, they hold at some time during the call.
+-- Lemma: if the properties in `Was` hold now, they hold at some moment during the call.
 is_now : {vs : ℕ → View} {first now a b t : ℕ} {v : View} (P : View → Type 0) → vs now ≡ v → first ≤ now → InChain v a
     → v.link a / 2 ≡ b → P v → Was vs first now a b t (v.used t) P
 is_now {vs} {first} {now} {a} {b} {t} {v} P e from i next holds = record {
@@ -114,7 +114,7 @@ is_now {vs} {first} {now} {a} {b} {t} {v} P e from i next holds = record {
   same_count = ap (λ x. x.used t) e;
 }
 
--- Steps of other threads preserve the assertions of thread `t`.
+-- Lemmas: steps of other threads preserve the assertions of thread `t`.
 module _ (q t : ℕ) (vs : ℕ → View) (first now : ℕ) (v w : View) (done : Bool) (l : Local) (present : vs now ≡ v)
     (r : Remains v w q t) where
   g : KeepsNodes v w
@@ -219,9 +219,9 @@ module _ (sz : Sizes) (t : ℕ) (vs : ℕ → View) (first now : ℕ) (ws : List
   abbrev Fitting : Reply → Type 0
   Fitting r = FitsSometime sz.quota (contents_of vs) (counts_of vs) first now t l.call r
 
-  -- Suppose that at moment `at` (after `at` events, during the call), the set has the call's key if and only if the
-  -- call found the key. Then the call has a reply that is correct at this moment, or continues at the row for adding or
-  -- removing its key.
+  -- Lemma: suppose that at moment `at` (after `at` events, during the call), the set contains the call's key if and
+  -- only if the call found the key. Then the call has a reply that is correct at moment `at`, or continues at the row
+  -- that adds or removes its key.
   decided_at : (s at : ℕ) → first ≤ at → at ≤ now → (vs at).used t ≡ used t
       → ((s == target l.call) ≡ true → InContent (vs at) (key_of l.call).0)
       → ((s == target l.call) ≡ false → InContent (vs at) (key_of l.call).0 → ⊥)
@@ -258,7 +258,7 @@ module _ (sz : Sizes) (t : ℕ) (vs : ℕ → View) (first now : ℕ) (ws : List
   end_then a at upto p =
       sym (key_stays vs now a at now h.course upto (omega arith) p) ∙ ap (λ v. v.key a) h.present
 
-  -- If the key of a `ceiling` is in the set, this key is the correct reply.
+  -- Lemma: if the key of a `ceiling` is in the set, that key is the correct reply.
   own_ceiling : (v : View) (s : ℕ) → s ≡ target l.call → target l.call < tail_word → InContent v (key_of l.call).0
       → FitsIn sz.quota v t (Ceiling (key_of l.call)) (ceiling_at s)
   own_ceiling v s e low c = subst (FitsIn sz.quota v t (Ceiling (key_of l.call)))

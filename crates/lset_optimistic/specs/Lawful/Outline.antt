@@ -30,8 +30,8 @@ use Rattle.lset_steps.proofs.Turns.{Turn, Follows, Outcome, node_locks, locks_no
 use Rattle.lset_steps.proofs.Turns.Turn.{passes, changes, answers}
 use Rattle.lset_optimistic.specs.Optimistic.{optimistic, targets}
 
--- Holds if the first walk has found pred, a node with a smaller key than the call's, and curr, a node whose key is not
--- smaller. `pkey` and `ckey` are the keys of pred and curr.
+-- Holds if the first walk has found pred, a node whose key is smaller than the call's key, and curr, a node whose key
+-- is not smaller. `pkey` and `ckey` are the keys of pred and curr.
 pub record Reached (v : View) (key pred pkey curr ckey : ℕ) : Type 0 where
   pub found : Found v key pred curr ckey
   pub low : v.key pred ≡ pkey
@@ -46,8 +46,8 @@ reached_kept {pred = pred} g f = record {
 abbrev pub Window : View → Local → Type 0
 Window v l = Reached v (target l.call) l.pred l.pkey l.curr l.ckey
 
--- Holds if a second walk has reached pred, and thread t holds the locks of pred and of curr, the next node in the
--- chain.
+-- Holds if a second walk has reached pred, curr is the node after pred in the chain, and thread t holds the locks of
+-- both nodes.
 abbrev pub Neighbours : View → ℕ → Local → Type 0
 Neighbours v t l = Between v t (target l.call) l.pred l.curr × (l.node ≡ l.pred)
 
@@ -112,8 +112,8 @@ module _ (q t : ℕ) (vs : ℕ → View) (first now : ℕ) (v w : View) (done : 
       (outcome_on done q vs first now t l.call l.reply o)
   stays (at15 e c o) = at15 e (s.locks l.curr c) (outcome_on done q vs first now t l.call l.reply o)
 
--- If the second walk has reached pred and pred's link leads to curr, the call either has a reply that is correct now,
--- or will add or remove its key.
+-- Lemma: if the second walk has reached pred and pred's link points to curr, the call either has a reply that is
+-- correct now, or will add or remove its key.
 pub decision : {sz : Sizes} {t : ℕ} {ws : List ℕ} {used : ℕ → ℕ} (m : Memory false sz ws used) (l : Local) → t < sz.threads →
     Registers sz t l
     → l.used ≡ used t → Window (view sz ws used) l → node_lock ws l.curr ≡ t + 1 → Held (view sz ws used) t l.pred
