@@ -1,9 +1,9 @@
-//! Exports the functions of `ffi_sets` to C: sets of keys that threads share, used through handles (`CSeat`). A handle
-//! is empty, or owns a seat (one thread's access to the set), a receipt (a record of the calls that a seat has seen),
-//! or a closed set.
+//! Exports the functions of `ffi_sets` to C: sets of keys that threads share. C code uses the sets through handles
+//! (`CSeat`). A handle is empty, or owns a seat (one thread's access to a set), a receipt (a record of the calls that a
+//! seat has seen), or a closed set.
 //!
-//! Each function calls the function of `ffi_sets` with the same contract. The parameter `alloc` has size zero: C passes
-//! no argument for it.
+//! Each exported function calls the function of `ffi_sets` that has the same contract. The parameter `alloc` has size
+//! zero: C passes no argument for it.
 #![tactic(auto)]
 
 ghost use Rattle.lset_words.specs.declared.Call.TheVariants.{Add, Remove, Contains, Ceiling};
@@ -19,8 +19,8 @@ use std::alloc::Global;
 /// Opens a set of the list `kind`: 0 coarse, 1 fine, 2 optimistic, 3 lazy, 4 lock-free. The set has 1 to 64 `seats`
 /// (one for each thread), a `quota` of 0 to 16,384 successful adds for each seat, and at most 1,048,576 opening `keys`
 /// in strictly increasing order. Stores one seat in the handle `out`, which must be empty. All other seats can be split
-/// off this seat. No other open set may have the same `number`, because `listset_gather` uses it to compare the sets of
-/// two seats.
+/// off the stored seat. No other open set may have the number `number`, because `listset_gather` uses it to compare the
+/// sets of two seats.
 ///
 /// Returns `DONE`. On an error, changes nothing and returns the error: `IS_SEAT` if `out` is not empty, `BAD_KIND`,
 /// `BAD_SEATS`, `BAD_QUOTA`, `BAD_KEYS`, or `OUT_OF_MEMORY` if an allocation failed. Does not block.
@@ -89,9 +89,9 @@ pub extern "C" fn listset_ceiling(alloc: Global, seat: &mut CSeat, key: u32, at:
     ffi_sets::ceiling_at(alloc, seat, key, at)
 }
 
-/// Returns 1 if `key` is in the set, 0 if it is not, without blocking: whatever other threads do, the call takes at
-/// most `listset_most_reads` steps. Makes no call on a coarse, fine or optimistic list, and returns 254. Returns 255 if
-/// the handle `seat` owns no seat (one thread's access to a set). Does not allocate.
+/// Returns 1 if `key` is in the set and 0 if it is not, without blocking: whatever other threads do, the call takes at
+/// most `listset_most_reads` steps. On a coarse, fine or optimistic list, returns 254 without making a call. Returns
+/// 255 if the handle `seat` owns no seat (one thread's access to a set). Does not allocate.
 #[unsafe(no_mangle)]
 pub extern "C" fn listset_contains_now(alloc: Global, seat: &mut CSeat, key: u32) -> u8
     ensures made { result < 254 → HasMade seat.old.full seat.old.held (Contains (record { 0 = key })) result seat.new.full seat.new.held }
@@ -100,9 +100,9 @@ pub extern "C" fn listset_contains_now(alloc: Global, seat: &mut CSeat, key: u32
     ffi_sets::contains_key_now(alloc, seat, key)
 }
 
-/// Returns the maximum number of steps of a `contains` in any run of a lazy or lock-free list. The list opens for
-/// `seats` threads, with this quota and `opening` keys. Returns 0 if no set can be opened with these numbers. Does not
-/// block or allocate.
+/// Returns the maximum number of steps of a `contains` in any run of a lazy or lock-free list that opens for `seats`
+/// threads with `opening` keys. `quota` is the number of successful adds that one thread may make. Returns 0 if no set
+/// can be opened with the given numbers. Does not block or allocate.
 #[unsafe(no_mangle)]
 pub extern "C" fn listset_most_reads(seats: u32, quota: u32, opening: u32) -> u64
     ensures { IsWithin (record { threads = seats; quota = quota; opening = opening })
@@ -112,8 +112,8 @@ pub extern "C" fn listset_most_reads(seats: u32, quota: u32, opening: u32) -> u6
 }
 
 /// Stores a receipt in the handle `out`, which must be empty. The receipt covers everything that `seat` (one thread's
-/// access to the set) has seen: its own calls, and everything seen by the seats merged into it and by the receipts that
-/// it accepted. `seat` does not change.
+/// access to the set) has seen: the calls of `seat`, and everything seen by the seats merged into `seat` and by the
+/// receipts that `seat` accepted. `seat` does not change.
 ///
 /// Returns `DONE`. On an error, changes nothing and returns the first error that applies: `IS_SEAT` if `out` is not
 /// empty, `NO_SEAT` if the handle `seat` owns no seat, `OUT_OF_MEMORY` if an allocation failed. Does not block.
@@ -126,10 +126,10 @@ pub extern "C" fn listset_receipt_of(alloc: Global, seat: &mut CSeat, out: &mut 
 
 /// Passes the receipt `given` (a record of the calls that a seat has seen) to `seat` (one thread's access to the set).
 /// In the order of all calls, later calls of `seat` follow every call that the receipt covers. `given` is empty
-/// afterwards. The caller must ensure that a seat and a receipt with the same list and number belong to the same set.
+/// afterwards. The caller must ensure that a seat and a receipt with equal list and number belong to one set.
 ///
-/// Returns `DONE`. On an error, changes nothing. The error is `NO_SEAT` if `seat` or `given` is empty, and `NO_GATHER`
-/// if they are not a seat and a receipt with the same list and number. Does not block or allocate.
+/// Returns `DONE`. On an error, changes nothing and returns `NO_SEAT` if `seat` or `given` is empty, or `NO_GATHER` if
+/// `seat` and `given` are not a seat and a receipt with equal list and number. Does not block or allocate.
 #[unsafe(no_mangle)]
 pub extern "C" fn listset_after(alloc: Global, seat: &mut CSeat, given: &mut CSeat) -> u8
     requires { GathersAt seat.old.full seat.old.held given.old.full given.old.held }
@@ -138,18 +138,18 @@ pub extern "C" fn listset_after(alloc: Global, seat: &mut CSeat, given: &mut CSe
     ffi_sets::take_receipt(alloc, seat, given)
 }
 
-/// Returns the number of seats (one for each thread) that `seat` contains, itself included. Writes the number of all
-/// seats of the set to `all`. Both numbers are 0 if the handle `seat` owns no seat. Does not block or allocate.
+/// Returns the number of seats (one for each thread) that `seat` contains, including `seat` itself. Writes the number
+/// of all seats of the set to `all`. Both numbers are 0 if the handle `seat` owns no seat. Does not block or allocate.
 #[unsafe(no_mangle)]
 pub extern "C" fn listset_seats_within(alloc: Global, seat: &mut CSeat, all: &mut u32) -> u64 {
     ffi_sets::count_seats(alloc, seat, all)
 }
 
 /// Merges the seat `from` (one thread's access to the set), including all seats that it contains, into `into`. `from`
-/// is empty afterwards. The caller must ensure that two seats with the same list and number belong to the same set.
+/// is empty afterwards. The caller must ensure that two seats with equal list and number belong to one set.
 ///
-/// Returns `DONE`. On an error, changes nothing. The error is `NO_SEAT` if `into` or `from` is empty, and `NO_GATHER`
-/// if they are not two seats with the same list and number. Does not block or allocate.
+/// Returns `DONE`. On an error, changes nothing and returns `NO_SEAT` if `into` or `from` is empty, or `NO_GATHER` if
+/// `into` and `from` are not two seats with equal list and number. Does not block or allocate.
 #[unsafe(no_mangle)]
 pub extern "C" fn listset_gather(alloc: Global, into: &mut CSeat, from: &mut CSeat) -> u8
     requires { GathersAt into.old.full into.old.held from.old.full from.old.held }
@@ -175,7 +175,7 @@ pub extern "C" fn listset_keys(alloc: Global, closed: &mut CSeat, room: &mut [u3
     ffi_sets::give_keys(alloc, closed, room)
 }
 
-/// Drops the value that the handle `seat` owns. The handle is empty afterwards. A set cannot be closed once one of its
+/// Drops the value that the handle `seat` owns, and leaves the handle empty. A set cannot be closed after one of its
 /// seats (one for each thread) has been dropped. Does not block.
 #[unsafe(no_mangle)]
 pub extern "C" fn listset_drop(alloc: Global, seat: &mut CSeat) {

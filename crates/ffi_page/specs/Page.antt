@@ -1,4 +1,4 @@
--- How the result of a command is written to a buffer of a caller in another language.
+-- How the result of a command is written to a buffer of a caller that is written in another language.
 use Rattle.std.specs.Prelude.{◌≡◌, ◌≢◌, ℕ, ◌≤◌, ◌<◌, ◌⊎◌, List, ◌++◌, length, drop, Ok, Err}
 use Rattle.std.specs.Str.Lossy.{utf8_lossy}
 use Rattle.lset_text.specs.Parts.{cut_at}
@@ -16,32 +16,32 @@ abbrev pub status_of : Made → ℕ
 status_of (Ok answer) = answer.status
 status_of (Err t) = trouble.status_of t
 
--- Holds if the text is at the start of the buffer and the rest of the buffer is unchanged. If the text does not fit,
+-- Holds if the text is at the start of the buffer and the rest of the buffer is unchanged or, if the text does not fit,
 -- the whole buffer is unchanged.
 abbrev pub Handed : List ℕ → List ℕ → List ℕ → Type 0
 Handed text old new =
     ((length text ≤ length old) × (new ≡ text ++ drop (length text) old)) ⊎ ((length old < length text) × (new ≡ old))
 
--- Holds if the caller receives the result: the text if it fits into the buffer, the status, and the length of the
--- text.
+-- Holds if the caller receives the result: the text if it fits into the buffer, the status, and the length of the text.
 pub record IsHanded (made : Made) (old new : List ℕ) (status count : ℕ) : Type 0 where
   pub text : Handed (text_of made) old new
   pub status_is : status ≡ status_of made
   pub count_is : count ≡ length (text_of made)
 
--- Holds if the result of a command is correct for a text. The command reads no file, so the error is never
+-- Holds if the result `made` of a command is correct for a text. The command reads no file, so the error is never
 -- `CannotRead`.
 abbrev pub OfText : (List ℕ → Made → Type 0) → List ℕ → Made → Type 0
 OfText Makes text made = Makes text made × (made ≢ Err CannotRead)
 
--- Returns the arguments in these bytes. Zero bytes separate the arguments. Invalid UTF-8 is replaced by U+FFFD.
+-- Returns the arguments in `bytes`, where zero bytes separate the arguments. Invalid UTF-8 is replaced by U+FFFD.
 abbrev pub words_in : List ℕ → List (List ℕ)
 words_in bytes = cut_at 0 (utf8_lossy bytes)
 
--- Holds if the result of a command is correct for its arguments, or `Memory` if storing the arguments failed.
+-- Holds if the result `made` of a command is correct for the command's arguments, or if `made` is `Memory` because
+-- storing the arguments failed.
 abbrev pub OfWords : (List (List ℕ) → Made → Type 0) → List ℕ → Made → Type 0
 OfWords Makes bytes made = (made ≡ Err Memory) ⊎ Makes (words_in bytes) made
 
--- Holds if the caller receives the text, the status and the text length of a result that satisfies `IsMade`.
+-- Holds if the caller receives the text, the status and the text length of some result that satisfies `IsMade`.
 abbrev pub Hands : (Made → Type 0) → List ℕ → List ℕ → ℕ → ℕ → Type 0
 Hands IsMade old new status count = (made : Made) × IsMade made × IsHanded made old new status count

@@ -14,8 +14,8 @@ fn nothing(alloc: Global) -> Answer {
     }
 }
 
-/// Returns the diagnosis of recorded calls. Returns `None` if a line has the wrong form or some order explains the
-/// calls. Checks no other rule for recordings.
+/// Returns the diagnosis of recorded calls. Returns `None` if a line has the wrong form, or if some order explains the
+/// calls. Does not check any other rule for recordings.
 fn diagnosis_of(alloc: Global, text: &[u8]) -> Result<Option<Diagnosis>, AllocError> {
     let mut reader = RunReader::new(alloc);
     reader.feed(text)?;
@@ -26,8 +26,8 @@ fn diagnosis_of(alloc: Global, text: &[u8]) -> Result<Option<Diagnosis>, AllocEr
 }
 
 /// Returns the diagnosis of recorded calls as a record (lines with a name and values), with status 1. If a line has the
-/// wrong form or some order explains the calls, returns an empty answer with status 0. Checks no other rule for
-/// recordings.
+/// wrong form, or if some order explains the calls, returns an empty answer with status 0. Does not check any other
+/// rule for recordings.
 pub fn diagnose_recording(alloc: Global, text: &[u8]) -> Result<Answer, Trouble> {
     match diagnosis_of(alloc, text)? {
         Some(diagnosis) => Ok(Answer {
@@ -50,7 +50,7 @@ fn explain_below<R: Read>(alloc: Global, input: &mut R, used: usize) -> Result<A
     }
 }
 
-/// Returns the number of lines of the answer `not linearizable`; 0 for any other answer.
+/// Returns the number of lines of the answer `not linearizable`, or 0 for any other answer.
 fn refused_lines(verdict: &Answer) -> usize {
     if verdict.status == 0 {
         return 0;
@@ -60,7 +60,7 @@ fn refused_lines(verdict: &Answer) -> usize {
 }
 
 /// Returns the lines that `judge FILE` prints below the verdict on a recording, with status 1. If the text is not a
-/// recording or some order explains its calls, returns an empty answer with status 0.
+/// recording, or if some order explains its calls, returns an empty answer with status 0.
 pub fn diagnose_text(alloc: Global, text: &[u8]) -> Result<Answer, Trouble> {
     let used = match judge_bytes(alloc, text) {
         Ok(verdict) => refused_lines(&verdict),
@@ -75,8 +75,8 @@ pub fn diagnose_text(alloc: Global, text: &[u8]) -> Result<Answer, Trouble> {
 }
 
 /// Returns the lines that `judge FILE` prints below a verdict of `used` lines, with status 1. Reads the recording from
-/// the file with this descriptor. If the file cannot be read, a line has the wrong form, or some order explains the
-/// calls, returns an empty answer with status 0. Checks no other rule for recordings.
+/// the file with the descriptor `file`. If the file cannot be read, a line has the wrong form, or some order explains
+/// the calls, returns an empty answer with status 0. Does not check any other rule for recordings.
 pub fn diagnose_file(alloc: Global, file: i32, used: usize) -> Result<Answer, Trouble> {
     let mut input = HostInput { file };
     explain_below(alloc, &mut input, used)

@@ -1,11 +1,11 @@
-//! Exports the commands of `listset` as C functions, for C and for a web page: they read a text and return a text and
-//! the exit status.
+//! Exports the commands of `listset` as C functions, for C and for a web page. Each function reads a text, and returns
+//! a text and an exit status.
 //!
-//! Each function writes the program's text (or a record with the same content), or the message about an error, to the
-//! start of `room`. It returns the length of the text in bytes and sets `status` to the program's exit status: 0; 1 if
+//! Each function writes the program's text (or a record with the same content), or an error message, to the start of
+//! `room`. It returns the length of the written text in bytes and sets `status` to the program's exit status: 0; 1 if
 //! something is wrong with the text; 2 if a name is wrong; 3 if an allocation failed. If `room` is too short, nothing
-//! is written; call again with a buffer of the returned length. The functions keep no state. Only functions with a name
-//! that ends in `_from` block.
+//! is written; call the function again with a buffer of the returned length. The functions keep no state. Only
+//! functions whose name ends in `_from` block.
 #![tactic(auto)]
 
 mod diagnosing; // why a recording is refused
@@ -65,9 +65,9 @@ pub extern "C" fn listset_judge(
     hand(judge_bytes(alloc, text), room, status)
 }
 
-/// Judges the recording in the file with this descriptor (0 is standard input), as `listset_judge` does. The recording
-/// can have any length. Reads the file in pieces to its end or to the first error, and blocks while reading. If `room`
-/// is too short, the answer is lost; 8,192 bytes are enough.
+/// Judges the recording in the file with the descriptor `file` (0 is standard input), as `listset_judge` does. The
+/// recording can have any length. Reads the file in pieces to the end or to the first error, and blocks while reading.
+/// If `room` is too short, the answer is lost; 8,192 bytes are enough.
 #[unsafe(no_mangle)]
 pub extern "C" fn listset_judge_from(
     alloc: Global,
@@ -83,8 +83,8 @@ pub extern "C" fn listset_judge_from(
     hand(judge_input(alloc, &mut input), room, status)
 }
 
-/// Counts the calls of the recording in the file with this descriptor, as the command `stats` does. Reads the file as
-/// `listset_judge_from` does.
+/// Counts the calls of the recording in the file with the descriptor `file`, as the command `stats` does. Reads the
+/// file as `listset_judge_from` does.
 #[unsafe(no_mangle)]
 pub extern "C" fn listset_stats_from(
     alloc: Global,
@@ -101,11 +101,11 @@ pub extern "C" fn listset_stats_from(
 /// Judges a recording and writes the verdict as a record. Each line of a record consists of a name and values. If some
 /// order explains the recorded calls, the record is `verdict ok`, `calls N`, `overlapped N` and `cut BOOL`.
 ///
-/// If no order does, the status is 1 and the record is `verdict none` and `key K`, and `moment M` unless the key is
-/// refused because of its final state. If a contradiction was found, these lines follow: `clash BOOL`, which states
-/// whether the first call leaves the key present; `first call ..`, which is missing if the contradiction is with the
-/// key's opening state; and `second call ..`, which is missing if it is with the key's final state. Errors are written
-/// as `listset_judge` writes them.
+/// If no order does, the status is 1 and the record is `verdict none` and `key K`, followed by `moment M` unless the
+/// key is refused because of its final state. If a contradiction was found, three lines follow: `clash BOOL`, which
+/// states whether the first call leaves the key present; `first call ..`, which is missing if the contradiction is with
+/// the key's opening state; and `second call ..`, which is missing if the contradiction is with the key's final state.
+/// Errors are written as `listset_judge` writes them.
 #[unsafe(no_mangle)]
 pub extern "C" fn listset_judge_record(
     alloc: Global,
@@ -119,7 +119,8 @@ pub extern "C" fn listset_judge_record(
 }
 
 /// Diagnoses a refused recording: writes the lines that `listset judge FILE` prints below the lines of `listset_judge`,
-/// with status 1. If the text is not a recording or some order explains its calls, writes nothing and sets status 0.
+/// with status 1. If the text is not a recording, or if some order explains its calls, writes nothing and sets status
+/// 0.
 #[unsafe(no_mangle)]
 pub extern "C" fn listset_why(alloc: Global, text: &[u8], room: &mut [u8], status: &mut u8) -> usize
     ensures { Hands (λ _. Unit {0}) room.old room.new status.new result }
@@ -151,11 +152,11 @@ pub extern "C" fn listset_why_record(
     hand(diagnose_recording(alloc, text), room, status)
 }
 
-/// Diagnoses a refused recording in the file with this descriptor, from the file's current position. Writes the lines
-/// that `listset judge FILE` prints below a verdict of `used` lines, with status 1. If a line has the wrong form or
-/// some order explains the calls, writes nothing and sets status 0. Judge the file first: this function does not check
-/// that keys increase, nor that each call can follow the calls before it. Blocks while reading. If `room` is too short,
-/// the text is lost; 8,192 bytes are enough.
+/// Diagnoses a refused recording in the file with the descriptor `file`, from the file's current position. Writes the
+/// lines that `listset judge FILE` prints below a verdict of `used` lines, with status 1. If a line has the wrong form,
+/// or if some order explains the calls, writes nothing and sets status 0. Judge the file first: `listset_why_from` does
+/// not check that keys increase, nor that each call can follow the calls before it. Blocks while reading. If `room` is
+/// too short, the text is lost; 8,192 bytes are enough.
 #[unsafe(no_mangle)]
 pub extern "C" fn listset_why_from(
     alloc: Global,
@@ -191,8 +192,8 @@ pub extern "C" fn listset_check_record(
     hand(judge_report(alloc, text), room, status)
 }
 
-/// Checks a report: writes `ok`, or the first error of its order with status 1. If the text has an error or is too
-/// long, writes the message about the first error.
+/// Checks a report: writes `ok`, or the first error of the report's order with status 1. If the text has an error or is
+/// too long, writes the message about the first error.
 #[unsafe(no_mangle)]
 pub extern "C" fn listset_check(
     alloc: Global,
@@ -205,8 +206,8 @@ pub extern "C" fn listset_check(
     hand(answer_text(alloc, &Check {}, text), room, status)
 }
 
-/// Traces a schedule and writes the trace. If an event is not enabled, the trace ends before this event and the status
-/// is 1. If the text has an error or is too long, writes the line about the first error.
+/// Traces a schedule and writes the trace. If an event is not enabled, the trace ends before that event and the status
+/// is 1. If the text has an error or is too long, writes the message about the first error.
 #[unsafe(no_mangle)]
 pub extern "C" fn listset_trace(
     alloc: Global,
@@ -223,7 +224,7 @@ pub extern "C" fn listset_trace(
     hand(answer_text(alloc, &tool, text), room, status)
 }
 
-/// Traces a schedule as `listset_trace` does, and adds the chain of nodes after each event that changed it.
+/// Traces a schedule as `listset_trace` does, and adds the chain of nodes after each event that changed the chain.
 #[unsafe(no_mangle)]
 pub extern "C" fn listset_trace_with_chains(
     alloc: Global,
@@ -240,9 +241,9 @@ pub extern "C" fn listset_trace_with_chains(
     hand(answer_text(alloc, &tool, text), room, status)
 }
 
-/// Draws a schedule or a report and writes the picture as text. The status is 1 if the report's order is refused or an
-/// event of the schedule is not enabled; a schedule is drawn up to that event. If the text has an error or is too long,
-/// writes the message about the first error.
+/// Draws a schedule or a report and writes the picture as text. The status is 1 if the report's order is refused, or if
+/// an event of the schedule is not enabled; a schedule is drawn up to the event that is not enabled. If the text has an
+/// error or is too long, writes the message about the first error.
 ///
 /// `options` contains the values of `--from`, `--to` and `--width`, in this order, separated by zero bytes. Each value
 /// follows a `=`. An option that is empty, or missing at the end, is not set. If an option is wrong, writes `listset:
@@ -274,13 +275,14 @@ pub extern "C" fn listset_show_svg(
     hand(draw_text(alloc, text, true, options), room, status)
 }
 
-/// Runs a schedule on the broken list (a list without one of its checks) with this name, as `--lacks NAME` does, and
-/// writes the command's text. `words` contains the command (`replay`, `trace`, `trace_with_chains`, `show` or
-/// `show_svg`) and the options of `listset_show`, separated by zero bytes. Only `show` and `show_svg` check the
-/// report's order. If the order is refused, the last lines of `show` state whether another order explains the report.
+/// Runs a schedule on a broken list (a list without one of its checks), as `--lacks NAME` does, and writes the text of
+/// a command. `name` is the name of the broken list. `words` contains the command (`replay`, `trace`,
+/// `trace_with_chains`, `show` or `show_svg`) and the options of `listset_show`, separated by zero bytes. Only `show`
+/// and `show_svg` check the report's order. If the order is refused, the final lines of `show` state whether another
+/// order explains the report.
 ///
 /// The errors are the errors of the command on the intact list; `listset: bad NAME: ..` with status 2 if no broken list
-/// has this name; and `Kind` in line 2 if the schedule names another list.
+/// is named `name`; and `Kind` in line 2 if the schedule is for another list.
 #[unsafe(no_mangle)]
 pub extern "C" fn listset_lacking(
     alloc: Global,
@@ -295,7 +297,7 @@ pub extern "C" fn listset_lacking(
     hand(run_broken(alloc, name, text, words), room, status)
 }
 
-/// Expands a draft and writes the schedule. If the text has an error or is too long, or one of its lines cannot be
+/// Expands a draft and writes the schedule. If the text has an error, is too long, or has a line that cannot be
 /// expanded, writes the message about the first error.
 #[unsafe(no_mangle)]
 pub extern "C" fn listset_draft(
@@ -310,7 +312,7 @@ pub extern "C" fn listset_draft(
 }
 
 /// Generates a random schedule and writes it. `values` contains the arguments of `gen`, separated by zero bytes. If an
-/// argument is missing or wrong, writes `listset: bad NAME` for the first such argument and sets status 2.
+/// argument is missing or wrong, writes `listset: bad NAME` for the first missing or wrong argument and sets status 2.
 #[unsafe(no_mangle)]
 pub extern "C" fn listset_gen(
     alloc: Global,
@@ -331,8 +333,8 @@ pub extern "C" fn listset_faults(alloc: Global, room: &mut [u8], status: &mut u8
     hand(list_faults(alloc), room, status)
 }
 
-/// Explains a cause: writes the lines of `listset faults CAUSE`. If there is no such cause, writes `listset: bad CAUSE`
-/// and sets status 2.
+/// Explains a cause: writes the lines of `listset faults CAUSE`. If the cause does not exist, writes `listset: bad
+/// CAUSE` and sets status 2.
 #[unsafe(no_mangle)]
 pub extern "C" fn listset_fault(
     alloc: Global,
@@ -345,8 +347,8 @@ pub extern "C" fn listset_fault(
     hand(fault_by(alloc, cause), room, status)
 }
 
-/// Explains a text from a file with this name. Writes the kind of the file, the first line with an error, an explanation of
-/// the error, and how to correct it.
+/// Explains a text from a file. Writes the kind of the file, the first line with an error, an explanation of the error,
+/// and how to correct it. `file` is the file's name.
 #[unsafe(no_mangle)]
 pub extern "C" fn listset_explain(
     alloc: Global,
@@ -368,7 +370,7 @@ pub extern "C" fn listset_examples(alloc: Global, room: &mut [u8], status: &mut 
     hand(example_by(alloc, None, false), room, status)
 }
 
-/// Writes the schedule of the example with this name. If there is no such example, writes `listset: bad NAME` and sets
+/// Writes the schedule of the example named `name`. If the example does not exist, writes `listset: bad NAME` and sets
 /// status 2.
 #[unsafe(no_mangle)]
 pub extern "C" fn listset_example(
@@ -382,8 +384,8 @@ pub extern "C" fn listset_example(
     hand(example_by(alloc, Some(name), false), room, status)
 }
 
-/// Writes the report of a broken list (a list without one of its checks) that belongs to the example with this name. If
-/// the example does not exist or has no such report, writes `listset: bad NAME` and sets status 2.
+/// Writes the report of a broken list (a list without one of its checks) that belongs to the example named `name`. If
+/// the example does not exist or has no report of a broken list, writes `listset: bad NAME` and sets status 2.
 #[unsafe(no_mangle)]
 pub extern "C" fn listset_broken_example(
     alloc: Global,

@@ -16,7 +16,7 @@ pub fn words_in(alloc: Global, bytes: &[u8]) -> Result<Vec<String>, AllocError>
     Ok(words)
 }
 
-/// Returns the value of option `index`, counted from 0. Returns `None` if the option is not set, that is, if its
+/// Returns the value of option `index`, counted from 0. Returns `None` if the option is not set, that is, if the
 /// argument is missing or does not begin with `=`.
 pub fn option_at(words: &[String], index: usize) -> Option<&str> {
     words.get(index)?.as_str().strip_prefix('=')

@@ -14,8 +14,8 @@ fn show_by(svg: bool, words: &[String], first: usize) -> Result<Show, ValueName>
     read_show(svg, from, to, width)
 }
 
-/// Draws a schedule or a report as text or, if `svg` is true, as an SVG. The options limit which moments (positions in
-/// the history) are drawn, and the width. Returns the errors of `ShowJudged`, and `Bad` if an option is wrong.
+/// Draws a schedule or a report as text or, if `svg` is true, as an SVG. The options limit the moments (positions in
+/// the history) to draw, and the width. Returns the errors of `ShowJudged`, and `Bad` if an option is wrong.
 pub fn draw_text(alloc: Global, text: &[u8], svg: bool, options: &[u8]) -> Result<Answer, Trouble> {
     let words = words_in(alloc, options)?;
     let show = show_by(svg, &words, 0)?;
@@ -23,7 +23,7 @@ pub fn draw_text(alloc: Global, text: &[u8], svg: bool, options: &[u8]) -> Resul
 }
 
 /// Runs a command on a schedule and a broken list (a list without one of its checks). The first of `words` is the
-/// command. The others are options that limit the drawn moments and the width.
+/// command. The remaining words are options that limit the moments (positions in the history) to draw, and the width.
 pub fn run_broken(
     alloc: Global,
     name: &[u8],

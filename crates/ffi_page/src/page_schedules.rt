@@ -7,7 +7,7 @@ use std::alloc::Global;
 use tool_base::{Answer, Trouble};
 use tool_replay::generate_for;
 
-/// Returns the schedule that `gen` generates for these arguments. Zero bytes separate the arguments.
+/// Returns the schedule that `gen` generates for the arguments in `bytes`. Zero bytes separate the arguments.
 pub fn generate_by(alloc: Global, bytes: &[u8]) -> Result<Answer, Trouble>
     ensures { OfWords Generates bytes.now (view result) }
 {

@@ -19,8 +19,8 @@ fn put_side(out: &mut String, side: &str, made: Option<StreamCall>) -> Result<()
     put_call(out, call)
 }
 
-/// Writes a contradiction: whether the first call (or the key's opening state) leaves the key present, and the two
-/// calls.
+/// Writes the lines of a contradiction: whether the first call (or the key's opening state) leaves the key present, and
+/// the two calls.
 fn put_clash(out: &mut String, clash: Clash) -> Result<(), AllocError> {
     let was = clash.was == Presence::Present;
     writeln!(out, "clash {was}")?;
@@ -28,8 +28,8 @@ fn put_clash(out: &mut String, clash: Clash) -> Result<(), AllocError> {
     put_side(out, "second", clash.second)
 }
 
-/// Writes the verdict that no order explains the calls: the key, the moment (a time in the recording) up to which no
-/// order exists, if there is one, and the contradiction, if one was found.
+/// Writes the lines of a verdict that no order explains the calls: the key; the moment (a time in the recording) up to
+/// which no order exists, if the refusal has one; and the contradiction, if one was found.
 fn put_none(out: &mut String, refusal: Refusal, clash: Option<Clash>) -> Result<(), AllocError> {
     let key = refusal.key.0;
     writeln!(out, "verdict none\nkey {key}")?;
@@ -51,7 +51,7 @@ fn put_set(out: &mut String, keys: &[u32]) -> Result<(), AllocError> {
     out.push_str("\n")
 }
 
-/// Writes the first error of an order, and the keys that the set has before this error in the order.
+/// Writes the first error of an order and, for `SetReply` and `WrongSet`, the keys of the set at the error.
 fn put_order(out: &mut String, refusal: &OrderRefusal) -> Result<(), AllocError> {
     match refusal {
         OrderRefusal::Unknown { call, .. } => writeln!(out, "order Unknown {call}"),
@@ -85,7 +85,7 @@ fn put_order(out: &mut String, refusal: &OrderRefusal) -> Result<(), AllocError>
     }
 }
 
-/// Writes whether another order explains the calls of a report.
+/// Writes whether some order other than the one in the report explains the calls.
 fn put_claim(out: &mut String, claim: Claim) -> Result<(), AllocError> {
     match claim {
         Claim::NotIncreasing => out.push_str("verdict none\n"),
@@ -96,7 +96,7 @@ fn put_claim(out: &mut String, claim: Claim) -> Result<(), AllocError> {
     }
 }
 
-/// Judges a recording and returns the verdict as a record. Fails as `judge_bytes` does.
+/// Judges a recording and returns the verdict as a record. Returns the errors of `judge_bytes`.
 pub fn judge_recording(alloc: Global, text: &[u8]) -> Result<Answer, Trouble> {
     let mut reader = RecordingReader::new(alloc);
     reader.feed(text)?;
@@ -126,9 +126,9 @@ pub fn judge_recording(alloc: Global, text: &[u8]) -> Result<Answer, Trouble> {
     })
 }
 
-/// Checks a report and returns a record. If the order explains the calls, the record is `verdict own`. Otherwise it has
-/// the order's error, and states whether another order explains the calls. Returns the same errors as the command
-/// `check`.
+/// Checks a report and returns a record. If the report's order explains the calls, the record is `verdict own`.
+/// Otherwise the record contains the order's first error, and states whether another order explains the calls. Returns
+/// the errors of the command `check`.
 pub fn judge_report(alloc: Global, text: &[u8]) -> Result<Answer, Trouble> {
     let input = Input::new(text)?;
     let report = read_report(alloc, input.bytes())?;

@@ -1,8 +1,9 @@
 //! A first program that uses the library.
 //!
-//! One thread makes calls on its own set. Two threads share a set, the set is closed, and a set of another kind of list
-//! opens with the final keys. The program then starts two threads itself. A receipt, which one thread sends to the
-//! other, orders their calls. Finally, the program replays a recorded schedule.
+//! One thread makes calls on its own set. Then two threads share a set, the set is closed, and a set of another kind of
+//! list opens with the final keys of the closed set. Next, the program itself starts two threads. One thread sends a
+//! receipt (a record of the events that it has seen) to the other; the receipt orders their calls. Finally, the program
+//! replays a recorded schedule.
 #![tactic(auto)]
 
 ghost use Rattle.std.specs.Prelude.{◌≡◌, [], ◌∷◌, IfOk, map};
@@ -45,8 +46,8 @@ fn one_thread<R: Wait + Print>(rt: &R, alloc: Global) -> Result<()> {
     Ok(())
 }
 
-/// Runs two programs in two threads on a set of the list `M` that opens with `keys`. Each thread can add two keys.
-/// Returns the replies to each program and the final keys.
+/// Runs two programs (each is the list of calls of one thread) in two threads, on a set of the list `M` that opens with
+/// `keys`. Each thread can add two keys. Returns the replies to the calls of each program, and the final keys.
 fn two_threads<M: Running + Send + Sync + Drop, R: Threads + Wait + Sync>(
     rt: &R,
     alloc: Global,
@@ -54,8 +55,8 @@ fn two_threads<M: Running + Send + Sync + Drop, R: Threads + Wait + Sync>(
     first: [Call; 2],
     second: [Call; 2],
 ) -> Result<Outcome>
-    // Some legal order of the calls of both programs has these replies, keeps the order of each thread's calls, and
-    // leaves the final keys.
+    // Some legal order of the calls of both programs agrees with the replies, keeps the order of each thread's calls,
+    // and leaves the final keys.
     ensures { IfOk result (λ o. IsOneLegalOrder (record { threads = 2; quota = 2; keys = keys.now })
         (worked (fresh 0 ∷ fresh 1 ∷ []) (first ∷ second ∷ []) (map (λ v. v.items) o.replies.items)) o.keys.items) }
 {
@@ -66,7 +67,8 @@ fn two_threads<M: Running + Send + Sync + Drop, R: Threads + Wait + Sync>(
     Ok(work(rt, alloc, set, seats, programs, &Always)?)
 }
 
-/// Runs programs on an empty LazyList, and then on a LockFreeList that opens with the LazyList's final keys.
+/// Runs two programs on an empty LazyList, and then two programs on a LockFreeList that opens with the LazyList's final
+/// keys.
 fn two_lives<R: Threads + Wait + Sync>(rt: &R, alloc: Global) -> Result<(Outcome, Outcome)> {
     let first = [Call::Add(Key(5)), Call::Add(Key(7))];
     let second = [Call::Add(Key(9)), Call::Remove(Key(9))];
@@ -77,8 +79,8 @@ fn two_lives<R: Threads + Wait + Sync>(rt: &R, alloc: Global) -> Result<(Outcome
     Ok((left, again))
 }
 
-/// Adds a key through a seat (per-thread handle). Returns the seat and a receipt, which contains the events that the
-/// seat has seen, including its own `add`.
+/// Adds a key through a seat (per-thread handle to the set). Returns the seat and a receipt. The receipt contains the
+/// events that the seat has seen, including the seat's own `add`.
 fn add_and_tell<M: Running, R: Wait>(
     rt: &R,
     set: &LiveSet<M>,
@@ -93,9 +95,9 @@ fn add_and_tell<M: Running, R: Wait>(
     (seat, receipt)
 }
 
-/// Starts two threads on one LazyList. Each thread can add one key, and adds one. Seat one then accepts seat zero's
-/// receipt (a record of the events that seat zero has seen) and looks for seat zero's key. In every order that `close`
-/// promises, seat zero's `add` precedes seat one's `contains`.
+/// Starts two threads on one LazyList. Each thread adds one key, which uses up its quota. Seat one (the second thread's
+/// handle to the set) then accepts seat zero's receipt (a record of the events that seat zero has seen) and looks for
+/// seat zero's key. In every order that `close` promises, seat zero's `add` precedes seat one's `contains`.
 fn started_threads<R: Threads + Wait + Sync + Print>(rt: &R, alloc: Global) -> Result<()> {
     let (set, mut seats) = open::<LazyList>(alloc, 2, 1)?;
     let (Some(one), Some(zero)) = (seats.pop(), seats.pop()) else {
@@ -123,7 +125,8 @@ fn started_threads<R: Threads + Wait + Sync + Print>(rt: &R, alloc: Global) -> R
 
 /// Replays a schedule and returns its report.
 fn replay_text(alloc: Global, text: &str) -> Result<Report>
-    // The text is a schedule, and the order in the report is a linearization of its calls that leaves its final keys.
+    // The text is a schedule, and the order in the report is a linearization of the report's calls that leaves the
+    // final keys.
     ensures { IfOk result (λ r. (p : Plan) × IsSchedule p × (text.now ≡ schedule_text p) × IsExplained (view r)) }
 {
     let schedule = read_schedule(alloc, text.as_bytes())?;
@@ -133,7 +136,7 @@ fn replay_text(alloc: Global, text: &str) -> Result<Report>
 fn main(rt: HostRuntime) -> Result<()> {
     let alloc = rt.alloc();
     one_thread(&rt, alloc)?;
-    // `main` passes `rt` to the functions directly: only then can they start threads.
+    // `main` passes `rt` to the functions directly: only functions that receive `rt` directly can start threads.
     let (left, again) = two_lives(&rt, alloc)?;
     println!(rt;
         "the replies {:?} leave the keys {:?}",

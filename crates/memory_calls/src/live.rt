@@ -1,5 +1,5 @@
 //! Makes all calls of sets in threads, from opening a set to reading its final keys, on each of the five lists. A seat
-//! is a per-thread handle: one thread calls the set through it.
+//! is one thread's handle to the set.
 
 use crate::prelude::*;
 use lset_coarse::CoarseList;
@@ -48,7 +48,8 @@ fn change_and_look<M: Running, R: Wait>(
     check(set.ceiling(rt, seat, Key(3)) == Reply::At(Key(4)))
 }
 
-/// Makes a call without a runtime and expects this reply. At a lock, such a call spins instead of blocking.
+/// Makes a call without a runtime and expects the reply `reply`. If another thread holds a lock, a call without a
+/// runtime spins instead of blocking.
 fn call_within<M: Running>(
     alloc: Global,
     calls: &mut Calls,
@@ -66,7 +67,7 @@ fn call_within<M: Running>(
     Ok(seat)
 }
 
-/// Makes one call of each operation without a runtime. The set has the same keys at the end.
+/// Makes one call of each operation without a runtime. The calls leave the keys of the set unchanged.
 fn call_each_within<M: Running>(
     alloc: Global,
     calls: &mut Calls,
@@ -81,8 +82,8 @@ fn call_each_within<M: Running>(
     call_within(alloc, calls, set, seat, Call::Remove(key), Reply::True)
 }
 
-/// Makes the calls that return a `bool`, `Added` or `Option<Key>` instead of a `Reply`. Expects the result `added` when
-/// it adds the absent key 8. The set has the same keys at the end.
+/// Makes the calls that return a `bool`, `Added` or `Option<Key>` instead of a `Reply`. Expects the result `added` for
+/// an `add` of the absent key 8. The calls leave the keys of the set unchanged.
 fn call_typed<M: Running, R: Wait>(
     rt: &R,
     alloc: Global,
@@ -103,7 +104,8 @@ fn call_typed<M: Running, R: Wait>(
     check(!seat.remove(rt, set, Key(3)))
 }
 
-/// Passes a receipt (a record of the events that a seat has seen) from each of two seats to the other seat.
+/// Passes a receipt (a record of the events that a seat has seen) from each of two seats (per-thread handles) to the
+/// other.
 fn pass_receipts<M: Running>(
     alloc: Global,
     calls: &mut Calls,
@@ -121,7 +123,7 @@ fn pass_receipts<M: Running>(
     Ok(())
 }
 
-/// Serves a session that reads its lines from memory. Every kind of answer except `FULL` occurs.
+/// Runs a session that reads its lines from memory. Every kind of answer except `FULL` occurs.
 fn answer_session<M: Running, R: Wait>(
     rt: &R,
     alloc: Global,
@@ -143,7 +145,7 @@ fn answer_session<M: Running, R: Wait>(
     check(written.as_slice() == b"TRUE\nFALSE\nTRUE\nBAD\nTRUE\nBYE\n".as_slice())
 }
 
-/// Merges both seats (per-thread handles) into one and closes the set.
+/// Merges both seats (per-thread handles to the set) into one and closes the set.
 fn gather_and_close<M: Running>(
     alloc: Global,
     calls: &mut Calls,
@@ -161,7 +163,7 @@ fn gather_and_close<M: Running>(
     check(keys.as_slice() == [1, 2, 4, 5, 6].as_slice())
 }
 
-/// Opens a set, makes calls from both of its seats (per-thread handles), and closes the set.
+/// Opens a set, makes calls from both of its seats (per-thread handles to the set), and closes the set.
 fn running_set<M: Running, R: Wait>(rt: &R, alloc: Global, calls: &mut Calls) -> Result<()> {
     let (set, mut zero, mut one) = opened::<M>(alloc, calls)?;
     change_and_look(rt, alloc, calls, &set, &mut zero)?;
@@ -189,7 +191,7 @@ fn add_typed<M: Running, R: Wait>(
 
 const MANY: u32 = 1_100;
 
-/// Adds keys in decreasing order, so that each new key becomes the first, and then removes them.
+/// Adds keys in decreasing order, so that each new key becomes the first key of the list, and then removes them.
 fn fill_and_empty<M: Running, R: Wait>(rt: &R, set: &LiveSet<M>, seat: &mut Seat<M>) -> Result<()> {
     add_typed(rt, set, seat, u32::MAX)?;
     for key in (0..MANY).rev() {
@@ -201,8 +203,8 @@ fn fill_and_empty<M: Running, R: Wait>(rt: &R, set: &LiveSet<M>, seat: &mut Seat
     Ok(())
 }
 
-/// Makes more than a thousand calls of each operation, with small keys and the largest key. All calls are made from one
-/// seat (per-thread handle), into which the other seat was merged.
+/// Makes more than a thousand calls of each operation, with small keys and with the largest key. All calls are made
+/// from one seat (per-thread handle to the set), into which the second seat was merged.
 fn many_calls<M: Running, R: Wait>(rt: &R, alloc: Global, calls: &mut Calls) -> Result<()> {
     let (set, mut seats) = answer!(calls, "open", OpenFault::Memory, open::<M>(alloc, 2, 1_101))?;
     let one = last_seat(&set, &mut seats)?;

@@ -1,10 +1,10 @@
-//! Calls library functions that allocate and compares their results with the expected ones. Prints the name of the call
-//! that returned `Memory` (or `Spawn`, if no thread could be created). The program makes this call again, and the
+//! Calls library functions that allocate, and compares their results with the expected results. Prints the name of the
+//! call that returned `Memory` (or `Spawn`, if no thread could be created). The program makes that call again, and the
 //! result must be as if no allocation had failed.
 //!
 //! If the program is run by hand, no allocation fails. `tests/failed_allocations.py` makes the allocation with a fixed
-//! number fail. The program's input is the number of blocks that it allocates before its first call. A different number
-//! in each run therefore makes a different allocation of the calls fail.
+//! number fail. The program's input is the number of blocks that it allocates before its first call. With a different
+//! number in each run, a different allocation of the calls fails in each run.
 #![tactic(auto)]
 
 /// Makes a call, and repeats the call once if it returns `Memory`. Returns the result of the last attempt.
@@ -49,7 +49,7 @@ fn number_on(input: &mut impl Read) -> io::Result<u32> {
     Ok(text.trim().parse().unwrap_or(0))
 }
 
-/// Allocates `count` blocks of memory, one after another, and frees each of them.
+/// Allocates `count` blocks of memory, one after another, and frees each block before it allocates the next.
 fn take_blocks(alloc: Global, count: u32) -> Result<(), AllocError> {
     for number in 0..count {
         let _block = Box::new(alloc, number)?;
@@ -58,7 +58,7 @@ fn take_blocks(alloc: Global, count: u32) -> Result<(), AllocError> {
 }
 
 /// Returns the two parts of the line that the program prints after all calls had the expected results. If a call
-/// returned `Memory`, the line names this call. Otherwise allocates `blocks` blocks. If one of these allocations fails,
+/// returned `Memory`, the line names the call. Otherwise allocates `blocks` blocks; if one of these allocations fails,
 /// the line states that the failing allocation comes after all calls.
 fn told(alloc: Global, calls: &Calls, blocks: u32) -> (&'static str, &'static str) {
     match calls.refused {

@@ -1,7 +1,7 @@
 use anyhow::{Error, Result};
 use std::alloc::{AllocError, Global};
 
-/// Returns an error if a result is not the expected one, that is, if `is_as_wanted` is false.
+/// Returns an error if `is_as_wanted` is false, that is, if a result differs from the expected result.
 pub fn check(is_as_wanted: bool) -> Result<()> {
     if is_as_wanted {
         Ok(())
@@ -27,8 +27,8 @@ impl Calls {
         }
     }
 
-    /// Records that the latest call returned `Memory`. Returns `false` if an earlier call returned `Memory`: only one
-    /// allocation fails in a run.
+    /// Records that the latest call returned `Memory`. Returns `false` if an earlier call also returned `Memory`,
+    /// because only one allocation fails in a run.
     pub fn may_be_refused(&mut self) -> bool {
         if self.refused.is_some() {
             return false;
@@ -37,8 +37,8 @@ impl Calls {
         true
     }
 
-    /// Records the name of the next call and allocates a block. This allocation, and all later allocations up to the next
-    /// announcement, count as allocations of this call.
+    /// Records the name of the next call and allocates a block. The allocation of the block, and all later allocations
+    /// up to the next announcement, count as allocations of the announced call.
     pub fn announce(&mut self, alloc: Global, name: &'static str) -> Result<(), AllocError> {
         self.name = name;
         if Box::new(alloc, 0).is_ok() || self.may_be_refused() {

@@ -1,5 +1,5 @@
-//! Runs programs in threads, and a server with one session. No two threads allocate at the same time, so every run has
-//! the same order of allocations.
+//! Runs programs in threads, and a server with one session. No two threads allocate at the same time, so the order of
+//! the allocations is the same in every run.
 
 use crate::prelude::*;
 use lset_server::{ServeCause, Served, serve};
@@ -7,7 +7,8 @@ use lset_work::{Always, Outcome, WorkCause, WorkFault, work};
 use std::io::{self, Read, Write};
 use std::net::Shutdown;
 
-/// Opens a set and returns it with its seats (per-thread handles). Repeats the attempt if the first one fails.
+/// Opens a set and returns it with its seats (per-thread handles to the set). Makes a second attempt if the first one
+/// fails.
 fn open_seats(
     alloc: Global,
     calls: &mut Calls,
@@ -21,7 +22,7 @@ fn open_seats(
     )
 }
 
-/// Returns two programs: Add 1, Contains 1, Remove 1; and Add 2, Add 2.
+/// Returns two programs (lists of calls, one for each thread): Add 1, Contains 1, Remove 1; and Add 2, Add 2.
 fn two_programs(alloc: Global) -> Result<Vec<Vec<Call>>, AllocError> {
     let mut programs = Vec::new(alloc);
     let first = [
@@ -35,8 +36,8 @@ fn two_programs(alloc: Global) -> Result<Vec<Vec<Call>>, AllocError> {
     Ok(programs)
 }
 
-/// Records why `work` failed. Returns the set and the seats (per-thread handles) that `work` returned with its error,
-/// or a new set and its seats.
+/// Records why `work` failed. Returns the set and the seats (per-thread handles to the set) that `work` returned with
+/// its error or, if `work` returned none, a new set with its seats.
 fn after_refusal(
     alloc: Global,
     calls: &mut Calls,
@@ -55,7 +56,7 @@ fn after_refusal(
     }
 }
 
-/// Runs the programs again, on the set and the seats (per-thread handles) that the first run returned.
+/// Runs the programs again, on the set and the seats (per-thread handles to the set) that the first run returned.
 fn work_again<R: Host>(
     rt: &R,
     alloc: Global,
@@ -68,7 +69,7 @@ fn work_again<R: Host>(
     }
 }
 
-/// Runs two programs on two threads, and runs them again if the first run fails.
+/// Runs two programs (lists of calls) in two threads, and runs them again if the first run fails.
 pub fn programs_on_threads<R: Host>(rt: &R, alloc: Global, calls: &mut Calls) -> Result<()> {
     let programs = answer!(calls, "Vec::push", AllocError, two_programs(alloc))?;
     let (set, seats) = open_seats(alloc, calls, 2)?;
@@ -83,7 +84,8 @@ pub fn programs_on_threads<R: Host>(rt: &R, alloc: Global, calls: &mut Calls) ->
     check(outcome.keys.as_slice() == [2].as_slice() && outcome.replies.len() == 2)
 }
 
-/// Connects a client that sends its lines before the server accepts it. The client therefore needs no thread.
+/// Connects a client that sends its lines before the server accepts the connection. The client therefore needs no
+/// thread.
 fn client<R: Net<Listener = TcpListener, Stream = TcpStream>>(
     rt: &R,
 ) -> io::Result<(TcpListener, TcpStream)> {
@@ -121,7 +123,7 @@ fn serve_client<R: Host + Net<Listener = TcpListener, Stream = TcpStream>>(
     }
 }
 
-/// Serves one client. If the server fails, serves another client with another server.
+/// Serves one client. If the server fails, starts another server and serves another client.
 pub fn a_session<R: Host + Net<Listener = TcpListener, Stream = TcpStream>>(
     rt: &R,
     alloc: Global,

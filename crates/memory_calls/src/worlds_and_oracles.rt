@@ -4,8 +4,8 @@ use lset_history::{History, HistoryFault, Oracle};
 use lset_steps::{Event, StepFault, World};
 use lset_words::layout;
 
-/// Adds a key, at most 5, in 15 steps of one thread. 15 steps are enough for the key 5. If the call ends earlier, the
-/// remaining steps return `Idle`, which is ignored.
+/// Adds a key, at most 5, in 15 steps of one thread. 15 steps are enough for the key 5. If the call ends earlier, each
+/// remaining step returns `Idle`, which is ignored.
 fn add(world: &mut World<CoarseList>, key: u32) -> Result<(), StepFault> {
     world.step(Event::Begin(0, Call::Add(Key(key))))?;
     for _ in 0..15 {
@@ -14,7 +14,7 @@ fn add(world: &mut World<CoarseList>, key: u32) -> Result<(), StepFault> {
     Ok(())
 }
 
-/// Runs five adds on the step table of a list and checks the keys.
+/// Runs five adds on the step table of a list and checks the keys of the list.
 pub fn worlds(alloc: Global, calls: &mut Calls) -> Result<()> {
     let sizes = layout(1, 5)?;
     let mut world = answer!(calls, "World::new", AllocError, World::new(alloc, sizes))?;
@@ -26,7 +26,7 @@ pub fn worlds(alloc: Global, calls: &mut Calls) -> Result<()> {
     check(content.as_slice() == [1, 2, 3, 4, 5].as_slice())
 }
 
-/// Checks that the sequential set contains exactly these keys.
+/// Checks that the sequential set contains exactly the keys `keys`.
 fn oracle_has(alloc: Global, oracle: &Oracle, calls: &mut Calls, keys: &[u32]) -> Result<()> {
     calls.announce(alloc, "Oracle::keys")?;
     let found = answer!(calls, "Oracle::keys", AllocError, oracle.keys())?;
