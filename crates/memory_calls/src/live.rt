@@ -48,7 +48,7 @@ fn change_and_look<M: Running, R: Wait>(
     check(set.ceiling(rt, seat, Key(3)) == Reply::At(Key(4)))
 }
 
-/// Makes a call without a runtime and expects the reply `reply`. If another thread holds a lock, a call without a
+/// Makes a call without a runtime and expects the reply `wanted`. If another thread holds a lock, a call without a
 /// runtime spins instead of blocking.
 fn call_within<M: Running>(
     alloc: Global,

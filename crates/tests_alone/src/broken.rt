@@ -1,5 +1,5 @@
-//! Runs random schedules on each broken list (a list without one of its checks). For each broken list, `check` must refuse
-//! the order of at least one run.
+//! Runs random schedules on each broken list (a list without one of its checks). For each broken list, `check` must
+//! refuse the order of at least one run.
 
 use crate::prelude::*;
 use broken_lists::{ALL, BrokenList, BrokenWorld, broken_world_of};
@@ -7,7 +7,7 @@ use lset_replay::{Steps, calls_of};
 use lset_schedule::read_schedule;
 use lset_text::{call_word, kind_word};
 
-/// The maximum number of runs on each list. At least one of them must be refused.
+/// The maximum number of runs on each list. At least one run must be refused.
 const RUNS: u64 = 2_000;
 
 const EVENTS: u32 = 120;
@@ -26,7 +26,7 @@ fn drawn_call(rng: &mut Pcg32) -> Call {
 }
 
 /// Returns a random schedule for two threads on a broken list (a list without one of its checks). Each thread takes a
-/// few steps, then the other thread continues.
+/// few steps before the other thread continues.
 fn drawn_schedule(alloc: Global, broken: BrokenList, seed: u64) -> Result<String, Fail> {
     let mut rng = Pcg32::seed_from_u64(seed);
     let layout = layout_opening(2, 2, 1)?;

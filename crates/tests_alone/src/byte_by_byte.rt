@@ -57,7 +57,7 @@ fn a_recording_comes_byte_by_byte(rt: HostRuntime) -> Result<(), Fail> {
     }
 }
 
-/// The order of the report is empty, so `check` refuses it: call 0 is missing.
+/// The order of the report is empty, so `check` refuses the order: call 0 is missing.
 #[test]
 fn a_report_comes_byte_by_byte(rt: HostRuntime) -> Result<(), Fail> {
     let alloc = rt.alloc();

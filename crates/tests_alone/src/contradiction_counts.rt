@@ -1,12 +1,12 @@
-//! Tests of contradictions found by counting: some calls need a key to change back more often than it could have
-//! changed.
+//! Tests of contradictions found by counting: some calls require that a key changes back more often than other calls
+//! could have changed it.
 
 use crate::prelude::*;
 use crate::test_histories::{FIVE, reply_of};
 use lset_judge::{Count, find_count};
 use tool_judge::put_count;
 
-/// Returns a completed call on key 5. The reply is true if `is_true`, otherwise false.
+/// Returns a completed call on key 5. The call's reply is true if `is_true`, otherwise false.
 fn ended(thread: u32, call: Call, begun: u64, end: u64, is_true: bool) -> StreamCall {
     StreamCall {
         thread,
@@ -16,8 +16,8 @@ fn ended(thread: u32, call: Call, begun: u64, end: u64, is_true: bool) -> Stream
     }
 }
 
-/// Returns calls that contradict each other. The key is present before a successful `add` and absent after it. So one
-/// `remove` must come before the `add`, and another after it, but there is only one `remove`.
+/// Returns calls that contradict each other. The key is present before a successful `add` and absent after it.
+/// Therefore one `remove` must precede the `add` and another must follow it, but there is only one `remove`.
 fn two_looks() -> [StreamCall; 4] {
     [
         ended(3, Call::Contains(FIVE), 3176, 3177, true),
@@ -74,8 +74,8 @@ fn opening_and_final_keys_are_counted(rt: HostRuntime) -> Result<(), Fail> {
     Ok(())
 }
 
-/// Returns a random call on key 5 that runs between these two moments (times), with a random reply. Some calls are
-/// pending.
+/// Returns a random call on key 5 that runs between the moments (times) `one` and `other`, with a random reply. Some
+/// calls are pending.
 fn any_call(random: &mut Pcg32, thread: u32, one: u64, other: u64) -> StreamCall {
     let call = match random.next_u32() % 4 {
         0 | 1 => Call::Add(FIVE),
@@ -96,7 +96,7 @@ fn any_call(random: &mut Pcg32, thread: u32, one: u64, other: u64) -> StreamCall
     }
 }
 
-/// Returns a few random calls on key 5, ordered by start. Their moments (times) count from 1.
+/// Returns a few random calls on key 5, ordered by start. The moments (times) of the calls are counted from 1.
 fn any_calls(alloc: Global, random: &mut Pcg32) -> Result<Vec<StreamCall>, AllocError> {
     let count = 2 + random.next_u32() % 7;
     let mut moments: Vec<u64> = Vec::new(alloc);

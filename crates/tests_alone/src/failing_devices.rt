@@ -1,4 +1,4 @@
-//! Readers and writers for tests. Each of them fails at one chosen call.
+//! Readers and writers for tests. Each reader or writer fails at one chosen call.
 
 use crate::prelude::*;
 use std::io::{self, ErrorKind, Read, Write};
@@ -7,17 +7,17 @@ pub const CANNOT_READ: &[u8] = b"listset: cannot read\n";
 
 pub const CANNOT_WRITE: &[u8] = b"listset: cannot write\n";
 
-/// A value of `Plan::fails_at` that no call reaches: the reader or writer never fails.
+/// A value of `Plan::fails_at` that no call reaches: a reader or writer with this value never fails.
 pub const NEVER: usize = usize::MAX;
 
 /// How a read or a write fails.
 #[derive(Clone, Copy)]
 pub enum Failure {
-    /// The call fails with an error of kind `Interrupted`. Loops in std repeat such a call.
+    /// The call fails with an error of kind `Interrupted`. Loops in std repeat an interrupted call.
     Interrupted,
     BrokenPipe,
-    /// A write accepts no byte, and a flush fails with `WriteZero`. Not used for readers: a read of no byte means the
-    /// end of the text.
+    /// A write accepts no byte, and a flush fails with `WriteZero`. Not used for readers: a read that returns no byte
+    /// means the end of the text.
     Nothing,
 }
 
@@ -115,7 +115,7 @@ impl Writer {
     }
 
     /// Returns `true` if the writer received a prefix of the text, with at least one byte in every call before the
-    /// failing one, and was not called again. No flush may precede the failure. The last write of a piece of text can
+    /// failing call, and was not called again. No flush may precede the failure. The final write of a piece of text can
     /// have fewer bytes than the writer accepts.
     pub fn stopped_within(&self, text: &[u8]) -> bool {
         let calls = self.plan.fails_at;

@@ -23,7 +23,7 @@ const IDLE: &str =
 const REPORT: &str =
     "listset-report 1\nlist coarse\nthreads 1\nquota 4\ncall 0 0 add 5 1 8 true\nplace 0 true\nkey 5\nend\n";
 
-/// A report with one call, which the report's order omits.
+/// A report with one call, which is missing from the report's order.
 const LEFT_OUT: &str =
     "listset-report 1\nlist coarse\nthreads 1\nquota 4\ncall 0 0 add 5 1 8 true\nkey 5\nend\n";
 
@@ -81,10 +81,10 @@ const ROWS: [Row; 31] = [
     (&["skip"], ""),
 ];
 
-/// A run of a server that accepts no session. Its set opens with the keys in the input.
+/// A run of a server that accepts no session. The server's set opens with the keys in the input.
 const SERVER: Row = (&["serve", "lazy", "1", "4", "0", "0", "-"], PRINTED);
 
-/// A completed run of the program: its exit status, its input, its output and its stderr.
+/// A completed run of the program: the exit status, the input, the output and stderr.
 #[derive(Drop)]
 struct Run {
     status: u8,
@@ -93,7 +93,7 @@ struct Run {
     stderr: Writer,
 }
 
-/// Returns the text without the line that contains a server's port. The port differs between runs.
+/// Returns the text without the line that contains a server's port, because the port differs between runs.
 fn without_port(text: &[u8]) -> &[u8] {
     if !text.starts_with(b"listening ") {
         return text;
@@ -105,7 +105,7 @@ fn without_port(text: &[u8]) -> &[u8] {
 }
 
 impl Run {
-    /// Returns `true` if the run wrote this error line and nothing to the output.
+    /// Returns `true` if the run wrote the error line `line` to stderr and nothing to the output.
     fn wrote_only(&self, line: &[u8]) -> bool {
         self.output.calls == 0 && self.stderr.taken.as_slice() == line
     }
@@ -118,7 +118,8 @@ impl Run {
     }
 }
 
-/// Runs the program with these arguments. The plans determine when the input, the output and `stderr` fail.
+/// Runs the program with the arguments and the input in a `Row`. The plans determine when the input, the output and
+/// `stderr` fail.
 fn run_on<R: Host>(rt: &R, alloc: Global, (words, input): Row, plans: [Plan; 3]) -> Run {
     let [of_input, output, stderr] = plans;
     let mut input = Reader::new(input, of_input);
@@ -156,7 +157,7 @@ enum Device {
 }
 
 impl Device {
-    /// Returns the plans for input, output and `stderr`. Only this reader or writer fails, as `plan` determines.
+    /// Returns the plans for input, output and `stderr`. Only the reader or writer `self` fails, as `plan` determines.
     fn plans(self, plan: Plan) -> [Plan; 3] {
         match self {
             Device::Input => [plan, WHOLE, WHOLE],
@@ -165,7 +166,7 @@ impl Device {
         }
     }
 
-    /// Returns the number of calls that a run made on this reader or writer.
+    /// Returns the number of calls that a run made on the reader or writer `self`.
     fn calls(self, run: &Run) -> usize {
         match self {
             Device::Input => run.input.calls,
@@ -174,7 +175,7 @@ impl Device {
         }
     }
 
-    /// Returns the number of bytes that this reader or writer transfers in a run without failures.
+    /// Returns the number of bytes that the reader or writer `self` transfers in a run without failures.
     fn moved(self, (_words, input): Row, whole: &Run) -> usize {
         match self {
             Device::Input if whole.input.calls == 0 => 0,
@@ -271,8 +272,8 @@ fn the_status_stays_if_a_device_and_the_line_about_it_fail(rt: HostRuntime) {
     }
 }
 
-/// A schedule for two threads: one attempts to take a lock while the other holds it. Its trace is longer than the buffer, so
-/// the trace is written in several pieces.
+/// A schedule for two threads: one thread attempts to take a lock that the other thread holds. The trace of the
+/// schedule is longer than the buffer, so the trace is written in several pieces.
 const TRIES: &str = "listset-schedule 1\nlist coarse\nthreads 2\nquota 4\n\
     begin 0 add 5\ngo 0 1\nbegin 1 add 7\ngo 1 2000\n";
 
@@ -297,7 +298,7 @@ fn a_failed_write_of_a_long_trace_leaves_a_prefix(rt: HostRuntime) -> Result<(),
     Err(Fail::new("no run ends without a failure"))
 }
 
-/// Another listener has the port. The exit status must be 1 even if the error line cannot be written.
+/// Another listener already uses the port. The exit status must be 1 even if the error line cannot be written.
 #[test]
 fn a_server_on_a_taken_port_exits_with_status_1(rt: HostRuntime) -> Result<(), Fail> {
     let alloc = rt.alloc();

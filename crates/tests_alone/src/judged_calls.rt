@@ -1,5 +1,5 @@
-//! Tests of the judge: which error it returns for a call with several errors, and which two calls it names if no order
-//! exists.
+//! Tests of the judge: which error the judge returns for a call with several errors, and which two calls it names if no
+//! order explains the calls.
 
 use crate::prelude::*;
 use crate::test_histories::{FIVE, reply_of};
@@ -13,7 +13,7 @@ fn add_of_six(thread: u32, begun: u64, ended: Option<(u64, Reply)>) -> StreamCal
     }
 }
 
-/// Calls on key 6 with a reply that the judge does not accept for this operation.
+/// Calls on key 6, each with a reply that the judge does not accept for the call's operation.
 const NOT_PLAIN: [(Call, Reply); 5] = [
     (Call::Add(Key(6)), Reply::Full),
     (Call::Remove(Key(6)), Reply::Nothing),
@@ -22,7 +22,7 @@ const NOT_PLAIN: [(Call, Reply); 5] = [
     (Call::Ceiling(Key(6)), Reply::True),
 ];
 
-/// Returns a call of thread 3 with this operation and reply.
+/// Returns a call of thread 3 with the operation and the reply in `made`.
 fn not_plain(made: (Call, Reply), begun: u64, end: u64) -> StreamCall {
     let (call, reply) = made;
     StreamCall {
@@ -34,7 +34,7 @@ fn not_plain(made: (Call, Reply), begun: u64, end: u64) -> StreamCall {
 }
 
 /// Returns wrong calls, each with the expected error. Each wrong call is added after a call of thread 3 from moment 2
-/// to 7. If possible, the wrong call also contains errors that are checked after the expected one.
+/// to moment 7. If possible, the wrong call also contains errors that are checked after the expected error.
 fn with_faults(made: (Call, Reply)) -> [(StreamCall, StreamFault); 10] {
     let late = LAST_MOMENT + 1;
     [
@@ -62,11 +62,12 @@ fn the_first_fault_of_a_call_is_named(rt: HostRuntime) -> Result<(), Fail> {
     }
     let taken = add_of_six(3, 5, Some((7, Reply::False)));
     assert_eq!(rt; judge.add(taken), Err(StreamFault::Taken));
-    // The call has two errors: another call also ends at moment 8, and an earlier call of thread 3 overlaps this call.
+    // `both` has two errors: another call also ends at moment 8, and an earlier call of thread 3 overlaps `both`.
     judge.add(add_of_six(4, 3, Some((8, Reply::True))))?;
     let both = add_of_six(3, 5, Some((8, Reply::True)));
     assert!(rt; judge.add(both) == Err(StreamFault::Taken));
-    // The call has two errors: it starts at moment 6, when another call ends, and an earlier call of thread 3 overlaps it.
+    // `begins_taken` has two errors: it starts at moment 6, when another call ends, and an earlier call of thread 3
+    // overlaps it.
     judge.add(add_of_six(5, 4, Some((6, Reply::True))))?;
     let begins_taken = add_of_six(3, 6, Some((9, Reply::True)));
     assert!(rt; judge.add(begins_taken) == Err(StreamFault::Taken));

@@ -1,4 +1,4 @@
-//! Tests of the largest histories and recordings. Each test must end within a minute. This is too short for a
+//! Tests of the largest histories and recordings. Each test must end within a minute. A minute is too short for a
 //! comparison of all pairs of calls.
 
 use crate::prelude::*;
@@ -39,7 +39,8 @@ fn a_million_calls_are_judged(rt: HostRuntime) -> Result<(), Fail> {
     Ok(())
 }
 
-/// Returns `true` if the judge refuses the history and names this key and this moment (a time in the history).
+/// Returns `true` if the judge refuses the history and names the expected key and the expected moment (a time in the
+/// history).
 fn is_refused(
     alloc: Global,
     history: &History,
@@ -53,8 +54,8 @@ fn is_refused(
 /// How often key 5 is added and removed again.
 const TIMES: u32 = 100_000;
 
-/// Returns a history of calls that do not overlap: key 5 is added and removed `TIMES` times. A final `contains` returns
-/// `last`.
+/// Returns a history of calls that do not overlap: key 5 is added and removed `TIMES` times, and a final `contains`
+/// returns `last`.
 fn in_and_out(alloc: Global, last: Reply) -> Result<History, Fail> {
     let mut calls = true_calls(alloc, 2 * TIMES, |number| {
         if number % 2 == 0 {
@@ -78,7 +79,7 @@ fn a_wrong_reply_after_many_changes_of_a_key_is_found(rt: HostRuntime) -> Result
     Ok(())
 }
 
-/// Returns an order that contains all calls of the history, one after another. The last reply in the order is `last`.
+/// Returns an order that contains all calls of the history, one after another. The final reply in the order is `last`.
 fn in_their_turn(alloc: Global, last: Reply) -> Result<Vec<Placed>, AllocError> {
     let mut order = Vec::new(alloc);
     for number in 0..2 * TIMES {
@@ -94,7 +95,7 @@ fn in_their_turn(alloc: Global, last: Reply) -> Result<Vec<Placed>, AllocError> 
     Ok(order)
 }
 
-/// Checks orders of many calls with an error at the end: the last call has a wrong reply, is missing, occurs twice or
+/// Checks orders of many calls with an error at the end: the final call has a wrong reply, is missing, occurs twice or
 /// does not exist, or the final keys are wrong.
 #[test]
 fn a_fault_at_the_end_of_a_long_order_is_found(rt: HostRuntime) -> Result<(), Fail> {
@@ -124,7 +125,7 @@ fn a_fault_at_the_end_of_a_long_order_is_found(rt: HostRuntime) -> Result<(), Fa
 const MANY_KEYS: u32 = 500_000;
 
 /// Judges two histories. In the first, all keys are added, but no key is a final key. In the second, all keys are
-/// removed from a set that opened empty. In both, the judge must name key 0, the first key.
+/// removed from a set that opened empty. In both histories, the judge must name key 0, the first key.
 #[test]
 fn the_first_of_many_wrong_keys_is_named(rt: HostRuntime) -> Result<(), Fail> {
     let alloc = rt.alloc();

@@ -1,5 +1,5 @@
 //! Tests of library functions that allocate, for each size from 0 to 200. All functions must succeed and return the
-//! right result.
+//! correct result.
 
 use crate::prelude::*;
 use crate::test_histories::{in_turn, increasing_keys};
@@ -15,7 +15,7 @@ fn threads_of(size: u32) -> u32 {
     1 + size % MOST_THREADS
 }
 
-/// Creates a list with `size` keys and checks its content.
+/// Creates a list with `size` keys and checks the keys of the list.
 fn has_world<M: Machine, R: Abort>(rt: &R, alloc: Global, size: u32) -> Result<(), Fail> {
     let keys = increasing_keys(alloc, size)?;
     let layout = layout_opening(threads_of(size), size, size)?;
@@ -38,8 +38,8 @@ fn lists_open_at_each_size(rt: HostRuntime) -> Result<(), Fail> {
     Ok(())
 }
 
-/// Reads and writes a schedule, and the report of its run. Both texts must be unchanged, and the order must explain the
-/// run. Returns the number of calls.
+/// Reads and writes a schedule, replays it, and writes and reads the report. Both texts must be unchanged, and the
+/// order must explain the run. Returns the number of calls.
 fn is_replayed<R: Abort>(rt: &R, alloc: Global, text: &[u8]) -> Result<usize, Fail> {
     let schedule = read_schedule(alloc, text)?;
     assert!(rt; write_schedule(alloc, &schedule)?.as_slice() == text);
@@ -51,7 +51,7 @@ fn is_replayed<R: Abort>(rt: &R, alloc: Global, text: &[u8]) -> Result<usize, Fa
     Ok(read.history.calls().len())
 }
 
-/// Generates a schedule with up to `size` calls per thread, and replays it.
+/// Generates a schedule with up to `size` calls per thread, and replays the schedule.
 fn has_schedule<M: Machine, R: Abort>(rt: &R, alloc: Global, size: u32) -> Result<(), Fail> {
     let (threads, seed) = (threads_of(size), u64::from(size));
     let schedule = generate::<M>(alloc, threads, size, size, 1 + size, seed)?;
@@ -95,8 +95,8 @@ fn schedules_and_reports_are_right_at_each_size(rt: HostRuntime) -> Result<(), F
     Ok(())
 }
 
-/// Creates a sequential set with `size` keys that can add `size` further keys. The set must accept these keys, and then
-/// be full.
+/// Creates a sequential set with `size` keys that can add `size` further keys. The set must accept the further keys,
+/// and then be full.
 fn has_oracle<R: Abort>(rt: &R, alloc: Global, size: u32) -> Result<(), Fail> {
     let mut oracle = Oracle::opened(alloc, 1, size, &increasing_keys(alloc, size)?)?;
     for key in size..2 * size {
@@ -129,8 +129,8 @@ fn adds(alloc: Global, size: u32) -> Result<History, Fail> {
     Ok(in_turn(history, &calls)?)
 }
 
-/// Judges a history of `size` adds. The history must be linearizable with these final keys, and not linearizable
-/// without final keys.
+/// Judges a history of `size` adds. The history must be linearizable with the added keys as final keys, and not
+/// linearizable without final keys.
 fn is_judged<R: Abort>(rt: &R, alloc: Global, size: u32) -> Result<(), Fail> {
     let history = adds(alloc, size)?;
     let judged = judge(alloc, &history, &increasing_keys(alloc, size)?)?;
@@ -142,7 +142,7 @@ fn is_judged<R: Abort>(rt: &R, alloc: Global, size: u32) -> Result<(), Fail> {
     Ok(())
 }
 
-/// Judges a history with a pending add for each thread. All these adds took effect.
+/// Judges a history with a pending add for each thread, in which all adds took effect.
 fn is_judged_pending<R: Abort>(rt: &R, alloc: Global, threads: u32) -> Result<(), Fail> {
     let mut history = History::new(alloc, threads, 1);
     for thread in 0..threads {

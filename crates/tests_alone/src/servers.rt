@@ -1,5 +1,5 @@
-//! Tests of servers that cannot write their output. The first line of the output contains the port, which differs between
-//! runs, so its digits are ignored.
+//! Tests of servers that cannot write their output. The first line of the output contains the port. The digits of the
+//! port are ignored, because the port differs between runs.
 use crate::failing_devices::{CANNOT_WRITE, Failure, Plan, Way, Writer, planned};
 use crate::prelude::*;
 use lset_dispatch::run_words;
@@ -21,8 +21,8 @@ const WAYS: [Way; 3] = [
     (Failure::Nothing, 7),
 ];
 
-/// Connects a client and sends a call and `QUIT`. The client needs no thread, because it sends these lines before the server
-/// accepts it.
+/// Connects a client and sends a call and `QUIT`. The client needs no thread, because it sends both lines before the
+/// server accepts the connection.
 fn client<R: Host>(rt: &R, port: u16) -> io::Result<TcpStream> {
     let mut stream = TcpStream::connect(rt, ("127.0.0.1", port))?;
     stream.write_all(b"ADD 7\nQUIT\n")?;
@@ -30,7 +30,7 @@ fn client<R: Host>(rt: &R, port: u16) -> io::Result<TcpStream> {
     Ok(stream)
 }
 
-/// Returns the port in the first line, if that line is complete.
+/// Returns the port in the first line of `text`, if the first line is complete.
 fn port_in(text: &[u8]) -> Option<u16> {
     let text = std::str::from_utf8(text).ok()?;
     text.strip_prefix(LISTENING)?
@@ -90,7 +90,7 @@ fn after_digits(text: &str) -> (&str, usize) {
 }
 
 /// Returns `Some(true)` if the bytes are a prefix of the whole output: the first line, then `after`. Returns `None` if
-/// they are not UTF-8.
+/// the bytes are not UTF-8.
 fn is_front(bytes: &[u8], after: &str) -> Option<bool> {
     let text = std::str::from_utf8(bytes).ok()?;
     let Some(named) = text.strip_prefix(LISTENING) else {
@@ -103,15 +103,15 @@ fn is_front(bytes: &[u8], after: &str) -> Option<bool> {
     }
 }
 
-/// Returns `Some(true)` if the bytes are the whole output: the first line, then `after`. Returns `None` if they are not
-/// UTF-8.
+/// Returns `Some(true)` if the bytes are the whole output: the first line, then `after`. Returns `None` if the bytes
+/// are not UTF-8.
 fn is_whole(bytes: &[u8], after: &str) -> Option<bool> {
     let ends = bytes.ends_with(after.as_bytes());
     Some(ends && is_front(bytes, after)?)
 }
 
-/// Runs a server for one session. `plan` determines which write or flush of the output fails. Returns `true` if one
-/// failed.
+/// Runs a server for one session. `plan` determines which write or flush of the output fails. Returns `true` if a write
+/// or flush failed.
 fn output_fails<R: Host>(rt: &R, alloc: Global, plan: Plan) -> Result<bool, Fail> {
     let words = ["serve", "lazy", "1", "4", "0", "1"];
     let mut door = Door {

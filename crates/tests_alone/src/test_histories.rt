@@ -13,7 +13,8 @@ pub fn increasing_keys(alloc: Global, count: u32) -> Result<Vec<u32>, AllocError
     Ok(keys)
 }
 
-/// Appends calls that do not overlap to an empty history. Their starts and ends are the moments 1, 2, 3 and so on.
+/// Appends calls that do not overlap to an empty history. The starts and ends of the calls are the moments 1, 2, 3 and
+/// so on.
 pub fn in_turn(
     mut history: History,
     calls: &[(u32, Call, Reply)],

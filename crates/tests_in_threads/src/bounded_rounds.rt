@@ -13,19 +13,19 @@ impl<const N: u64> Rounds for UpTo<N> {
     const MOST: u64 = N;
 }
 
-/// The keys of a set at the start. In each round of its loop, a call compares one key: each smaller key, and then the
-/// first key that is not smaller than its own.
+/// The keys of a set at the start. In each round of its loop, a call compares one key: each key that is smaller than
+/// the call's key, and then the first key that is not smaller.
 const KEYS: [u32; 5] = [10, 20, 30, 40, 50];
 
-/// Opens a set and makes a call with at most `N` rounds in each loop. Returns the reply, or `None` if more rounds are
-/// needed.
+/// Opens a set and makes a call with at most `N` rounds in each loop. Returns the reply, or `None` if the call needs
+/// more rounds.
 fn reply_of<M: Bounded, R: Abort, N: Rounds>(rt: &R, alloc: Global, call: Call) -> Option<Reply> {
     let (set, zero, _one) = two_seats_on::<M, R>(rt, alloc, &KEYS);
     let (_zero, reply) = set.call_within::<Spin, N>(zero, call, &Spin::new())?;
     Some(reply)
 }
 
-/// Asserts that the traversals to the keys 25 and 30 need three rounds of a loop.
+/// Asserts that the walks to the keys 25 and 30 need three rounds of a loop.
 fn has_rounds<M: Bounded, R: Abort>(rt: &R, alloc: Global) {
     for call in [Call::Add(Key(25)), Call::Remove(Key(30))] {
         assert!(rt; reply_of::<M, R, UpTo<2>>(rt, alloc, call).is_none());
@@ -42,7 +42,7 @@ fn a_call_gives_up_after_its_rounds_and_not_before(rt: HostRuntime) {
     at_each_list!(has_rounds, rt);
 }
 
-/// Asserts that `contains` traverses the whole list even with a bound of one round.
+/// Asserts that `contains` walks through the whole list even with a bound of one round.
 fn walks_on<M: Bounded, R: Abort>(rt: &R, alloc: Global) {
     let (last, none) = (Call::Contains(Key(50)), Call::Contains(Key(55)));
     assert!(rt; reply_of::<M, R, UpTo<1>>(rt, alloc, last) == Some(Reply::True));
@@ -55,8 +55,8 @@ fn contains_of_a_marking_list_ignores_the_bound(rt: HostRuntime) {
     walks_on::<LockFreeList, HostRuntime>(&rt, rt.alloc());
 }
 
-/// Returns a set and one of its two seats (per-thread handles). A call from the other seat ran out of rounds and still
-/// holds its locks.
+/// Returns a set and one of its two seats (per-thread handles to the set). A call from the other seat ran out of rounds
+/// and still holds its locks.
 fn stuck<M: Bounded, R: Abort>(rt: &R, alloc: Global) -> (LiveSet<M>, Seat<M>) {
     let (set, zero, one) = two_seats_on::<M, R>(rt, alloc, &KEYS);
     let made = set.call_within::<Spin, UpTo<2>>(one, Call::Add(Key(25)), &Spin::new());

@@ -10,7 +10,7 @@ struct Seen {
     in_time: Cell<bool>,
 }
 
-/// A text that the session reads at once, and the total length of the answers to the lines that end in this text.
+/// A text that the session reads at once, and the total length of the answers to the lines that end in the text.
 type Turn<'a> = (&'a [u8], u64);
 
 /// An input that returns one text per read. Each read checks that all lines of the earlier texts were answered.
@@ -105,7 +105,7 @@ fn answers_are_written_before_each_read(rt: HostRuntime) {
     }
 }
 
-/// Texts and the lengths of the answers to them. On a set that can add 4 keys, every kind of answer occurs.
+/// Texts, each with the length of the answers to it. On a set that can add 4 keys, every kind of answer occurs.
 const OF_EACH_ANSWER: [Turn<'static>; 9] = [
     (b"CEILING 0\n", 5),
     (b"ADD 4294967295\n", 5),

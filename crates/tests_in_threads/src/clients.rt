@@ -3,7 +3,7 @@
 use crate::meeting::reaches;
 use crate::prelude::*;
 
-/// Sends a text. Returns `true` if the server replies with exactly these answers.
+/// Sends a text. Returns `true` if the server replies with exactly the answers `answers`.
 fn is_answered(stream: &mut TcpStream, text: &[u8], answers: &[u8]) -> bool {
     let mut got = [0u8; 64];
     if answers.len() > 64 || stream.write_all(text).is_err() {
@@ -12,7 +12,8 @@ fn is_answered(stream: &mut TcpStream, text: &[u8], answers: &[u8]) -> bool {
     stream.read_exact(&mut got[..answers.len()]).is_ok() && &got[..answers.len()] == answers
 }
 
-/// Connects and sends a text. Returns `true` if the server replies with these answers and then closes the connection.
+/// Connects and sends a text. Returns `true` if the server replies with the expected answers and then closes the
+/// connection.
 pub fn asks<R: Host + Net<Listener = TcpListener, Stream = TcpStream>>(
     rt: &R,
     port: u16,
@@ -25,8 +26,8 @@ pub fn asks<R: Host + Net<Listener = TcpListener, Stream = TcpStream>>(
     is_answered(&mut stream, text, answers) && matches!(stream.read(&mut [0u8; 1]), Ok(0))
 }
 
-/// Connects, sends a line, and waits until the other client has received its answer too. Then sends `QUIT`. Returns
-/// `true` if all answers arrived.
+/// Connects, sends a line, and waits until both clients have received their answers. Then sends `QUIT`. Returns `true`
+/// if all answers arrived.
 pub fn meets<R: Host + Net<Listener = TcpListener, Stream = TcpStream>>(
     rt: &R,
     port: u16,
@@ -41,7 +42,7 @@ pub fn meets<R: Host + Net<Listener = TcpListener, Stream = TcpStream>>(
     has_asked && reaches(rt, met, 2) && is_answered(&mut stream, b"QUIT\n", b"BYE\n")
 }
 
-/// Connects several clients. No client disconnects before all of them have received their answers. Returns `true` if
+/// Connects several clients. No client disconnects before all clients have received their answers. Returns `true` if
 /// all answers arrived.
 pub fn all_meet<R: Host + Net<Listener = TcpListener, Stream = TcpStream>>(
     rt: &R,

@@ -13,8 +13,8 @@ pub fn comes<R: Clock>(rt: &R, flag: &AtomicBool) -> bool {
     false
 }
 
-/// Waits until the count is `number`. Polls every millisecond, at most 10,000 times. Returns `true` if the count was
-/// reached.
+/// Waits until the count is `number`. Polls every millisecond, at most 10,000 times. Returns `true` if the count
+/// reached `number`.
 pub fn reaches<R: Clock>(rt: &R, count: &AtomicU64, number: u64) -> bool {
     for _ in 0..10_000 {
         if count.load(Ordering::SeqCst) == number {
@@ -41,7 +41,7 @@ pub fn calls<M: Running, R: Clock + Wait, P: Pause>(
 }
 
 /// A meeting of up to 64 threads. When a thread arrives for the first time, it waits for all other threads. `took` is
-/// true if a thread had to wait for a lock and then acquired this lock.
+/// true if a thread had to wait for a lock and then acquired the lock.
 #[derive(Drop)]
 pub struct Meeting<'a, R> {
     rt: &'a R,
@@ -65,8 +65,8 @@ impl<'a, R: Clock> Meeting<'a, R> {
         }
     }
 
-    /// Registers that a thread has arrived, and waits for all other threads. Returns `true` if they arrive, or if this
-    /// thread has arrived before.
+    /// Registers that a thread has arrived, and waits for all other threads. Returns `true` if all threads arrive, or
+    /// if `thread` has arrived before.
     pub fn come(&self, thread: u32) -> bool {
         if self.came[(thread % 64) as usize].swap(true, Ordering::SeqCst) {
             return true;
@@ -84,7 +84,7 @@ impl<'a, R: Clock> Meeting<'a, R> {
         self.count.load(Ordering::SeqCst) == self.threads && !self.missed.load(Ordering::SeqCst)
     }
 
-    /// Returns `true` if a thread had to wait for a lock and then acquired this lock.
+    /// Returns `true` if a thread had to wait for a lock and then acquired the lock.
     pub fn has_waited(&self) -> bool {
         self.took.load(Ordering::SeqCst)
     }

@@ -23,7 +23,8 @@ pub fn two_seats_on<M: Machine, R: Abort>(
     (set, zero, one)
 }
 
-/// Opens an empty set for two threads. Returns the set and the seats 0 and 1, which can add 4 keys each.
+/// Opens an empty set for two threads. Returns the set and the seats 0 and 1 (per-thread handles to the set). Each seat
+/// can add 4 keys.
 pub fn two_seats<M: Machine, R: Abort>(rt: &R, alloc: Global) -> (LiveSet<M>, Seat<M>, Seat<M>) {
     two_seats_on::<M, R>(rt, alloc, &[])
 }
@@ -50,7 +51,7 @@ pub fn make_calls<M: Running, R: Host>(
     }
 }
 
-/// Merges all seats (per-thread handles) into one seat. Returns `None` if `seats` is empty.
+/// Merges all seats (per-thread handles to the set) into one seat. Returns `None` if `seats` is empty.
 pub fn gathered<M: Machine>(set: &LiveSet<M>, mut seats: Vec<Seat<M>>) -> Option<Seat<M>> {
     let mut all = None;
     while let Some(seat) = seats.pop() {

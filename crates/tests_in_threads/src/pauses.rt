@@ -5,8 +5,8 @@ use crate::opened::two_seats;
 use crate::prelude::*;
 use std::cell::Cell;
 
-/// Counts the reported steps and, among them, the wrong steps: steps of another thread, failed steps, and locks
-/// acquired after a wait.
+/// Counts the reported steps and, among them, the wrong steps: steps of a thread other than `thread`, failed steps, and
+/// locks acquired after a wait.
 #[derive(Drop)]
 pub struct Count {
     thread: u32,
@@ -66,8 +66,8 @@ fn makes_steps<M: Running, R: Host>(rt: &R, alloc: Global, rows: &[(Call, Reply)
     }
 }
 
-/// Asserts replies and numbers of steps twice: for the loops of the list, and for its step table, run by the
-/// interpreter.
+/// Asserts replies and numbers of steps twice: for the loops of the list, and for the interpreter of the list's step
+/// table.
 fn both_make_steps<M: Running, R: Host>(
     rt: &R,
     alloc: Global,

@@ -2,15 +2,15 @@
 //! limit, and each order of magnitude is equally likely.
 //!
 //! Thread `t` of `n` uses only the keys with the remainder `t` modulo `n`. The model of a thread is a sequential set of
-//! its keys. The thread's replies, except to `ceiling`, therefore do not depend on the other threads.
+//! the thread's keys. Therefore the thread's replies, except to `ceiling`, do not depend on the other threads.
 
 use crate::opened::{increasing_keys, keys_left, last_of, make_calls};
 use crate::prelude::*;
 use crate::programs::worked;
 use std::collections::BTreeSet;
 
-/// The sizes of a set and of the programs on it. `last` is the largest key, and `calls` is the number of calls of all
-/// threads together.
+/// The sizes of a set and of the programs on the set. `last` is the largest key, and `calls` is the number of calls of
+/// all threads together.
 #[derive(Clone, Copy, Debug)]
 pub struct Sizes {
     threads: u32,
@@ -71,7 +71,7 @@ impl Draws {
     }
 }
 
-/// A rough limit on the number of nodes that all traversals of a run visit. The limit keeps runs short.
+/// A rough limit on the number of nodes that all walks of a run visit. The limit keeps runs short.
 const MOST_PASSED: u64 = 5_000_000;
 
 impl Sizes {
@@ -85,7 +85,7 @@ impl Sizes {
         }
     }
 
-    /// Returns the number of calls of a thread. Threads make fewer calls if traversals can be long.
+    /// Returns the number of calls of a thread. Threads make fewer calls if walks can be long.
     fn calls_of(&self, thread: u32) -> u32 {
         let slots = u64::from(self.threads) * u64::from(self.quota);
         let added = slots.min(u64::from(self.last)).min(u64::from(self.calls));
@@ -106,11 +106,11 @@ impl Sizes {
         key.checked_rem(self.threads) == Some(thread)
     }
 
-    /// Returns one program for each thread.
+    /// Returns one program (list of calls) for each thread.
     ///
     /// If several threads use a LockFreeList, the programs do not call `ceiling`. A `remove` can leave a marked node in
-    /// the chain, and a `ceiling` restarts at this node until an `add` or `remove` traverses it. If only such ceilings
-    /// were left, none of them would end.
+    /// the chain, and a `ceiling` that reaches the marked node restarts until an `add` or `remove` walks past the node.
+    /// If only such ceilings were left, none of them would end.
     fn programs<M: Machine, R: Abort>(
         &self,
         rt: &R,
@@ -185,8 +185,8 @@ impl Model {
         Reply::True
     }
 
-    /// Returns `true` if a `ceiling` can have this reply. The reply can be a key of another thread that is below the
-    /// next key of this thread.
+    /// Returns `true` if `reply` is possible for a `ceiling` of `key`. The reply can be a key of another thread that is
+    /// below the next key of the model's thread.
     fn may_find(&self, key: u32, reply: Reply) -> bool {
         let own = self.keys.range(key..).next();
         match (reply, own) {
@@ -223,8 +223,8 @@ impl Model {
     }
 }
 
-/// Runs programs in threads on a set that opens with these keys. Asserts that each thread's model, a sequential set of
-/// the thread's keys, returns the same replies and has the same final keys. Returns the final keys.
+/// Runs programs in threads on a set that opens with the keys `opening`. Asserts that each thread's model, a sequential
+/// set of the thread's keys, returns the same replies as the set and has the same final keys. Returns the final keys.
 pub fn runs_beside_models<M: Running + Send + Sync, R: Host>(
     rt: &R,
     alloc: Global,
@@ -247,7 +247,7 @@ pub fn runs_beside_models<M: Running + Send + Sync, R: Host>(
     outcome.keys
 }
 
-/// Sizes at each limit. In two of these cases, with one thread and with three threads, more than 65,536 calls are made.
+/// Sizes at each limit. Two of the cases, one with one thread and one with three threads, make more than 65,536 calls.
 fn at_the_limits() -> [Sizes; 4] {
     [
         Sizes::new(MOST_THREADS, MOST_QUOTA, MOST_OPENING, 64, u32::MAX),
@@ -307,15 +307,15 @@ fn lock_free_calls_succeed_at_all_sizes(rt: HostRuntime) {
     calls_succeed::<LockFreeList, HostRuntime>(&rt, rt.alloc(), 5);
 }
 
-/// Adds `count` keys from `first` on, in decreasing order. Each new node therefore directly follows the head.
+/// Adds `count` keys from `first` on, in decreasing order. Therefore each new node directly follows the head.
 fn fill<M: Running, R: Wait>(rt: &R, set: &LiveSet<M>, seat: &mut Seat<M>, first: u32, count: u32) {
     for number in (0..count).rev() {
         let _reply = set.add(rt, seat, Key(first.saturating_add(number)));
     }
 }
 
-/// Opens a set of the maximum size and uses up the quota of each seat (per-thread handle). All added keys are smaller
-/// than the opening keys (the keys at the start).
+/// Opens a set of the maximum size and uses up the quota (successful adds) of each seat (per-thread handle to the set).
+/// All added keys are smaller than the opening keys (the keys at the start).
 fn filled<M: Running, R: Host>(rt: &R, alloc: Global, opening: &[u32]) -> (LiveSet<M>, Seat<M>) {
     let opened = open_with::<M>(alloc, MOST_THREADS, MOST_QUOTA, opening);
     let (set, mut seats) = opened.expect(rt, "not opened");
@@ -346,7 +346,7 @@ const PAST_ALL: [(Call, Reply); 5] = [
     (Call::Ceiling(LAST), Reply::Nothing),
 ];
 
-/// Asserts that calls can traverse a set of the maximum size. Every node of this set has a key.
+/// Asserts that calls can walk through a set of the maximum size, in which every node has a key.
 fn is_filled<M: Running, R: Host>(rt: &R, alloc: Global) {
     let mut opening = Vec::new(alloc);
     for number in 0..MOST_OPENING {

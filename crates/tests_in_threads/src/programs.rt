@@ -1,5 +1,5 @@
-//! Tests of programs in threads, and of the gates that can stop a program before a call. Each program runs on a seat, a
-//! per-thread handle to the set.
+//! Tests of programs in threads, and of the gates (callbacks) that can stop a program before a call. Each program runs
+//! on a seat, a per-thread handle to the set.
 
 use crate::meeting::Meeting;
 use crate::opened::{last_of, make_calls, two_seats};
@@ -24,12 +24,14 @@ pub fn worked<M: Running + Send + Sync, R: Host, G: Gate + Sync>(
     }
 }
 
-/// Opens an empty set for `seats` threads. Returns the set and a seat for each thread. Each thread can add 4 keys.
+/// Opens an empty set for `seats` threads. Returns the set and a seat (handle to the set) for each thread. Each thread
+/// can add 4 keys.
 fn in_a_row<M: Running, R: Abort>(rt: &R, alloc: Global, seats: u32) -> (LiveSet<M>, Vec<Seat<M>>) {
     open::<M>(alloc, seats, 4).expect(rt, "not opened")
 }
 
-/// Runs these programs on a set with two seats (per-thread handles) and returns the error of `work`.
+/// Runs the programs `programs` on a set with two seats (per-thread handles to the set) and returns the error of
+/// `work`.
 fn fault_of<R: Host, G: Gate + Sync>(
     rt: &R,
     alloc: Global,
@@ -81,8 +83,8 @@ fn two_programs_return_their_replies_and_the_final_key(rt: HostRuntime) {
     at_each_list!(answers, rt);
 }
 
-/// Asserts that `work` failed because the number of programs differs from the number of seats (per-thread handles). The
-/// error must return the set, which has two seats, and all `seats` seats that `work` received.
+/// Asserts that `work` failed because the number of programs differs from the number of seats (per-thread handles to
+/// the set). The error must return the set, which has two seats, and all `seats` seats that `work` received.
 fn gave_all_back<R: Abort>(rt: &R, fault: WorkFault<LazyList>, seats: usize) {
     assert!(rt; fault.cause == WorkCause::Programs);
     let (set, back) = fault.back.expect(rt, "nothing came back");
@@ -143,8 +145,8 @@ fn a_program_can_be_empty(rt: HostRuntime) {
     assert!(rt; are_as_wanted(&outcome, &[&[Reply::True], &[]], &[5]));
 }
 
-/// A gate that refuses one call of one seat (per-thread handle). `counts` has how often the gate was asked: an entry
-/// for each of the first three calls of the seats 0 to 2, and one entry for all other calls.
+/// A gate that refuses one call of one seat (per-thread handle to the set). `counts` states how often the gate was
+/// asked: it has an entry for each of the first three calls of the seats 0 to 2, and one entry for all other calls.
 #[derive(Drop)]
 struct Shut {
     seat: u32,
@@ -182,8 +184,8 @@ impl Gate for Shut {
     }
 }
 
-/// Cases: the seat (per-thread handle) and the number of the call that the gate refuses, and how often the gate must be
-/// asked before each call. The refused call ends its program. All other programs run to their end.
+/// Cases: the seat (per-thread handle to the set) and the number of the call that the gate refuses, and how often the
+/// gate must be asked before each call. The refused call ends its program. All other programs run to their end.
 const SHUT: [(u32, u32, [u32; 10]); 5] = [
     (0, 1, [1, 1, 0, 1, 1, 0, 0, 0, 0, 0]),
     (0, 0, [1, 0, 0, 1, 1, 0, 0, 0, 0, 0]),
@@ -203,8 +205,8 @@ fn a_gate_that_refuses_a_call_ends_only_its_program(rt: HostRuntime) {
     }
 }
 
-/// Opens a set with three seats (per-thread handles), and merges seat 1 into seat 2. Returns the set, and the seats 2
-/// and 0, in this order.
+/// Opens a set with three seats (per-thread handles to the set), and merges seat 1 into seat 2. Returns the set and the
+/// seats, seat 2 before seat 0.
 fn two_before_zero<M: Running, R: Abort>(rt: &R, alloc: Global) -> (LiveSet<M>, Vec<Seat<M>>) {
     let (set, mut seats) = in_a_row::<M, R>(rt, alloc, 3);
     let mut two = last_of(rt, &set, &mut seats);
@@ -215,8 +217,8 @@ fn two_before_zero<M: Running, R: Abort>(rt: &R, alloc: Global) -> (LiveSet<M>, 
     (set, seats)
 }
 
-/// Tests that the gate (a callback that permits or refuses each call) receives the thread number of each seat, and that
-/// the replies are in the order of the seats.
+/// Tests that the gate (a callback that permits or refuses each call) receives the thread number of each seat (one
+/// thread's access to the set), and that the replies are in the order of the seats.
 #[test]
 fn seats_work_in_any_order(rt: HostRuntime) {
     let (set, seats) = two_before_zero::<LazyList, HostRuntime>(&rt, rt.alloc());
@@ -232,7 +234,7 @@ fn seats_work_in_any_order(rt: HostRuntime) {
     assert!(rt; are_as_wanted(&outcome, &[&[Reply::True], &[Reply::False]], &[2]));
 }
 
-/// Returns a program of two adds for each seat (per-thread handle). Different programs add different keys.
+/// Returns a program of two adds for each seat (per-thread handle to the set). Different programs add different keys.
 fn two_adds_each<R: Abort>(rt: &R, alloc: Global, seats: u32) -> Vec<Vec<Call>> {
     let mut programs = Vec::new(alloc);
     for seat in 0..seats {
@@ -279,7 +281,7 @@ fn programs_of_all_seats_run_at_once(rt: HostRuntime) {
     meet::<LazyList, HostRuntime>(&rt, rt.alloc(), MOST_THREADS);
 }
 
-/// Returns, for each of 50 keys, how often it was added minus how often it was removed.
+/// Returns, for each of 50 keys, how often the key was added minus how often it was removed.
 fn balance_of(programs: &[Vec<Call>], replies: &[Vec<Reply>]) -> [u64; 50] {
     let mut balance = [0u64; 50];
     for (program, replies) in programs.iter().zip(replies) {
@@ -295,8 +297,8 @@ fn balance_of(programs: &[Vec<Call>], replies: &[Vec<Reply>]) -> [u64; 50] {
     balance
 }
 
-/// Makes calls on the same 50 keys from four threads. Asserts that a key is present if it was added one more time than
-/// it was removed, and absent if it was added and removed equally often.
+/// Makes calls on 50 keys from four threads, which all use the same keys. Asserts that a key is present if it was added
+/// once more than it was removed, and absent if it was added and removed equally often.
 fn add_up<M: Running + Send + Sync, R: Host>(rt: &R, alloc: Global) {
     let (set, seats) = open::<M>(alloc, 4, 2_000).expect(rt, "not opened");
     let drawn = programs(alloc, 4, 2_000, 50, 7).expect(rt, "not drawn");

@@ -1,5 +1,5 @@
 //! Tests of sets that open with the final keys of a closed set. The new set has a different number of seats (per-thread
-//! handles), a different quota or a different kind of list.
+//! handles to the set), a different quota (successful adds per seat) or a different kind of list.
 
 use crate::opened::{close_with, gathered, increasing_keys, keys_left, last_of, make_calls};
 use crate::prelude::*;
@@ -12,8 +12,8 @@ const CALLS_ON_A_KEY: [(Call, Reply); 3] = [
     (Call::Remove(Key(9)), Reply::True),
 ];
 
-/// Opens a set with three seats (per-thread handles) and the key 9. The set cannot add keys. Asserts that a key from
-/// the start can be removed like any other key.
+/// Opens a set that has three seats (per-thread handles to the set), contains the key 9, and cannot add keys. Asserts
+/// that a key from the start can be removed like any other key.
 fn opens_with_a_key<M: Running, R: Host>(rt: &R, alloc: Global) {
     let (set, mut seats) = open_with::<M>(alloc, 3, 0, &[9]).expect(rt, "not opened");
     let mut last = last_of(rt, &set, &mut seats);
@@ -52,8 +52,8 @@ fn the_smallest_and_the_largest_key_can_be_opening_keys(rt: HostRuntime) {
     at_each_list!(keeps_its_keys, rt);
 }
 
-/// A number of seats (per-thread handles), a quota and opening keys (keys at the start), and the error that `open_with`
-/// returns for them.
+/// A number of seats (per-thread handles to a set), a quota (successful adds per seat) and opening keys (keys at the
+/// start), and the error that `open_with` returns for this combination.
 const REFUSED: [(u32, u32, [u32; 2], OpenFault); 4] = [
     (0, 16_385, [5, 5], OpenFault::Seats),
     (1, 16_385, [5, 5], OpenFault::Quota),
@@ -69,7 +69,7 @@ fn open_with_refuses_seats_then_quota_then_keys_that_do_not_increase(rt: HostRun
     }
 }
 
-/// Opens a set with these keys, runs programs on it in threads, closes it, and returns its final keys.
+/// Opens a set with the keys `keys`, runs programs on the set in threads, closes the set, and returns the final keys.
 fn life<R: Host>(
     rt: &R,
     alloc: Global,
@@ -87,7 +87,7 @@ fn life<R: Host>(
     }
 }
 
-/// Each kind of list, with a number of seats (per-thread handles) and a quota.
+/// Each kind of list, with a number of seats (per-thread handles to the set) and a quota (successful adds per seat).
 const LIVES: [(Kind, u32, u32); 5] = [
     (Kind::Coarse, 6, 40),
     (Kind::Fine, 4, 30),
@@ -113,7 +113,7 @@ fn each_list_opens_with_the_final_keys_of_each_list(rt: HostRuntime) {
     assert!(rt; left > 0);
 }
 
-/// Calls on a set that can add one key and opens with the maximum number of keys. Its opening keys (the keys at the
+/// Calls on a set that can add one key and opens with the maximum number of keys. All opening keys (the keys at the
 /// start) are even.
 const CALLS_ON_A_MILLION: [(Call, Reply); 3] = [
     (Call::Contains(Key(2_097_150)), Reply::True),

@@ -1,5 +1,5 @@
-//! Tests of seats (per-thread handles): seats call one after another or at the same time, are gathered, pass receipts
-//! (records of the events that they have seen), and close the set.
+//! Tests of seats (per-thread handles to a set): seats call one after another or at the same time, are merged
+//! (gathered), pass receipts (records of the events that they have seen), and close the set.
 
 use crate::meeting::{Meeting, calls};
 use crate::opened::{close_with, make_calls, two_seats, two_seats_on};
@@ -8,15 +8,15 @@ use lset_live::Receipt;
 use lset_rule::TableSeat;
 use std::mem::size_of;
 
-/// The calls of one seat (per-thread handle) on key 9, and their replies.
+/// The calls of one seat (per-thread handle to a set) on key 9, and the replies to the calls.
 pub const ADDS: [(Call, Reply); 1] = [(Call::Add(Key(9)), Reply::True)];
 
 pub const FINDS: [(Call, Reply); 1] = [(Call::Contains(Key(9)), Reply::True)];
 
 const FINDS_NOTHING: [(Call, Reply); 1] = [(Call::Contains(Key(9)), Reply::False)];
 
-/// A number of seats (per-thread handles), a quota, and the error that `open` returns for them (`None` if `open`
-/// returns a set).
+/// A number of seats (per-thread handles to a set), a quota (successful adds per seat), and the error that `open`
+/// returns for them, or `None` if `open` returns a set.
 const LIMITS: [(u32, u32, Option<OpenFault>); 5] = [
     (0, 4, Some(OpenFault::Seats)),
     (65, 4, Some(OpenFault::Seats)),
@@ -33,8 +33,8 @@ fn open_refuses_seats_and_then_a_quota_outside_their_limits(rt: HostRuntime) {
     }
 }
 
-/// Merges seat 1 into seat 0 (per-thread handles), finds the key 9, and closes the set. Asserts that 9 is the only
-/// final key.
+/// Merges seat 1 into seat 0 (seats are per-thread handles to the set), finds the key 9, and closes the set. Asserts
+/// that 9 is the only final key.
 fn gathers_and_closes<M: Running, R: Host>(
     rt: &R,
     set: LiveSet<M>,
@@ -92,8 +92,8 @@ fn close_with_a_missing_seat_returns_set_and_seat(rt: HostRuntime) {
     at_each_list!(comes_back, rt);
 }
 
-/// Copies a receipt (the events that a seat has seen) three times. One of the four receipts is dropped. One is passed
-/// to the other seat, and one to the seat that issued it. The last one still exists when the set is closed.
+/// Copies a receipt (the events that a seat has seen) three times. One of the four receipts is dropped, one is passed
+/// to the other seat, one is passed to the seat that issued it, and one still exists when the set is closed.
 fn are_passed_on<M: Running, R: Host>(rt: &R, alloc: Global) {
     let (set, mut zero, mut one) = two_seats::<M, R>(rt, alloc);
     make_calls(rt, &set, &mut one, &ADDS);
@@ -113,8 +113,8 @@ fn receipts_can_be_copied_dropped_and_taken(rt: HostRuntime) {
     at_each_list!(are_passed_on, rt);
 }
 
-/// Asserts that passing an old receipt to a seat (per-thread handle) has no effect. A receipt contains only the events
-/// that its seat had seen when it issued the receipt.
+/// Asserts that passing an old receipt to a seat (per-thread handle to the set) has no effect. A receipt contains only
+/// the events that its seat had seen when the seat issued the receipt.
 fn may_be_old<M: Running, R: Host>(rt: &R, alloc: Global) {
     let (set, mut zero, mut one) = two_seats::<M, R>(rt, alloc);
     let early = set.receipt(&mut zero);
@@ -147,7 +147,8 @@ const OF_EACH_KIND: [(Call, Call); 4] = [
     (Call::Ceiling(Key(3)), Call::Ceiling(Key(4))),
 ];
 
-/// Makes a call from each of two seats, in two threads. Both calls report their steps to `pause`.
+/// Makes a call from each of two seats (per-thread handles to the set), in two threads. Both calls report their steps
+/// to `pause`.
 fn at_once<M: Running + Send + Sync, R: Host, P: Pause + Sync>(
     rt: &R,
     set: &LiveSet<M>,
@@ -165,8 +166,8 @@ fn at_once<M: Running + Send + Sync, R: Host, P: Pause + Sync>(
     )
 }
 
-/// Makes two calls at the same time. Each call waits after its first step for the other call. Returns `true` if one of
-/// them had to wait for a lock and then acquired this lock.
+/// Makes two calls at the same time. After its first step, each call waits for the other call. Returns `true` if one of
+/// the two calls had to wait for a lock and then acquired the lock.
 fn calls_meet<M: Running + Send + Sync, R: Host>(
     rt: &R,
     alloc: Global,
@@ -183,7 +184,7 @@ fn calls_meet<M: Running + Send + Sync, R: Host>(
     meeting.has_waited()
 }
 
-/// If the first step takes a lock, one of the two threads must wait for this lock.
+/// If the first step of a call takes a lock, one of the two threads must wait for the lock.
 #[test]
 fn one_of_two_calls_waits_if_the_first_step_takes_a_lock(rt: HostRuntime) {
     for both in OF_EACH_KIND {

@@ -1,4 +1,4 @@
-//! Tests of servers on the loopback interface. A server has one worker for each seat (per-thread handle).
+//! Tests of servers on the loopback interface. A server has one worker for each seat (per-thread handle to the set).
 
 use crate::clients::{all_meet, asks, leaves, meets};
 use crate::opened::last_of;
@@ -9,8 +9,8 @@ use lset_server::{ServeCause, Served, serve};
 /// The kind of set that the servers in these tests serve.
 type Set = LiveSet<LazyList>;
 
-/// Opens an empty set for `seats` threads. Returns the set and, for each thread, a seat (per-thread handle) that can
-/// add 4 keys.
+/// Opens an empty set for `seats` threads. Returns the set and a seat (handle to the set) for each thread. Each seat
+/// can add 4 keys.
 fn opened<R: Abort>(rt: &R, alloc: Global, seats: u32) -> (Set, Vec<Seat<LazyList>>) {
     open::<LazyList>(alloc, seats, 4).expect(rt, "not opened")
 }
@@ -19,8 +19,8 @@ fn listening<R: Host + Net<Listener = TcpListener, Stream = TcpStream>>(rt: &R) 
     TcpListener::bind(rt, "127.0.0.1:0").expect(rt, "no port")
 }
 
-/// Serves `sessions` sessions on these seats (per-thread handles) while `ask` uses the server's port. Fails the test if
-/// `ask` returns `false`.
+/// Serves `sessions` sessions on `seats` (per-thread handles to the set) while `ask` uses the server's port. Fails the
+/// test if `ask` returns `false`.
 fn served_on<
     R: Host + Net<Listener = TcpListener, Stream = TcpStream>,
     F: FnOnce(u16) -> bool + Send,
@@ -39,7 +39,8 @@ fn served_on<
     }
 }
 
-/// Serves `sessions` sessions on a new set with `seats` seats (per-thread handles) while `ask` uses the server's port.
+/// Serves `sessions` sessions on a new set with `seats` seats (per-thread handles to the set) while `ask` uses the
+/// server's port.
 fn served_while<
     R: Host + Net<Listener = TcpListener, Stream = TcpStream>,
     F: FnOnce(u16) -> bool + Send,
@@ -93,8 +94,8 @@ fn two_sessions_are_served_at_once(rt: HostRuntime) {
     made(&rt, &served, 2, 2, &[1, 2]);
 }
 
-/// Asserts that a server serves one session for each seat (per-thread handle) at the same time, and then the remaining
-/// sessions.
+/// Asserts that a server serves one session for each seat (per-thread handle to the set) at the same time, and then the
+/// remaining sessions.
 fn meets_on_each_seat<R: Host + Net<Listener = TcpListener, Stream = TcpStream>>(
     rt: &R,
     alloc: Global,
@@ -109,8 +110,8 @@ fn meets_on_each_seat<R: Host + Net<Listener = TcpListener, Stream = TcpStream>>
     made(rt, &served, u64::from(sessions), u64::from(sessions), &[]);
 }
 
-/// Serves fewer sessions than seats, as many sessions as seats, and more. A seat is a per-thread handle: one thread
-/// calls the set through it. A seat serves one session at a time.
+/// Serves fewer sessions than seats, as many sessions as seats, and more. A seat is one thread's handle to the set, and
+/// serves one session at a time.
 #[test]
 fn as_many_sessions_as_seats_are_served_at_once(rt: HostRuntime) {
     for (seats, sessions) in [(2, 1), (3, 3), (5, 7), (64, 65)] {
@@ -118,7 +119,7 @@ fn as_many_sessions_as_seats_are_served_at_once(rt: HostRuntime) {
     }
 }
 
-/// Opens a set with four seats (per-thread handles) and merges them into two pairs.
+/// Opens a set with four seats (per-thread handles to the set) and merges the seats into two pairs.
 fn two_pairs<R: Abort>(rt: &R, alloc: Global) -> (Set, Vec<Seat<LazyList>>) {
     let (set, mut seats) = opened(rt, alloc, 4);
     let three = last_of(rt, &set, &mut seats);
@@ -131,8 +132,8 @@ fn two_pairs<R: Abort>(rt: &R, alloc: Global) -> (Set, Vec<Seat<LazyList>>) {
     (set, pairs)
 }
 
-/// The server must start one worker for each seat (per-thread handle) that it receives, not one for each seat that was
-/// merged into these.
+/// The server must start one worker for each seat (per-thread handle to the set) that it receives, and none for a seat
+/// that was merged into a received seat.
 #[test]
 fn each_gathered_seat_serves_a_session(rt: HostRuntime) {
     let (set, pairs) = two_pairs(&rt, rt.alloc());

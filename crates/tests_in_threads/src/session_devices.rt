@@ -1,5 +1,5 @@
-//! Readers and writers for tests of sessions. Some of them fail at one call; the others transfer as many bytes as they
-//! can.
+//! Readers and writers for tests of sessions. Some fail at one chosen call. The others never fail, and transfer as many
+//! bytes as they can.
 
 use crate::prelude::*;
 use std::io::ErrorKind;

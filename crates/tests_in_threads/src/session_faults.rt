@@ -1,11 +1,11 @@
-//! Tests of sessions with a failing read or write.
+//! Tests of sessions in which a read or a write fails.
 use crate::prelude::*;
 use crate::session_devices::{FailingReader, FailingWriter};
 use crate::session_lines::{
     ANSWERS, CEILINGS, LINES, end, held, held_buffered, one_seat, was_held,
 };
 
-/// Asserts that a session ends when write number `at` fails, and that it has made `calls` calls by then.
+/// Asserts that a session ends when write number `at` fails, and that the session has made `calls` calls by then.
 fn write_fails<R: Host>(rt: &R, alloc: Global, lines: &[u8], answers: &[u8], at: u64, calls: u64) {
     let (set, mut seat) = one_seat(rt, alloc);
     let mut writer = FailingWriter::new(alloc, at);
@@ -15,8 +15,8 @@ fn write_fails<R: Host>(rt: &R, alloc: Global, lines: &[u8], answers: &[u8], at:
     writer.has_stopped(rt, answers);
 }
 
-/// Asserts that a session ends when any of its writes fails. Each entry of `rows` states a range of writes (the numbers
-/// of the first and the last), and the number of calls before these writes.
+/// Asserts that a session ends when any of its writes fails. Each entry of `rows` states a range of writes (by the
+/// numbers of its first and final write), and the number of calls before the writes in the range.
 fn writes_fail<R: Host>(
     rt: &R,
     alloc: Global,
@@ -41,8 +41,8 @@ fn a_failed_write_ends_the_session(rt: HostRuntime) {
     writes_fail(&rt, rt.alloc(), lines, answers, &rows);
 }
 
-/// Asserts that a session ends when read number `at` fails. All earlier lines must have been answered, even if answers
-/// are buffered.
+/// Asserts that a session ends when read number `at` fails. All lines that were read before must have been answered,
+/// even if answers are buffered.
 fn read_fails<R: Host>(rt: &R, alloc: Global, lines: &[u8], at: u64, answers: &[u8], calls: u64) {
     let ended = end(EndReason::ReadFault, calls);
     let mut reader = FailingReader::new(lines, at);
@@ -55,8 +55,9 @@ fn read_fails<R: Host>(rt: &R, alloc: Global, lines: &[u8], at: u64, answers: &[
     assert!(rt; reader.reads == at, "{at}, answers wait");
 }
 
-/// Asserts that a session ends when any of its reads fails. Each entry of `rows` is about successive reads: the numbers
-/// of the first and the last, the answers written before these reads, and the number of calls made before them.
+/// Asserts that a session ends when any of its reads fails. Each entry of `rows` states a range of reads (by the
+/// numbers of its first and final read), the answers written before the reads in the range, and the number of calls
+/// made before them.
 fn reads_fail<R: Host>(rt: &R, alloc: Global, lines: &[u8], rows: &[(u64, u64, &[u8], u64)]) {
     for &(from, to, answers, calls) in rows {
         for at in from..=to {
@@ -85,7 +86,7 @@ fn a_failed_read_ends_the_session(rt: HostRuntime) {
     reads_fail(&rt, rt.alloc(), CEILINGS, &rows);
 }
 
-/// Lines, the answers to them, and the number of calls.
+/// Lines, the answers to the lines, and the number of calls.
 type Lines = (&'static [u8], &'static [u8], u64);
 
 /// Lines for each way to end a session: calls and `QUIT`; a line that is too long; lines without a call.
@@ -115,8 +116,8 @@ fn a_failed_write_of_buffered_answers_ends_the_session(rt: HostRuntime) {
     }
 }
 
-/// All lines arrive in one read, and their answers do not fit into the buffer at once. After the first write has
-/// failed, the session must make no further call.
+/// All lines arrive in one read, and the answers to the lines do not fit into the buffer at once. After the first write
+/// has failed, the session must make no further call.
 #[test]
 fn no_call_is_made_after_a_failed_write(rt: HostRuntime) {
     let mut text = Vec::from_slice(rt.alloc(), b"ADD 4294967295\n").expect(&rt, "room");

@@ -9,13 +9,13 @@ pub const LINES: &[u8] = b"ADD 7\nADD 7\nCONTAINS 7\nMOVE 7\nREMOVE 7\nQUIT\n";
 
 pub const ANSWERS: &[u8] = b"TRUE\nFALSE\nTRUE\nBAD\nTRUE\nBYE\n";
 
-/// Lines that ask for the smallest key at or above 7, before and after the key 9 is added. `FOUND` lists the answers to
-/// them.
+/// Lines that ask for the smallest key that is at least 7, before and after the key 9 is added. `FOUND` lists the
+/// answers to the lines.
 pub const CEILINGS: &[u8] = b"CEILING 7\nADD 9\nCEILING 7\nQUIT\n";
 
 pub const FOUND: &[u8] = b"NONE\nTRUE\nAT 9\nBYE\n";
 
-/// Opens an empty set with one seat (per-thread handle). The seat can add 4 keys.
+/// Opens an empty set with one seat (per-thread handle to the set). The seat can add 4 keys.
 pub fn one_seat<R: Abort>(rt: &R, alloc: Global) -> (LiveSet<LazyList>, Seat<LazyList>) {
     let (set, mut seats) = open::<LazyList>(alloc, 1, 4).expect(rt, "not opened");
     let seat = last_of(rt, &set, &mut seats);
@@ -42,21 +42,21 @@ pub fn held_buffered<R: Host, I: Source + Drop>(
     (written, ended)
 }
 
-/// Returns the end of a session that ended for this reason after this number of calls.
+/// Returns the end of a session: the reason `why` and the number `calls` of calls.
 pub fn end(why: EndReason, calls: u64) -> Ended {
     Ended { why, calls }
 }
 
-/// Asserts the answers of a session and its end (the reason, and the number of calls).
+/// Asserts the answers of a session, the reason for its end, and the number of its calls.
 pub fn was_held<R: Abort>(rt: &R, session: &(Vec<u8>, Ended), answers: &[u8], ended: Ended) {
     assert!(rt; session.0.as_slice() == answers);
     assert_eq!(rt; session.1, ended);
 }
 
-/// A text with lines, the answers to them, the reason for the session's end, and the number of calls.
+/// A text with lines, the answers to the lines, the reason for the session's end, and the number of calls.
 type Row = (&'static [u8], &'static [u8], EndReason, u64);
 
-/// Asserts the answers to each text, each time on a new set. The answers must not change if they are buffered, or if
+/// Asserts the answers to each text, each time on a new set. The answers must be the same if they are buffered, and if
 /// the text arrives in pieces of any size.
 fn are_answered<R: Host>(rt: &R, alloc: Global, rows: &[Row]) {
     for &(text, answers, why, calls) in rows {

@@ -3,8 +3,9 @@ use lset_steps::{Action, Fed, Local, Machine, OpenReads};
 use lset_words::{Call, Key, Kind};
 use std::marker::PhantomData;
 
-/// The list `M`, run by the interpreter of its step table instead of its own loops. Tests and `bench/run` compare the
-/// two. Implements the traits `Bounded`, `Running` and `OpenContains` with their default bodies.
+/// The list `M`, run by the interpreter of its step table instead of by its own loops. Tests and `bench/run` compare
+/// the interpreter with the loops. `Stepped` implements the traits `Bounded`, `Running` and `OpenContains` with their
+/// default bodies.
 pub struct Stepped<M: Machine> {
     list: PhantomData<M>,
 }

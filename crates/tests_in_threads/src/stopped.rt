@@ -1,6 +1,6 @@
-//! Tests of two calls at the same time, from two seats (per-thread handles). One call stops between two of its steps
-//! until the other call has ended or waits. Each case runs twice: with the loops of the list, and with the interpreter
-//! of its step table.
+//! Tests of two calls at the same time, from two seats (per-thread handles to the set). One call stops between two of
+//! its steps until the other call has ended or waits. Each case runs twice: with the loops of the list, and with the
+//! interpreter of the list's step table.
 
 use crate::meeting::{calls, comes};
 use crate::opened::two_seats_on;
@@ -9,9 +9,9 @@ use crate::prelude::*;
 /// A step number that is never reached.
 const NEVER: u64 = u64::MAX;
 
-/// The state of a test thread: after which step (counted from 0) it stops, how many steps its call has reported to the
-/// `Pause`, and how many of these steps failed. Also has whether the thread has stopped, and whether its call has
-/// ended.
+/// The state of a test thread: the step (counted from 0) after which the thread stops, how many steps its call has
+/// reported to the `Pause`, how many of the reported steps failed, whether the thread has stopped, and whether its call
+/// has ended.
 #[derive(Drop)]
 struct Told {
     stops_at: u64,
@@ -32,7 +32,7 @@ impl Told {
         }
     }
 
-    /// Counts a step. Returns `true` if the thread must stop after this step.
+    /// Counts a step. Returns `true` if the thread must stop after the counted step.
     fn stops(&self, failed: bool) -> bool {
         if failed {
             self.failed.fetch_add(1, Ordering::SeqCst);
@@ -118,8 +118,8 @@ impl<'a, R: Clock> Pause for Stopping<'a, R> {
     }
 }
 
-/// Makes a call from each of two seats, in two threads. The thread that must stop first starts first. The other thread
-/// starts when this thread has stopped.
+/// Makes a call from each of two seats (per-thread handles to the set), in two threads. The thread that must stop first
+/// starts first. The other thread starts when the first thread has stopped.
 fn both_call<M: Running + Send + Sync, R: Host>(
     rt: &R,
     set: &LiveSet<M>,
@@ -143,8 +143,9 @@ fn both_call<M: Running + Send + Sync, R: Host>(
     )
 }
 
-/// A call from one seat (per-thread handle) and its expected results. The fields are the call, the step after which it
-/// stops (counted from 0), its reply, the number of its steps before the reply, and how many of these steps failed.
+/// A call from one seat (per-thread handle to the set) and its expected results. The fields are the call, the step
+/// after which the call stops (counted from 0), its reply, the number of its steps before the reply, and the number of
+/// failed steps among them.
 type Part = (Call, u64, Reply, u64, u64);
 
 fn is_as_told<M: Running + Send + Sync, R: Host>(
@@ -163,7 +164,7 @@ fn is_as_told<M: Running + Send + Sync, R: Host>(
     assert_eq!(rt; stopping.one.counts(), (one.3, one.4), "seat 1");
 }
 
-/// Asserts the results of a case for the loops of the list and for the interpreter of its step table.
+/// Asserts the results of a case for the loops of the list and for the interpreter of the list's step table.
 fn both_are<M: Running + Send + Sync, R: Host>(
     rt: &R,
     alloc: Global,
@@ -259,8 +260,8 @@ fn a_ceiling_misses_a_key_added_before_its_position(rt: HostRuntime) {
     both_are::<LockFreeList, HostRuntime>(&rt, rt.alloc(), &[9], both);
 }
 
-/// Asserts that seat 0 attempts at least three times to acquire a lock that seat 1 holds. (A seat is a thread's handle
-/// to the set.) Seat 1 acquires this lock (the lock of the list or of its head) in step number `locks_at`.
+/// Asserts that seat 0 attempts at least three times to acquire a lock that seat 1 holds. (A seat is one thread's
+/// handle to the set.) Seat 1 acquires the lock, the lock of the list or of the list's head, in step number `locks_at`.
 fn waits_at_a_lock<M: Running + Send + Sync, R: Host>(rt: &R, alloc: Global, locks_at: u64) {
     let (set, zero, one) = two_seats_on::<M, R>(rt, alloc, &[]);
     let stopping = Stopping::new(rt, NEVER, locks_at);
@@ -278,8 +279,8 @@ fn a_call_waits_for_a_lock_that_another_seat_holds(rt: HostRuntime) {
     waits_at_a_lock::<LazyList, HostRuntime>(&rt, rt.alloc(), 2);
 }
 
-/// Waits until the call of the other seat (per-thread handle) has been stopped. Then looks for the key 10 with both
-/// `contains` functions, and for the first key above 10. Returns the replies.
+/// Waits until the call of the other seat (per-thread handle to the set) has been stopped. Then looks for the key 10
+/// with both `contains` functions, and for the smallest key above 10. Returns the replies.
 fn reads<M: RunningReads, R: Clock + Wait>(
     rt: &R,
     set: &LiveSet<M>,
@@ -294,8 +295,8 @@ fn reads<M: RunningReads, R: Clock + Wait>(
     (looked, asked, sought)
 }
 
-/// Removes the key 10 with a call from seat 1 (per-thread handle), and stops this call after step `stops_at` until seat
-/// 0 has looked for the key 10. The set also contains 20. Returns the replies.
+/// Removes the key 10 with a call from seat 1 (per-thread handle to the set), and stops the call after step `stops_at`
+/// until seat 0 has looked for the key 10. The set also contains the key 20. Returns the replies.
 fn reads_beside<M: RunningReads + Send + Sync, R: Host>(
     rt: &R,
     alloc: Global,
@@ -315,8 +316,8 @@ fn reads_beside<M: RunningReads + Send + Sync, R: Host>(
     found
 }
 
-/// Asserts that seat 0 (per-thread handle) finds the key 10 if seat 1 stopped before it marked the node, and does not
-/// find the key otherwise.
+/// Asserts that seat 0 (per-thread handle to the set) finds the key 10 if the call of seat 1 stopped before it marked
+/// the node, and does not find the key otherwise.
 fn answers_beside<M: RunningReads + Send + Sync, R: Host>(
     rt: &R,
     alloc: Global,

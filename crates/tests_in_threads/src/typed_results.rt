@@ -1,9 +1,9 @@
-//! Tests of calls with typed results: every value that such a call can return, on each list.
+//! Tests of calls with typed results: every value that a call with a typed result can return, on each list.
 
 use crate::opened::{close_with, two_seats};
 use crate::prelude::*;
 
-/// A call, with its key and the typed result that it returns.
+/// A call: its operation, its key, and the typed result that it returns.
 #[derive(Clone, Copy)]
 enum Made {
     Adds(u32, Added),
@@ -23,9 +23,9 @@ fn makes<M: Running, R: Host>(rt: &R, set: &LiveSet<M>, seat: &mut Seat<M>, made
     }
 }
 
-/// Asserts that "quota used up" and "already present" are different results. A seat (per-thread handle) that has added
-/// its 4 keys cannot add a new key, but its `add` of a present key still returns "already present". The other seat can
-/// still add its keys.
+/// Asserts that "quota used up" and "already present" are different results. A seat (per-thread handle to the set) that
+/// has added its 4 keys cannot add a new key, but its `add` of a present key still returns "already present". The other
+/// seat can still add 4 keys.
 fn tells_full_from_already<M: Running, R: Host>(rt: &R, alloc: Global) {
     let (set, mut zero, mut one) = two_seats::<M, R>(rt, alloc);
     makes(rt, &set, &mut zero, Adds(7, Added::New));
@@ -85,13 +85,13 @@ fn ceiling_returns_a_key_or_none(rt: HostRuntime) {
     at_each_list!(tells_the_smallest_key, rt);
 }
 
-/// Adds the key 9. Returns the seat (per-thread handle), and whether the key was new.
+/// Adds the key 9. Returns the seat (per-thread handle to the set), and whether the key was new.
 fn claim<M: Running, R: Wait>(rt: &R, set: &LiveSet<M>, mut seat: Seat<M>) -> (Seat<M>, Added) {
     let added = seat.add(rt, set, Key(9));
     (seat, added)
 }
 
-/// Adds the key 9 from two seats at the same time, each in its own thread.
+/// Adds the key 9 from two seats (per-thread handles to the set) at the same time, each in its own thread.
 fn claim_at_once<M: Running + Send + Sync, R: Threads + Wait + Sync>(
     rt: &R,
     set: &LiveSet<M>,
