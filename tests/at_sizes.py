@@ -1,8 +1,8 @@
 """Tests every command on inputs of all sizes, up to the limits in docs/TEXTS.md and beyond, and compares the answers with the
 answers of a set in Python.
 
-A valid input must get the right answer within a few seconds of processor time. Beyond a limit, the documented error is
-expected. Time and memory may grow with the input: for eight times as many calls, at most 24 times as much. `--few`
+A valid input must get the right answer within a few seconds of processor time. An input beyond a limit must get the
+documented error. For eight times as many calls, a command may need at most 24 times as much time and memory. `--few`
 tests a tenth of the inputs.
 """
 
@@ -23,8 +23,8 @@ CALLS, TIMES = 16_000, 8  # the larger number of calls in a comparison, and its 
 LITTLE = 0.04, 14_000  # seconds and kilobytes; in a comparison, a smaller measurement counts as this value
 PROCESSOR_SECONDS = 9  # the limit for one command; an unproved program needs up to 2
 SPINNING_SECONDS = 90  # the limit if threads spin at locks: the thread that holds a lock can be preempted for long
-# A small process that starts the program and reports its memory. (If a large process starts the program directly, the system
-# reports the memory of the large process.)
+# The source of a small process that starts the program and reports the program's memory. (If a large process starts the
+# program directly, the system reports the memory of the large process instead.)
 STARTER = """import json, os, resource, sys
 resource.setrlimit(resource.RLIMIT_CPU, (int(sys.argv[2]), int(sys.argv[2])))
 _, status, used = os.wait4(os.posix_spawn(sys.argv[3], sys.argv[3:], os.environ), 0)
@@ -33,7 +33,7 @@ with open(sys.argv[1], "w") as file: json.dump([os.waitstatus_to_exitcode(status
 
 
 class Asked:
-    """Runs a program, and stores the time and memory that each command needed, by input size."""
+    """A program to run, with the time and memory that each command needed, by input size."""
 
     def __init__(self, program, room):
         self.program, self.room, self.taken = program, room, collections.defaultdict(dict)
@@ -74,8 +74,8 @@ def log_uniform(draw, most, least=1):
     return most if draw.random() < 0.1 else min(most, int(math.exp(draw.uniform(math.log(least), math.log(most + 1)))))
 
 
-# ---- Calls of many shapes. A shape returns the opening keys (the keys at the start), each call with its key and reply,
-# and the final keys.
+# ---- Shapes of histories. A shape is a function that returns the opening keys (the keys at the start), each call with
+# its key and reply, and the final keys.
 
 def shuffled(things):
     return random.Random(1).sample([*things], len(things))
@@ -104,7 +104,7 @@ def head(title, kind, threads, quota, opening=()):
 
 
 def recording_of(opening, calls, left, threads, at_once):
-    """Returns a recording of these calls. The calls do not overlap or, if `at_once`, all threads call at the same time."""
+    """Returns a recording of `calls`. If `at_once`, the calls of all threads overlap, otherwise no calls overlap."""
     lines = [f"opening {key}\n" for key in opening]
     for number, (word, key, reply) in enumerate(calls):
         turn, thread = divmod(number, threads)
@@ -114,7 +114,7 @@ def recording_of(opening, calls, left, threads, at_once):
 
 
 def draft_of(kind, opening, calls, threads):
-    """Returns a draft with these calls, which do not overlap."""
+    """Returns a draft (a schedule whose lines say where a thread stops) of `calls`. The calls do not overlap."""
     lines = [f"begin {number % threads} {word} {key}\ngo {number % threads} out\n" for number, (word, key, _) in enumerate(calls)]
     return "".join([head("draft 2", kind, threads, MOST_QUOTA, opening), *lines])
 

@@ -77,8 +77,8 @@ def pytest_collection_modifyitems(config, items):
 
 
 def print_missing(items):
-    """For each missing command, prints how to install it, and how many tests are skipped without it. The mark `needs`
-    of a test names the commands that the test runs.
+    """Prints, for each missing command, how to install the command and how many tests are skipped without the command.
+    A test's mark `needs` names the commands that the test runs.
     """
     wanted = [it for item in items for it in {word for mark in item.iter_markers("needs") for word in mark.args}]
     for it, many in collections.Counter(wanted).items():
@@ -88,8 +88,8 @@ def print_missing(items):
 
 @pytest.fixture(scope="session")
 def lacking(pytestconfig):
-    """Returns a function that ends a test because something is missing. The function fails the test if the test was
-    selected by name, and otherwise skips the test.
+    """Returns a function that ends a test because a tool or program is missing: the function fails the test if the test
+    was selected by name, and otherwise skips the test.
     """
     is_named = pytestconfig.option.keyword or any("::" in it for it in pytestconfig.args)
     return pytest.fail if is_named else pytest.skip
@@ -123,8 +123,8 @@ def noting(pytestconfig, tmp_path_factory):
 
 @pytest.fixture(autouse=True)
 def uses_what_it_needs(request, noting, has_what_it_needs, tmp_path_factory, monkeypatch):
-    """If --tools is set, fails each test that runs a command but has no mark for this command. Such a test would fail
-    on a machine without this command.
+    """If --tools is set, fails each test that runs a command but has no mark for the command. On a machine without the
+    command, a test without the mark would fail.
     """
     if not noting:
         yield
@@ -149,15 +149,15 @@ def program(pytestconfig, lacking):
 
 @pytest.fixture
 def room(tmp_path):
-    """Returns a folder for this test. After the test, the folder is deleted, and processes are killed if they run in the
-    folder, or if their arguments or environment name the folder.
+    """Returns a new folder for a test. After the test, kills all processes that run in the folder or name the folder in
+    their arguments or environment, and deletes the folder.
     """
     yield tmp_path
     clear(tmp_path)
 
 
 def made_with_tools(make, *words):
-    """Returns the result of a function and, with --tools, the names of the commands that the function ran."""
+    """Returns the result of `make` and, with --tools, the names of the commands that `make` ran."""
     of_test = os.environ.get("TOOLS_USED")
     if not of_test:
         return make(*words), ""
@@ -172,7 +172,7 @@ def made_with_tools(make, *words):
 
 @pytest.fixture(scope="session")
 def once(tmp_path_factory, worker_id):
-    """Returns a function that calls another function with a new folder and caches the result for all tests of the run,
+    """Returns a function that calls a given function with a new folder, and caches the result for all tests of the run,
     including tests in parallel processes.
     """
     of_run = tmp_path_factory.getbasetemp()
@@ -187,7 +187,7 @@ def once(tmp_path_factory, worker_id):
                 folder.mkdir()
                 kept.write_bytes(pickle.dumps(made_with_tools(make, folder, *further)))
             result, used = pickle.loads(kept.read_bytes())
-        # (with --tools, the commands that were run for the result count as used by this test)
+        # With --tools, the commands that produced the shared result count as commands of the current test.
         if used:
             with open(os.environ["TOOLS_USED"], "a") as names:
                 names.write(used)

@@ -1,11 +1,11 @@
-"""Tests that the program turns the schedules in examples/schedules into the reports in this folder, and that docs/CLASSIC.md
-shows the program's output.
+"""Tests that the program turns the schedules in examples/schedules into the reports in that folder, and that
+docs/CLASSIC.md shows the program's output.
 
 `replay` of each NAME.schedule must print NAME.report, and `check` of each report must print `ok`. For a file in
-refused-files.txt, `replay` must print the error listed in that file and no report. `example NAME` prints the schedule of each
-classic interleaving, and `example --broken NAME` the report of its broken list, if the example has one.
-page/tests/break_it.js tests how a broken list reveals its missing check. Another test here checks that README, the pages in
-docs/ and two other pages show the output of their commands (harness/pages.py).
+refused-files.txt, `replay` must print the error listed in that file and no report. `example NAME` prints the schedule
+of each classic interleaving, and `example --broken NAME` the report of its broken list, if the example has one.
+page/tests/break_it.js tests how a broken list reveals its missing check. One test checks that README, the pages in
+docs/ and two more pages show what their commands print (harness/pages.py).
 """
 
 import re
@@ -35,7 +35,9 @@ def test_commands_print_what_the_page_shows(page, steps, program, room):
 
 
 def lines_of(*words, text="", status=0):
-    """Runs the program with these arguments and this input. Returns the lines of its output and of standard error."""
+    """Runs the program with the arguments `words` and the input `text`. Returns the lines of the program's output and
+    of its standard error.
+    """
     done = ran(*words, text=text)
     assert done.returncode == status, done.stderr
     return (done.stdout + done.stderr).splitlines()
@@ -69,14 +71,14 @@ def test_examples_of_the_program_are_the_files(program):
 
 @pytest.mark.parametrize("file", sorted(EXAMPLES.glob("*.broken.report")), ids=lambda it: it.name)
 def test_no_order_explains_a_broken_report(program, file):
-    """Tests that `show` prints that no order explains the calls, below the picture of the report."""
+    """Tests that `show` prints, below the picture of the report, that no order explains the calls."""
     assert "\n\nnot linearizable\nno order explains the calls of key " in "\n".join(lines_of(program, "show", file, status=1))
 
 
 @pytest.mark.parametrize("name, section", zip(NAMES, SECTIONS), ids=NAMES)
 def test_the_page_shows_the_picture_and_the_trace_of_an_example(program, name, section):
-    """Tests that the first code block is the picture without the order below it, and that the second contains lines of the
-    trace.
+    """Tests that the first code block of a section is the picture without the lines about the order, and that the
+    second block contains lines of the trace.
     """
     drawn, traced = (re.sub("^    ", "", block, flags=re.M).strip("\n").split("\n") for block in re.findall(BLOCK, section, re.M))
     schedule, picture = picture_of(program, name)

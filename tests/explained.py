@@ -1,6 +1,6 @@
-"""Tests how mistakes are explained. If the output is a pipe, a command prints exactly one fixed line. `explain` prints
-the wrong line, an explanation, and how to correct the line. tests/hints.py tests the lines that a terminal shows below
-the fixed line.
+"""Tests how `explain` explains mistakes. A command whose output is a pipe prints exactly one fixed line about a
+mistake. For this fixed line, `explain` prints the wrong line of the input, an explanation, and how to correct the
+input. tests/hints.py tests the lines that a terminal shows below the fixed line.
 """
 
 import bz2
@@ -160,8 +160,8 @@ WRITTEN = re.compile(r"(?<!>)> *((?:'[^']*'|\\'|[^\s;'>)])+)")
 
 
 def files_written(program, room, file, text, size=0):
-    """Returns the files that the commands in an explanation write to. `explain` reads a file with this text, extended
-    to `size` bytes.
+    """Returns the files that the commands in an explanation write to. `explain` reads a file with the text `text`,
+    extended to `size` bytes.
     """
     (room / file).write_bytes(text if isinstance(text, bytes) else text.encode())
     os.truncate(room / file, max(size, (room / file).stat().st_size))
@@ -220,8 +220,8 @@ LINES_OF_KEYS = ["listening 127.0.0.1:1", "sessions 3", "calls 9", "key 1", "key
 
 
 def test_explain_finds_the_errors_in_keys_that_serve_finds(program, room, few):
-    """Tests random texts with lines of a server, keys and wrong lines. In most texts the lines have the right order.
-    Some texts have no newline at the end.
+    """Tests random texts that mix the lines that a server prints, keys, and wrong lines. In most texts the lines are in
+    the right order. Some texts have no newline at the end.
     """
     dice = random.Random(11)
     for _ in range(20 if few else 200):
@@ -268,8 +268,8 @@ def test_a_shell_reads_the_name_in_a_command(program, room, name):
 
 
 def test_explain_succeeds_for_every_text(program, few):
-    """Tests texts with parts that were removed, repeated or replaced. `explain` must succeed and name the same line as
-    the error of the command that reads the text.
+    """Tests texts with parts that were removed, repeated or replaced. `explain` must succeed, and name the same line as
+    the error message of the command that reads the text.
     """
     dice = random.Random(7)
     of_commands = {"replay": RIGHT, "draft": DRAFT + "begin 0 add 5\ngo 0 out\n", "check": RIGHT_REPORT, "judge": RIGHT_CALLS}

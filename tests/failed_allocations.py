@@ -1,13 +1,14 @@
-"""Tests programs with a failed allocation: each run fails one allocation, and each allocation fails in some run.
+"""Tests programs with a failed allocation: in each run one allocation fails, and each allocation fails in some run.
 
-`tests/harness/fail_allocation.c` refuses the allocation with a given number, and overwrites freed memory so that reading it
-has a visible effect. The program must print `out of memory` and nothing else (except for `trace`, which prints each event as
-soon as it is executed). If std can continue with less memory than it requested, the program may instead print its usual
-output. If even the error line cannot be allocated, the exit status must still be the status for this error.
+`tests/harness/fail_allocation.c` refuses the allocation with a given number, and overwrites freed memory so that
+reading it has a visible effect. The program must print `out of memory` and nothing else (except for `trace`, which
+prints each event as soon as it is executed). If std can continue with less memory than it requested, the program may
+instead print its usual output. If not even the error line can be allocated, the exit status must still be the one for
+`out of memory`.
 
-CALLS is the program in crates/memory_calls. It calls the functions of the libraries one by one. Its input is the number
-of blocks that it allocates before the first call. Each call must either report a failed allocation (or that a thread
-could not be started) or return the right result. A call that is repeated must return the right result.
+CALLS is the program in crates/memory_calls, which calls the functions of the libraries one by one. The input of CALLS
+is the number of blocks to allocate before the first call. Each call must either return the right result, or report a
+failed allocation or a thread that could not be started. A call that is repeated must return the right result.
 """
 
 import functools
@@ -45,7 +46,7 @@ LAST_CALL = "still to be refused"
 
 
 def refuser(folder):
-    """Builds the library that refuses an allocation. It must be loaded before the C library."""
+    """Builds the library that refuses an allocation. The library must be loaded before the C library."""
     rt = shutil.which("rt")
     assert rt, "the command rt is missing"
     clang = pathlib.Path(rt).resolve().parent.parent / "toolchain/bin/clang"
@@ -56,8 +57,8 @@ def refuser(folder):
 
 
 def ran_where(refuse, number, *words, **how):
-    """Runs a program. The allocation with this number fails. Returns the exit status, the output, and the line on standard
-    error.
+    """Runs a program in which allocation number `number` fails. Returns the exit status, the output, and the line on
+    standard error.
     """
     room = {**os.environ, "LD_PRELOAD": refuse, "REFUSE": str(number), "MALLOC_PERTURB_": "165"}
     limit = functools.partial(resource.setrlimit, resource.RLIMIT_CPU, (PROCESSOR_SECONDS, PROCESSOR_SECONDS))
@@ -66,8 +67,9 @@ def ran_where(refuse, number, *words, **how):
 
 
 def answers(program, refuse):
-    """Runs the program CALLS repeatedly. In each run, a different allocation fails, and the program prints the name of the
-    call that made it. Returns these names. Stops at the first run in which all calls end before an allocation fails, and leaves this run out.
+    """Runs the program CALLS repeatedly. In each run, a different allocation fails, and the program prints the name of
+    the call that made it. Returns the names. Stops at the first run in which all calls end without a failed allocation,
+    and leaves that run out.
     """
     told = []
     for number in range(1, REFUSED):
@@ -110,7 +112,9 @@ def out_of_memory_at_each(program, words, refuse):
 
 
 def texts(program, room):
-    """Writes the input files. Returns their paths, keyed by name. Most of them are schedules with one thread."""
+    """Writes the input files, most of which are schedules with one thread. Returns a dict from each file's name to its
+    path.
+    """
     files = {name: room / f"{name.lower()}.text" for name in ("OPENING", "ENDED", "TRIES", "CHAIN", "DRAWN")}
     few, many = ("".join(f"opening {key}\n" for key in range(1, most)) for most in (13, 6_001))
     one, two = ("listset-schedule 2\nlist coarse\nthreads {}\nquota 5\n".format(threads) for threads in (1, 2))

@@ -1,8 +1,8 @@
 """Tests calls of the sets and of the judge from C, C++, Rust and Python, and tests the programs in docs/FOREIGN.md.
 
-The tests use the libraries that foreign/build installed in the folder LISTSET_PREFIX or in foreign/out. The test programs
-run with the sanitizers for addresses, undefined behaviour and races, if these work on this machine. The libraries
-themselves are built without sanitizers.
+The tests use the libraries that foreign/build installed in the folder LISTSET_PREFIX or in foreign/out. The test
+programs run with the sanitizers for addresses, undefined behaviour and races, if the sanitizers work on the machine.
+The libraries themselves are built without sanitizers.
 """
 
 import os
@@ -34,11 +34,11 @@ class InstalledLibraries:
         self.include = f"-I{PREFIX / 'include'}"
 
     def proof(self):
-        """Returns the library's line that states whether the library is proved."""
+        """Returns the line of output in which the library states whether it is proved correct."""
         return "proof missing" if "without a proof" in (self.library / "pkgconfig" / "listset.pc").read_text() else "proof checked"
 
     def works(self, sanitizer):
-        """Returns whether a sanitizer works with this machine's compiler."""
+        """Returns whether `sanitizer` works with the machine's compiler."""
         source, made = self.room / "small.c", self.room / "small"
         source.write_text("int main(void) { return 0; }\n")
         found = ran("gcc", sanitizer, source, "-o", made, seconds=LONG).returncode == 0 and ran(made).returncode == 0
@@ -59,8 +59,7 @@ class InstalledLibraries:
         return [*flags, f"-Wl,-rpath,{self.library}"]
 
     def page(self, language, ending, name, before=""):
-        """Copies the program that contains `name` from docs/FOREIGN.md to a file, after the text `before`. Returns the path
-        of the file.
+        """Writes `before` and the program of docs/FOREIGN.md that contains `name` to a file. Returns the file's path.
         """
         found = re.findall(rf"^```{language}\n(.*?)^```$", (TOP / "docs" / "FOREIGN.md").read_text(), re.M | re.S)
         program, = (it for it in found if name in it)
@@ -69,12 +68,12 @@ class InstalledLibraries:
         return made
 
     def first_set(self, *words, **how):
-        """Runs the first program of docs/FOREIGN.md, and expects its line with the number of final keys."""
+        """Runs the first program of docs/FOREIGN.md, and checks that the program prints the number of final keys."""
         assert well(*words, **how) == "2000 keys are left\n"
 
     def first_judge(self, *words, **how):
-        """Runs a program of the folder foreign/first on a linearizable recording and on a recording that is not
-        linearizable, and checks its answers.
+        """Runs a program of the folder foreign/first on a linearizable recording and on one that is not linearizable,
+        and checks both verdicts.
         """
         refused = (TOP / "examples" / "recorders" / "both-true.calls").read_text()
         right = refused.replace("call 1 add 5 2 3 true", "call 1 add 5 2 3 false")
@@ -113,8 +112,8 @@ OF_TEXTS = {
 
 
 def words_of_program(program):
-    """Yields command lines to test: commands that read a file, for files of each kind, and commands with names or numbers as
-    arguments.
+    """Yields command lines to test: commands that read a file, each with files of every kind, and commands whose
+    arguments are names or numbers.
     """
     yield from (f"{words} {file}" for pattern, all_words in OF_TEXTS.items() for file in sorted(TOP.glob(pattern)) for words in all_words)
     names = [line.split()[0] for line in ran(program, "example").stdout.splitlines()]
@@ -185,8 +184,8 @@ def test_programs_in_c_use_sets_and_judge(installed):
 @needs("g++", "gcc", "pkg-config")
 def test_programs_in_cpp_use_sets_and_judge(installed):
     made, first, how = installed.room / "made", installed.room / "first", [MEMORY] if installed.works(MEMORY) else []
-    # These programs are compiled without optimization: with a sanitizer and optimization, g++ needs three times as long. The
-    # programs of docs/FOREIGN.md compile the header with optimization.
+    # The test programs are compiled without optimization, because g++ needs three times as long with both a sanitizer
+    # and optimization. The programs of docs/FOREIGN.md compile the header with optimization.
     elsewhere, flags = installed.room / "elsewhere.o", ["-std=c++17", *WARN, "-O0", *how, "-pthread"]
     well("g++", *flags, "-c", TESTS / "elsewhere.cpp", installed.include, "-o", elsewhere)
     for name in ("judge.cpp", "sets.cpp", "judged.cpp"):
@@ -249,7 +248,7 @@ def in_room(installed):
 
 
 def is_judged(said, proof):
-    """Checks a test's output: this library must have judged the set."""
+    """Checks from a test's output that the installed library judged the set."""
     assert f"; judge: liblistset, {proof}" in said
 
 

@@ -13,8 +13,8 @@ import pytest
 from explained import ADD, CALLS, RIGHT, RIGHT_CALLS, RIGHT_REPORT, SCHEDULE
 from harness.programs import SECONDS, TOP, ran, wants, well
 
-# For the arguments of a command: the error line, which is printed to terminals and pipes alike, and the lines that are printed
-# below it only on a terminal.
+# Maps the arguments of a command to the error line, which terminals and pipes receive alike, and to the lines below the
+# error line that only a terminal receives.
 AT_TERMINAL = {
     "replay no-such": ["listset: cannot read\n", "no-such: there is no such file"],
     "judge .": ["listset: cannot read\n", ".: this is a folder"],
@@ -95,8 +95,9 @@ AT_TERMINAL = {
 
 
 def at_terminal(words, cwd, typed=None, env=None, at=(None, None)):
-    """Returns the text that a command prints at a terminal, and its exit status. `typed` is its standard input. `at`
-    is a pair of a text and a function. When the text has been printed, the function is called with the output so far.
+    """Returns the text that a command prints at a terminal, and the command's exit status. `typed` is the command's
+    standard input. `at` is a pair of a text and a function: as soon as the command has printed the text, the function
+    is called with the output so far.
     """
     text, call = at
     ours, theirs = pty.openpty()
@@ -178,7 +179,7 @@ def test_commands_in_a_hint_have_the_name_that_the_user_typed(script):
         assert f"For its report: {called} replay b.schedule; for its picture: {called} show b.schedule\n" in said, said
 
 
-# Command lines with an input that cannot be read or an output that cannot be written, each with the fixed error line and the
+# Command lines whose input cannot be read or whose output cannot be written, each with the fixed error line and the
 # hint.
 NOT_OPEN = {
     "./listset replay <&-": ("cannot read", "Standard input is closed. Name a file: ./listset replay FILE"),
@@ -264,8 +265,8 @@ def test_a_long_line_of_a_long_recording_is_shown(script):
     assert "listset: line 1: NotEnded\nLine 1 is 'call 0 add 5 1 4 true call " in said and "Write the title and each call in a line of its own, which ends with LF." in said, said[:600]
 
 
-# Arguments that the engine in Node cannot handle: commands that only a built program has, errors that clap adds a tip to,
-# and a hint about a wrong command line
+# Matches arguments that the engine in Node cannot handle: commands that only a built program has, errors to which clap
+# adds a tip, and a wrong command line with a hint.
 NOT_OF_NODE = re.compile(r"(run|serve) |shwo|--prov|show --from (-5|5 --from)|trace --chain=")
 
 

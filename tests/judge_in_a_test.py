@@ -1,9 +1,9 @@
 """Tests the judges in judge/ with the same cases for each installed language. The language's test program,
-judge/LANGUAGE/tests, judges the set that SET names with the options in HOW, and prints the result and its kind.
+judge/LANGUAGE/tests, judges the set named by SET with the options in HOW, and prints the result and its kind.
 
-Correct sets must be `ok`, and wrong sets must be refused with the default options. If a set hangs or crashes, its calls
-so far are judged. A long run is one recording, which the program judges again. Scripts in place of a judge show that a
-refusal is passed on. All waits are bounded.
+With the default options, correct sets must be `ok`, and wrong sets must be refused. If a set hangs or crashes, the
+calls that it has made so far are judged. A long run is one recording, which the program judges again. Scripts that take
+the place of a judge show that a refusal is passed on. All waits are bounded.
 """
 
 import os
@@ -18,7 +18,7 @@ from toolchain import NEEDS
 
 FORMS = TOP / "judge"
 SECONDS = 300  # the time limit for each run of a judge, even on a busy machine
-# Files that are not a judge, each with the message that a test prints about it. `{}` is the path.
+# Files that are not a judge, each with the message that a test prints about the file. `{}` stands for the file's path.
 NO_VERDICT = "{} printed no verdict, but: %s. Use a newer listset"
 NO_JUDGE = "no judge was found: {} cannot be run. Copy the file judge/listset.js"
 NO_JUDGES = {
@@ -41,7 +41,7 @@ case $1 in -v | --version) echo v12.22.12 ;; *) echo "SyntaxError: Unexpected to
 """
 
 
-# ---- Builds the sets of each language once for all tests, and returns the command that judges one of them
+# ---- Commands that judge a set in each language; the sets are built once for all tests
 
 
 def built_rust(folder):
@@ -92,12 +92,14 @@ FEW = "threads=4 calls=250 runs=3 within=2"
 
 
 def each(languages):
-    """Returns the parameters for a test that runs once for each language, each marked with the compiler that it needs."""
+    """Returns the parameters for a test that runs once for each language. Each parameter is marked with the compiler
+    that its language needs.
+    """
     return pytest.mark.parametrize("language", [pytest.param(it, marks=pytest.mark.needs(*TOOLS.get(it, []))) for it in languages])
 
 
 class Form:
-    """A language's judge: the folder and the command of its tests."""
+    """A language's judge: the folder of its tests, and the command that runs them."""
 
     def __init__(self, language, room, words):
         self.language, self.room, self.words = language, room, words
@@ -111,7 +113,7 @@ class Form:
         return path
 
     def told(self, judge, of, how="", **also):
-        """Judges a set. Returns the kind of the result and all output."""
+        """Judges the set named `of` with the options `how`. Returns the kind of the result and all output."""
         environment = {name: it for name, it in os.environ.items() if name not in ("CI", "RUST_BACKTRACE") and not name.startswith("LISTSET")}
         environment |= {"LISTSET": str(judge)} if judge else {}
         environment |= {"TMPDIR": str(self.room), "SET": of, "HOW": how, "RUST_TEST_THREADS": "2", **also}  # (with 1 test thread, cargo prints the test's name first)
@@ -228,8 +230,8 @@ def test_calls_before_a_crash_or_a_hang_are_judged(form, program, of):
 
 @each(LANGUAGES)
 def test_a_process_that_ends_at_any_moment_has_every_call_once(form, program):
-    """Tests a process that saves its calls in several parts, and ends at some moment. If a call were saved twice or lost, the
-    verdict would differ.
+    """Tests a process that saves its calls in several parts and can end at any moment. If a call were saved twice or
+    lost, the verdict would be different.
     """
     _, said = form.told(program, "ends", "threads=4 calls=60000 keys=4 runs=1 pauses=0", TESTS="12")
     for one in said.split("verdict: ")[1:]:
@@ -257,8 +259,8 @@ def test_a_key_whose_last_outcome_stays_unknown_can_be_there_or_not(form, progra
 
 @each(LANGUAGES)
 def test_a_correct_set_that_throws_repeatedly_is_not_refused(form, program):
-    """Tests a correct set that throws repeatedly. Each run is cut short, and its recording is linearizable, although in Java
-    and Go other threads can execute calls while the recording is written.
+    """Tests a correct set that throws repeatedly. Each run is cut short, and the run's recording is linearizable,
+    although in Java and Go other threads can make calls while the recording is written.
     """
     tests = 5 if form.language == "Python" else 25
     for how in ("pauses=0", "pauses=20"):
@@ -268,7 +270,7 @@ def test_a_correct_set_that_throws_repeatedly_is_not_refused(form, program):
 
 @each(LANGUAGES)
 def test_keys_of_a_run_are_the_keys_that_the_set_got(form, program):
-    """Tests the preset with multiples of 64: the recording and the message have the keys 0, 64 .. 448."""
+    """Tests the preset whose keys are multiples of 64: the recording and the message contain the keys 0, 64 .. 448."""
     how = f"threads=4 calls=1000 seed=3 seconds=10 runs=1 record={form.room / 'kept'}"
     said = form.told(program, "hangs", how)[1]
     pending = re.findall(f"\n  thread {PENDING}", said)
@@ -366,7 +368,8 @@ def test_a_refusal_is_passed_on_unchanged(form):
     assert kept[0].read_text() == "listset-calls 1\n# 1\n" and kept[1].read_text().count("\ncall ") == 1000
 
 
-# Refuses the third recording, and accepts the first two as the program does, except for the number of overlapping calls.
+# A judge that refuses the third recording. It accepts the first two as the program does, except for the number of
+# overlapping calls.
 REFUSES_THIRD = """#!/bin/sh
 case $1 in judge) ;; *) exec '%program' "$@" ;; esac
 [ "$2" = --only ] || echo >> '%room/judged'
@@ -391,7 +394,7 @@ def test_recordings_of_runs_that_pass_are_not_kept(form, program):
 # ---- Further runs after a refusal
 
 
-# Refuses every recording but the third, and states 3, 9, none, 9 and 5 contradictions.
+# A judge that refuses every recording except the third. Its five verdicts state 3, 9, no, 9 and 5 contradictions.
 REFUSES_MORE = """#!/bin/sh
 case $1 in judge) ;; *) exit 0 ;; esac
 [ "$2" != --only ] || exit 1
@@ -444,7 +447,8 @@ def test_a_replay_and_a_test_without_its_own_process_make_no_further_run(form, p
     assert kind == "refused" and re.search(r"\nseed 1 \(few keys\), 4 threads; recorded in ", said), said
 
 
-# The set `W later` finds all keys in the first run, and does W in later runs, when the file `judged` exists.
+# In the first run, the set `W later` finds all keys. In later runs, when the file `judged` exists, it acts like the set
+# W.
 JUDGES = """#!/bin/sh
 [ "$1" != judge ] || echo >> '%room/judged'
 exec '%program' "$@"
@@ -464,8 +468,8 @@ def test_a_further_run_that_fails_does_not_hide_the_refusal(form, program, of):
 # ---- Tests of how a judge is found
 
 
-# Acts like the program except for the number of overlapping calls. It also prints to standard error, like ./listset
-# with an unproved program.
+# A judge that acts like the program, except for the number of overlapping calls. Like ./listset with an unproved
+# program, it also prints to standard error.
 OVERLAPS_ALL = """#!/bin/sh
 echo 'listset: without a proof' >&2
 '%s' "$@" | sed 's/^[0-9]* of them /900 of them /'
@@ -617,8 +621,8 @@ def test_a_set_that_cannot_be_sent_is_called_in_this_jvm(room, once, program):
 
 @pytest.mark.needs("javac", "java")
 def test_java_sets_that_inherit_their_calls_are_judged_by_them(room, once, program):
-    """If two sets inherit their calls, Java 17 reads the serialized `Second::contains` back as `First::contains`. Such
-    sets are called in this JVM.
+    """Tests two sets that inherit their calls. Java 17 deserializes `Second::contains` as `First::contains`, so the
+    judge calls sets that inherit their calls in its own JVM, not in a child process.
     """
     form = Form("Java", room, once(built_java))
     for of in ("inherits first", "inherits second"):
@@ -648,7 +652,7 @@ def test_servers_are_judged_by_their_clients(room, program, of):
     well(sys.executable, "-B", "-m", "unittest", f"test_servers.{of}", cwd=room, env={**os.environ, "LISTSET": program, "TMPDIR": str(room), "PYTHONPATH": paths})
 
 
-# ---- The judge as a package of each language, installed and then used by another project
+# ---- The judge as a package of each language, installed and used by a separate project
 
 CMAKE = """cmake_minimum_required(VERSION 3.18)
 project(own LANGUAGES CXX)

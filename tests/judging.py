@@ -1,5 +1,5 @@
-"""Compares `judge` with a search through all orders: the verdict, and the key and the moment (a time in the recording) that
-a refusal names. Also tests texts that arrive in pieces. `--few` tries a tenth of the texts.
+"""Compares `judge` with a search through all orders: the verdict, and, for a refusal, the key and the moment (a time in
+the recording) in the message. Also tests texts that arrive in pieces. `--few` tries a tenth of the texts.
 """
 
 import collections
@@ -21,7 +21,7 @@ Call = collections.namedtuple("Call", "thread word key begin end reply")
 
 
 def drawn(rng, calls):
-    """Returns random overlapping calls of threads, ordered by their start, with the keys of the set at the start and at
+    """Returns random overlapping calls of threads, ordered by their starts, and the keys of the set at the start and at
     the end. The set occasionally returns a wrong reply. The starts and ends of calls are the moments 1, 2, 3 and so on.
     """
     opening = sorted(rng.sample(range(KEYS), rng.randrange(KEYS)))
@@ -48,7 +48,7 @@ def drawn(rng, calls):
 
 
 def with_pending(rng, calls):
-    """Returns the calls, with the last call of some threads made pending."""
+    """Returns `calls`, with the last call of some threads changed to a pending call."""
     last, share = {it.thread: it for it in calls}, rng.choice([0, 0.3, 0.9])
     pending = {it.begin for it in last.values() if rng.random() < share}
     return [it._replace(end=None, reply=None) if it.begin in pending else it for it in calls]
@@ -84,13 +84,13 @@ def text_of(calls, opening, keys):
 
 
 def changes(it):
-    """Returns whether a call changes its key, or can change it because it is pending."""
+    """Returns whether a call changed its key, or is pending and can still change its key."""
     return it.word in CHANGES and it.reply in ("true", None)
 
 
 def ways_left(calls, is_there):
-    """Returns the possible states of a key after these calls. `is_there` states whether the key was present before
-    them. Tries all orders of the completed calls, with each subset of the pending calls that can change the key.
+    """Returns the possible states of a key after `calls`. `is_there` states whether the key was present before `calls`.
+    Tries all orders of the completed calls, with each subset of the pending calls that can change the key.
     """
     calls = [it for it in calls if it.end or changes(it)]
     ended = {number for number, it in enumerate(calls) if it.end}
@@ -109,8 +109,8 @@ def ways_left(calls, is_there):
 
 
 def known_at(calls, moment):
-    """Returns the calls as a judge knows them at a moment (a time in the recording). A change that has begun but not
-    ended at this moment is pending. Any other call that has not ended is left out.
+    """Returns `calls` as a judge knows them at `moment` (a time in the recording). An add or remove that has begun but
+    not ended by `moment` is pending. Other calls that have not ended are left out.
     """
     ended = [it for it in calls if it.end and it.end <= moment]
     return ended + [it._replace(end=None, reply=None) for it in calls if it.begin <= moment and it not in ended and changes(it)]
@@ -131,11 +131,11 @@ class Judged:
             self.key = min(wrong, key=lambda it: (it not in opening and not self.may_be_changed(it), it), default=None)
 
     def may_be_changed(self, key):
-        """Returns whether a call on the key has ended or can change the key."""
+        """Returns whether some call on `key` has ended or can change `key`."""
         return any(it.end or changes(it) for it in self.of_key[key])
 
     def overlapped(self):
-        """Returns how many calls overlap another call that changed their key."""
+        """Returns how many calls overlap a call that changed the same key."""
         def overlap(it, other):
             return it.key == other.key and it.begin < (other.end or LAST) and other.begin < (it.end or LAST)
         return sum(any(it != other and other.reply and changes(other) and overlap(it, other) for other in self.calls) for it in self.calls)
@@ -168,7 +168,9 @@ def needs(it):
 
 
 def call_in(line, form, of_key):
-    """Returns the key's call that a line of this form describes, and the states at the end of the line."""
+    """Returns the call in `of_key` that a line of the form `form` describes, and the key's states at the end of the
+    line.
+    """
     found = re.fullmatch(form, line)
     if not found:
         return None, []
@@ -178,14 +180,14 @@ def call_in(line, form, of_key):
 
 
 def may_be_made(of_key, word, since, until):
-    """Returns whether some call of the operation `word` can have changed the key between `since` and `until`: such a
-    call returned true or is pending, and overlaps this time.
+    """Returns whether some call of the operation `word` can have changed the key between `since` and `until`. Such a
+    call overlaps the interval and either returned true or is pending.
     """
     return any(it.word == word and changes(it) and it.begin < until and since < (it.end or LAST + 1) for it in of_key)
 
 
 def is_true(lines, key, judged):
-    """Returns whether every statement in the lines about a contradiction is true for the key's calls."""
+    """Returns whether every statement in `lines`, which describe a contradiction, is true for the calls in `of_key`."""
     of_key, word = judged.of_key.get(key, []), {True: "add", False: "remove"}
     first, states = call_in(lines[0], f"contradiction in both orders: {CALL}, needs key {key} {STATE} and leaves it {STATE},", of_key)
     if first:
@@ -216,7 +218,9 @@ def is_true(lines, key, judged):
 
 
 def ends_after(line, moment):
-    """Returns whether the second call of a contradiction, described by this line, ends after a moment (a time)."""
+    """Returns whether the second call of a contradiction, which `line` describes, ends after `moment` (a time in the
+    recording).
+    """
     return any(int(end) > moment for end in re.findall(r", \d+ to (\d+), needs", line))
 
 
@@ -262,8 +266,8 @@ def in_pieces(program, text, size):
 
 @pytest.mark.parametrize("size", [1, 7, 16, 4096])
 def test_the_verdict_does_not_depend_on_the_pieces(program, size):
-    """Tests a recording, a copy of it without the last newline, and a copy with a wrong title. Each text must have the
-    same verdict when it is written in pieces.
+    """Tests a recording, its copy without the last newline, and its copy with a wrong title. Each text must get the
+    same verdict when it arrives in pieces.
     """
     rng = random.Random(size)
     for many in (3, 30, 400):

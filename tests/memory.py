@@ -1,9 +1,9 @@
 """Tests that the program does not keep data in memory that it no longer needs. No contract states this.
 
 Each command runs in a limited address space and uses about two thirds of it. A command would need twice the limit if it
-kept its data: the calls of a recording (`judge`), its text (`trace`), each event (`draft`, `replay` and `show`), or the
-replies of each round (`run`). A server that has served a thousand sessions with many calls may use at most a megabyte
-more than after the first 180.
+kept data of one of these kinds: the calls of a recording (`judge`), its text (`trace`), each event (`draft`, `replay`
+and `show`), or the replies of each round (`run`). A server that has served a thousand sessions with many calls may use
+at most a megabyte more than after the first 180.
 """
 
 import contextlib
@@ -20,7 +20,7 @@ STACK = 512  # kilobytes of a thread's stack
 
 
 def printed_within(kilobytes, program, *words, text=b""):
-    """Runs a command in an address space of this size, checks that its status is 0, and returns the output."""
+    """Runs a command in an address space of `kilobytes`, checks that the exit status is 0, and returns the output."""
     done = ran("bash", "-c", f'ulimit -s {STACK} && ulimit -v "$0" && exec "$@"', kilobytes, program, *words, text=text)
     assert (done.returncode, done.stderr) == (0, b""), f"{' '.join(map(str, words[:3]))} within {kilobytes} KB"
     return done.stdout
@@ -33,8 +33,8 @@ CALLS, KEYS = 800_000, 120
 
 @pytest.mark.parametrize("threads, at_once", [(4, True), (CALLS // 4, False)])
 def test_judge_keeps_no_completed_call(program, room, threads, at_once):
-    """Tests that `judge` keeps nothing about a completed call or its thread, except the state of the key. The recording is a
-    file or standard input.
+    """Tests that `judge` keeps nothing about a completed call or its thread, except the state of the call's key. The
+    recording comes from a file or from standard input.
     """
     of_key = ("add", "true"), ("contains", "true"), ("add", "false"), ("remove", "true"), ("remove", "false")
     calls = [(word, number % KEYS, reply) for number in range(CALLS // len(of_key)) for word, reply in of_key]
@@ -50,7 +50,9 @@ OPENING, WALKS = 2_000, 100
 
 
 def long_walks():
-    """Returns a draft with one line for each call. All calls traverse all keys, so its schedule has many events in few lines."""
+    """Returns a draft with one line for each call. All calls traverse all keys, so the schedule that `draft` prints for
+    it has many events in few lines.
+    """
     opening = "".join(f"opening {key}\n" for key in range(OPENING))
     calls = f"begin 0 contains {OPENING}\ngo 0 out\n" * WALKS
     return f"listset-draft 2\nlist lazy\nthreads 1\nquota 1\n{opening}{calls}".encode()
@@ -111,7 +113,7 @@ def goes_away(connection):
 
 
 def sends_a_long_line(connection):
-    """Sends a long line. The server closes the connection before it has read the whole line."""
+    """Sends a line so long that the server closes the connection before it has read the whole line."""
     with contextlib.suppress(ConnectionError):
         connection.sendall(b"?" * 4_000_000)
 
@@ -121,7 +123,7 @@ CALLS_OF_SESSIONS = CALLS_AT_ONCE + 2
 
 
 def serves(server, sessions):
-    """Runs sessions of a server, one after another."""
+    """Runs `sessions` sessions of a server, one after another."""
     for speak in sessions:
         with server.connect() as connection:
             connection.settimeout(SOON)
@@ -129,8 +131,8 @@ def serves(server, sessions):
 
 
 def test_a_server_keeps_nothing_of_its_sessions(program):
-    """Tests that a server's memory does not grow with the number of served sessions and calls, with a long line, or while a
-    silent client is connected.
+    """Tests that a server's memory does not grow with the number of sessions and calls, with the length of a line, or
+    while a silent client is connected.
     """
     rounds = FEW + MANY
     sessions, calls = 1 + len(SESSIONS) * rounds + LONG_LINES, CALLS_OF_SESSIONS * rounds

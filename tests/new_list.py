@@ -1,5 +1,6 @@
-"""Tests docs/NEW-LIST.md. Every file that names the lists must name all of them. build/new_list must copy a list, add the
-copy to these files, and print the remaining work. ./gate proves the copy together with the lists in examples/lists.
+"""Tests docs/NEW-LIST.md. Every file that names the lists must name all of them. build/new_list must copy a list, add
+the copy to the files that name the lists, and print the remaining work. ./gate proves the copy together with the lists
+in examples/lists.
 """
 
 import re

@@ -1,6 +1,6 @@
 """Tests the recorder in examples/recorders, which docs/YOUR-SET.md shows, and a script in examples/recordings that
-judges the keys of a recording in separate parts. For any number of parts, its verdict must be the verdict of `listset
-judge`.
+judges the keys of a recording in separate parts. For any number of parts, the script must have the same verdict as
+`listset judge`.
 """
 
 import os

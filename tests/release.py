@@ -56,7 +56,9 @@ def proof_of(program):
 
 
 def trial_of(program):
-    """Returns the command that makes packages of the program under test, without the name of their folder."""
+    """Returns the command that makes packages of the program under test. The caller appends the name of the folder for
+    the packages.
+    """
     return [TOP / "build" / "release", *(["--unproved"] if proof_of(program) == version_stamp.NOT_PROVED else []), "--trial"]
 
 
@@ -92,7 +94,7 @@ def release(program, room, once, lacking):
 
 
 def replays(program, enter, **how):
-    """Checks that a package's program prints the same bytes as the program under test."""
+    """Checks that the program of a package prints the same bytes as the program under test."""
     for name in REPLAYED_EXAMPLES:
         text = (SCHEDULES / f"{name}.schedule").read_text()
         assert well(*enter, "replay", text=text, **how) == well(program, "replay", text=text)

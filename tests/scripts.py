@@ -23,8 +23,9 @@ BUILDING = "building the program once WITHOUT A PROOF"
 NO_NODE = "no program is built here, and Node is missing. Install Debian's package nodejs (18 or later), or put the folder bin of the Rattle toolchain in PATH"
 # Arguments that ask for a help text, each with the command of the transcripts that prints this text
 HELP = {"--help": "--help", "help": "--help", "-V": "--version", "help judge": "help judge", "judge --help": "help judge", "judge -h": "help judge"}
-# A small program. For each argument, it looks up the table entry for the argument's length, adds one, and prints the
-# sum. For the argument "show" the addition overflows (255 + 1), and for "replay" the table has no entry.
+# The source of a small program. For each argument, the program looks up the table entry for the argument's length, adds
+# one, and prints the sum. For the argument "show" the addition overflows (255 + 1), and for "replay" the table has no
+# entry.
 MAIN = """#![tactic(auto)]
 
 use std::io;
@@ -41,12 +42,12 @@ fn main(rt: HostRuntime) -> io::Result<()> {
 TEXTS = {"crates.txt": "ffi_page staticlib:\nlistset:\n", "crates/ffi_page/src/lib.rt": "//! Nothing.\n", "crates/listset/src/main.rt": MAIN}
 
 
-# The commands that the scripts may use without reporting that they are missing.
+# The commands that the scripts may use without checking whether they are installed.
 COMMANDS = "awk bash cat chmod cp cut date dirname env find grep mv readlink rm sed sh sha256sum sleep sort touch xargs".split()
 
 
 def bare_path(folder, *further):
-    """Creates a folder to use as PATH, with Python, COMMANDS, and the further commands that are installed."""
+    """Creates a folder to use as PATH, with Python, COMMANDS, and those commands of `further` that are installed."""
     folder.mkdir()
     (folder / "python3").symlink_to(os.path.realpath(sys.executable))
     for it in filter(shutil.which, [*COMMANDS, *further]):
@@ -55,7 +56,7 @@ def bare_path(folder, *further):
 
 
 def copied(parts, to):
-    """Creates a folder with these parts of the repository, without built files."""
+    """Copies `parts` of the repository, without built files, to the folder `to`."""
     for part in parts:
         (to / part).parent.mkdir(parents=True, exist_ok=True)
         if (TOP / part).is_dir():
@@ -66,7 +67,7 @@ def copied(parts, to):
 
 
 class Clone:
-    """A small clone, with a PATH of few commands."""
+    """A small clone of the repository, and a PATH with few commands."""
 
     def __init__(self, room, *commands):
         self.tree, self.path = room / "tree", bare_path(room / "path", *commands)
@@ -83,7 +84,7 @@ class Clone:
         return ran(*words, seconds=LONG, **self.how, **how)
 
     def prove(self, at):
-        """Writes a program in place of the proved program. Its modification time is `at` seconds from now."""
+        """Writes a program in place of the proved program. The file's modification time is `at` seconds from now."""
         self.kept.mkdir(parents=True, exist_ok=True)
         self.proved.write_text('#!/bin/sh\necho "proved: $*"\n')
         self.proved.chmod(0o755)
@@ -173,7 +174,7 @@ def test_a_missing_rt_is_named(room, words):
     assert done.returncode and "rt is missing: the Rattle toolchain; its folder bin must be in PATH" in said and "Traceback" not in said
 
 
-# A script that prints the gate's lines about the checks that are not run.
+# The source of a script that prints the gate's lines about the checks that are not run.
 NOT_RUN = """import importlib.machinery, importlib.util, sys
 loader = importlib.machinery.SourceFileLoader("gate", "gate")
 gate = importlib.util.module_from_spec(importlib.util.spec_from_loader("gate", loader))
@@ -203,7 +204,7 @@ def test_a_mark_of_an_unknown_tool_is_refused(room):
     assert done.returncode and "needs no-such-tool, which build/needs.txt does not list" in done.stdout + done.stderr, done
 
 
-# An incomplete command line, and the completions of its last word. (Spaces separate words as bash does.)
+# Maps an incomplete command line to the completions of its last word. (Words are separated as in bash.)
 COMPLETED = {"ju": "judge", "help ju": "judge", "gen la": "lazy", "faults He": "Header", "show --w": "--width", "show --from 1": "", "replay --lacks marks": "marks-in-validation",
              "trace --lacks =": "lock second-lock hand-over-hand second-walk same-node marks-in-validation mark-in-contains mark-in-ceiling mark mark-in-add mark-in-remove mark-at-key new-slot",
              "replay --lacks = marks": "marks-in-validation", "replay --lacks marks --l": "--lacks"}
@@ -221,7 +222,8 @@ def test_the_man_page_and_the_completions_are_printed(program, room):
     wants(ran(*make, "dash"), status=2, output="", tells=["man_page_and_completions.py man | man -l -"])
 
 
-# A test with a mark for the command that it runs, a test without one, and two tests that share a result
+# The source of four tests: one with a mark for the command that it runs, one without a mark, and two that share a
+# result
 TOOLS = """import subprocess
 import pytest
 
@@ -252,7 +254,7 @@ def test_a_test_that_runs_a_tool_without_a_mark_fails(room):
     assert re.findall("^ERROR .*::(\\w+) - .*no mark for gcc", said, re.M) == ["test_unmarked", "test_second"], said
 
 
-# A script with two threads that run four commands, two at a time.
+# The source of a script with two threads that run four commands, two at a time.
 FOUR = """import sys, time
 sys.path.insert(0, {build!r})
 import processes
@@ -284,7 +286,7 @@ def test_an_interrupted_script_starts_no_further_command(room, number):
     assert sorted(it.name for it in room.iterdir()) == ["a", "b", "temporary"] and [*(room / "temporary").iterdir()] == []
 
 
-# A substitute for rt. It acts like a proof that does not end and that has created a temporary file.
+# A substitute for rt that acts like a proof that never ends and has created a temporary file.
 SLEEPS = """#!/bin/sh
 if [ "$1" = doc ]; then echo {room}/START-HERE.md; exit; fi
 mkdir "$TMPDIR/rattle-logic-built-locked-1"
@@ -331,7 +333,8 @@ def test_help_of_a_script_starts_no_work(room):
     assert [*clone.tree.rglob("out")] == []
 
 
-# A source file, and texts in it that an edit replaces. Each has the name of the edited function, or None for a wrong edit.
+# Maps each text of a source file that an edit replaces to the name of the edited function, or to None if the edit is
+# wrong.
 EDITED = """const MOST: u32 = 5;
 
 /// Returns the larger number.
@@ -365,7 +368,7 @@ def test_an_edit_that_must_fail_changes_bodies_alone(room, old):
         assert "BadEdit: " in done.stderr, done
 
 
-# A script that prints the functions that an edit changes
+# The source of a script that prints the functions that an edit changes
 EDITED_FUNCTIONS = """import importlib.machinery, importlib.util, pathlib, sys
 sys.path.insert(0, "build")
 loader = importlib.machinery.SourceFileLoader("try_edits", "build/try_edits")

@@ -1,7 +1,7 @@
-"""Checks every sentence that `check` and `show` print about a report. Each kind of sentence has a property that decides
-whether the sentence is true, by a search through all orders. The reports have 3 to 9 random calls and are right or wrong. A
-line that no property covers fails the test. `trace` and `show` must also show the same calls as the report that `replay`
-prints. (tests/judging.py checks sentences about recordings.)
+"""Checks every sentence that `check` and `show` print about a report. Each kind of sentence has a property that
+decides, by a search through all orders, whether the sentence is true. The reports have 3 to 9 random calls, and are
+correct or wrong. A line that no property covers fails the test. `trace` and `show` must also show the same calls as the
+report that `replay` prints. (tests/judging.py checks sentences about recordings.)
 
 The environment variable CASES is the number of random cases of each test per seed. `--few` tests a tenth of them.
 """
@@ -31,8 +31,8 @@ def cases(few):
 
 
 class Sentences:
-    """Properties of printed lines, each with a pattern of the lines that it checks. A property is a function of a case (a
-    report) and the groups of the match.
+    """Properties of printed lines, each with a pattern that matches the lines to check. A property is a function of a
+    case (a report) and of the groups of the match.
     """
 
     def __init__(self):
@@ -57,15 +57,15 @@ class Sentences:
 
 
 def is_reply(word, key, reply):
-    """Returns whether a set can return this reply to a call on this key."""
+    """Returns whether a set can return `reply` to a call of the operation `word` on `key`."""
     if word == "ceiling":
         return reply == "nothing" or (reply.startswith("at-") and int(reply[3:]) >= key)
     return reply in ("true", "false") or (word, reply) == ("add", "full")
 
 
 def left_by_orders(calls, opening, quota):
-    """Returns all possible sets of final keys: one for each order that explains the calls. A pending call without
-    effect is in no order.
+    """Returns all possible sets of final keys, one for each order that explains `calls`. A pending call that has no
+    effect is left out of the orders.
     """
     calls = [it for it in calls if it.end or changes(it)]
     completed = {number for number, it in enumerate(calls) if it.end}
@@ -92,8 +92,8 @@ def left_by_orders(calls, opening, quota):
 
 def drawn_calls(rng, quota, opening):
     """Returns random overlapping calls of threads, with the end and the reply of each completed call. Also returns the
-    order of their linearization points, as call numbers with the set's replies, and the final keys. Occasionally, a
-    call returns a wrong reply.
+    order of the calls' linearization points, as call numbers with the set's replies, and the final keys. Occasionally,
+    a call returns a wrong reply.
     """
     held, calls, pending, order, moment = SetModel(quota, opening), [], {}, [], 0
     count, wrong = rng.randrange(3, 10), rng.choice([0, 0.1, 0.3])
@@ -139,7 +139,7 @@ class Reported:
         return self.keys == sorted({*self.keys}) and frozenset(self.keys) in left_by_orders(self.calls, self.opening, self.quota)
 
     def before_place(self, place):
-        """Returns the set just before entry number `place` of the order; the first entry is 1."""
+        """Returns the set just before entry number `place` of the order. The first entry has number 1."""
         held = SetModel(self.quota, self.opening)
         for number, _ in self.order[: place - 1]:
             if number < len(self.calls):
@@ -156,12 +156,12 @@ class Reported:
         return [place for place, (number, _) in enumerate(self.order, 1) if number == int(call)]
 
     def after(self, call):
-        """Returns the calls that the report's order puts after a call."""
+        """Returns the calls that follow `call` in the report's order."""
         places = self.places(call)
         return [number for number, _ in self.order[places[0]:] if number < len(self.calls)] if places else []
 
     def is_early(self, call, other):
-        """Returns whether the order puts `call` before `other`, although `other` had ended when `call` began."""
+        """Returns whether `call` precedes `other` in the order, although `other` had ended when `call` began."""
         ended = self.calls[int(other)].end
         return ended is not None and ended < self.calls[int(call)].begin and int(other) in self.after(int(call))
 
@@ -170,8 +170,8 @@ class Reported:
         return (self.calls[number].reply or reply) != reply or self.answer_at(place) != reply
 
     def explains(self):
-        """Returns whether the report's order explains its calls: the order has each completed call once, no call
-        precedes a call that ended before it began, the replies are right, and the order leaves the report's final keys.
+        """Returns whether the report's order explains the calls: the order has each completed call once, keeps the
+        order of calls that do not overlap, has only correct replies, and ends with the report's final keys.
         """
         numbers = [number for number, _ in self.order]
         completed = {number for number, it in enumerate(self.calls) if it.end}
@@ -366,14 +366,14 @@ def each_order_leaves_the_key_in_the_other_state(case, key):
     return case.ways(int(key)) == {int(key) not in case.keys}
 
 
-# Properties of the two calls in a contradiction: each call is a call of the report, and leaves or needs its key as the
-# line states.
+# Properties of the two calls in a contradiction: each call is in the report, and leaves or needs its key in the state
+# that the line names.
 
 CALL, STATE = r"thread (\d+) (\w+) (\d+) (\S+), (\d+) to (\d+)", "(present|absent)"
 
 
 def look_at(case, call):
-    """Returns how a call of the report reads or changes its key (see `read`), or None if the report has no such call."""
+    """Returns how `call` reads or changes its key (see `read`), or None if the report does not contain `call`."""
     thread, word, key, reply, begin, end = call
     made = Call(int(thread), word, int(key), int(begin), int(end), reply)
     return dict(zip(case.calls, case.read())).get(made)
@@ -408,8 +408,8 @@ def the_key_has_this_state_at_the_end(case, key, state):
 
 
 def may_be_made(case, word, key, since, until):
-    """Returns whether a call of the operation `word` could have changed the key between `since` and `until`: the call
-    returned true or is pending, and overlaps this interval.
+    """Returns whether some call of the operation `word` could have changed `key` between `since` and `until`. Such a
+    call overlaps the interval and either returned true or is pending.
     """
     return any((it.word, it.key) == (word, key) and changes(it) and it.begin <= until and since <= (it.end or LAST) for it in case.calls)
 
@@ -434,7 +434,7 @@ DRAWN = ("moment ", "thread ", "set ", "order")
 
 
 def sentences_in(shown):
-    """Returns the lines of the output of `show` that state something about a report."""
+    """Returns the lines in the output of `show` that make a statement about a report."""
     above, refusal, below = shown.partition("\nnot linearizable\n")
     return [it for it in above.splitlines() if it and it != LEGEND and not it.startswith(DRAWN)] + f"not linearizable\n{below}".splitlines() * bool(refusal)
 
@@ -481,8 +481,8 @@ def order_of(ends):
 
 
 def compare_run(program, text, *words):
-    """Checks that the trace and the picture of a run have the calls of its report. Returns each call's reply, and the
-    moment of its effect (a number of events).
+    """Checks that the trace and the picture of a run have the same calls as the run's report. Returns each call's
+    reply, and the moment of the call's effect (a number of events).
     """
     report, trace = ran(program, "replay", *words, text=text).stdout, ran(program, "trace", *words, text=text).stdout
     ends, places = ends_of_trace(trace), [tuple(it.split()[1:]) for it in report.splitlines() if it.startswith("place ")]
@@ -505,8 +505,8 @@ def test_traces_and_pictures_have_the_order_of_the_report(program, few, kind):
 
 
 def continued(name, seed):
-    """Returns the schedule that shows the flaw of a broken list (a list without one of its checks), followed by calls
-    on all its keys, one after another.
+    """Returns the schedule that shows the flaw of a broken list (a list without one of its checks). After that
+    schedule, calls on all its keys follow, one after another.
     """
     text, draw = (TOP / f"examples/schedules/lacks/{name}.schedule").read_text(), random.Random(f"{name} {seed}")
     plan = read_schedule(text)

@@ -1,5 +1,5 @@
-"""Tests how `listset serve` answers clients, at the same time and one after another. A server has one seat (handle on the
-set) for each of its threads, and each seat serves one client at a time.
+"""Tests how `listset serve` answers clients, at the same time and one after another. A server has one seat (one
+thread's access to the set) for each of its threads, and each seat serves one client at a time.
 
 Only the loopback is used. All waits are bounded, and a server that does not end is killed by its process id.
 """
@@ -34,12 +34,12 @@ LATE = 3
 
 
 class Sharing:
-    """A client. It sends its requests in pieces of random size, byte by byte, or all of them before it reads an answer.
-    It ends with QUIT, in the middle of a line, or with random bytes. `told` contains the answers to its calls on shared
-    keys, and `own` the keys that no other client uses.
+    """A client. It sends its requests in pieces of random size, byte by byte, or all at once before it reads an answer.
+    It ends with QUIT, in the middle of a line, or with random bytes. `told` has the answers to the client's calls on
+    shared keys, and `own` the keys that only this client uses.
 
-    On a LockFreeList, the client sends no CEILING: a ceiling that reaches a marked node restarts until another call has
-    unlinked the node.
+    On a LockFreeList, the client sends no CEILING, because a ceiling that reaches a marked node restarts until some add
+    or remove has unlinked the node.
     """
 
     def __init__(self, number, kind, all_are_served):
@@ -51,8 +51,8 @@ class Sharing:
         self.calls = sum(call is not None for _, call, _ in self.turns)
 
     def turn(self):
-        """Returns a line, its call (or None), and the right answers. For a ceiling, the third value is instead the
-        client's smallest own key at or above the call's key.
+        """Returns a line, the line's call (or None), and the set of right answers. For a ceiling, the third value is
+        instead the client's smallest own key that is not less than the call's key.
         """
         word, key, is_own = self.draw.choice(self.words), self.draw.randrange(SHARED), self.draw.random() < 0.5
         if self.draw.random() < 0.05:
@@ -96,8 +96,9 @@ class Sharing:
 
 @pytest.mark.parametrize("kind", KINDS)
 def test_clients_at_once_receive_right_answers(program, kind):
-    """Tests clients that are served at the same time: each waits until all have received an answer. The answers about a
-    client's own keys must be right. The answers about shared keys must agree with the final keys of the server.
+    """Tests clients that are served at the same time: each client waits until all clients have received an answer. The
+    answers about a client's own keys must be right. The answers about shared keys must agree with the final keys of the
+    server.
     """
     with serving(program, kind, SEATS, ROOM, CLIENTS + 1) as server, server.connect() as idle:
         all_are_served = threading.Barrier(CLIENTS)
@@ -141,8 +142,8 @@ def test_more_clients_than_seats_are_served(program):
 
 
 def test_many_connections_one_after_another_are_served(program):
-    """Tests a server that accepts the maximum number of connections one after another, under a low limit on open files. Its
-    sessions end in different ways.
+    """Tests a server that accepts the maximum number of connections one after another, under a low limit on open files.
+    The sessions end in different ways.
     """
     sessions, keys, files = 10_000, 1000, 32
     limited = ["sh", "-c", f'ulimit -n {files} && exec "$@"', "sh"]
@@ -170,8 +171,9 @@ def drips(connection, end):
 
 
 def test_clients_of_one_seat_are_served_in_turn(program):
-    """Tests clients that use one seat one after another. The seat can add 2 keys. The system refuses a connection to a
-    different address of this machine. A client after the last session receives no answer.
+    """Tests clients that use one seat (one thread's access to the set) one after another. The seat can add 2 keys. The
+    system refuses a connection to an address of the machine where the server does not listen. A client that connects
+    after the last session receives no answer.
     """
     with serving(program, ONE_LIST, 1, 2, 6) as server:
         with pytest.raises(ConnectionRefusedError):
@@ -297,9 +299,9 @@ def test_a_client_that_reads_no_answer_holds_only_its_seat(program):
 
 
 def test_answers_arrive_if_bytes_follow_the_last_line(program):
-    """Tests that all answers arrive, whatever the client sends after its last line. One client reads so late that the server has
-    already closed its connection. If the server had left bytes of the client unread, answers that the system had not
-    yet delivered would be lost.
+    """Tests that all answers arrive, whatever a client sends after its last line. One client reads so late that the
+    server has already closed the connection. If the server had left bytes of the client unread, answers that the system
+    had not yet delivered would be lost.
     """
     def speak(lines, answers, late, connection):
         connection.sendall(lines + b"?" * BEYOND)

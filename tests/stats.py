@@ -1,5 +1,5 @@
-"""Compares the counts of `stats` with counts over all pairs of calls and all moments (times in the recording). Its errors must
-be those of `judge`. `--few` tries a tenth of the recordings.
+"""Compares the counts of `stats` with counts over all pairs of calls and all moments (times in the recording). `stats`
+must report the same errors as `judge`. `--few` tries a tenth of the recordings.
 """
 
 import random
@@ -21,7 +21,7 @@ def overlap(one, other):
 
 
 def counted(calls):
-    """Returns what `stats` must print for these calls."""
+    """Returns what `stats` must print for `calls`."""
     lines = [("calls", len(calls))]
     for word in ("add", "remove", "contains"):
         for reply, name in (("true", "true"), ("false", "false"), (None, "pending")):

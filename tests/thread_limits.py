@@ -1,8 +1,8 @@
 """Tests how `run` and `serve` end if not all of their threads can be started.
 
 A thread's stack needs address space, so a limit on the program's address space (`ulimit -v`) refuses some or all
-threads. Under each limit, `run` must print its outcome, or that a thread or an allocation was refused. The same is required
-of `serve`. Its client must be served completely or not at all.
+threads. Under each limit, `run` must print its result, or that a thread or an allocation was refused. `serve` must do
+so too, and must serve its client completely or not at all.
 """
 
 import collections
@@ -39,8 +39,8 @@ def ended_run(program, limit):
 
 
 def ended_serve(program, limit):
-    """Runs `serve` with one client under a limit and returns how it ends. The client can be turned away. The server starts
-    its threads after it has printed the first line.
+    """Runs `serve` with one client under a limit, and returns how the server ends. The server can refuse the client,
+    because it starts its threads after it has printed the first line.
     """
     with started(*limited(limit, program, "serve", KINDS[limit % 5], THREADS, QUOTA, 0, 1)) as process:
         first, told = process.stdout.readline(), b""
@@ -62,8 +62,8 @@ def ended_serve(program, limit):
 
 @pytest.fixture
 def limits(program):
-    """Returns limits on the address space, in KiB, that still let the program start. (Its loader needs address space too.)
-    Successive limits differ by half the size of a stack, and the first ones by less.
+    """Returns limits on the address space, in KiB, under which the program still starts. (The program's loader needs
+    address space too.) Successive limits differ by half the size of a stack, and the first limits by less.
     """
     limits = [*range(2_000, 12_000, 128), *range(12_000, 4 * (THREADS + 2) * STACK, STACK // 2)]
     return [it for it in limits if ran(*limited(it, program, "example", "full")).returncode == 0]
@@ -71,16 +71,16 @@ def limits(program):
 
 @pytest.mark.parametrize("way", [ended_run, ended_serve])
 def test_run_and_serve_end_in_a_documented_way_under_each_limit(program, way, limits):
-    """Tests how the program ends under each limit. Under some limits it must complete, and under others the system must
-    refuse a thread.
+    """Tests how the program ends under each limit. Some limits must let the program complete, and some must make the
+    system refuse a thread.
     """
     ends = collections.Counter(way(program, limit) for limit in limits)
     assert ends["outcome"] and ends["thread refused"]
 
 
 def test_serve_without_memory_for_the_set_does_not_listen(program):
-    """Tests the largest set with 40 MB, where it does not fit. The server must not print the line that states that it
-    is ready.
+    """Tests the largest set in 40 MB, which are too few for the set. The server must not print the line that states
+    that it is ready.
     """
     made = ran(*limited(40_000, program, "serve", "lock-free", 64, 16384, 0, 1))
     assert (made.returncode, made.stdout, made.stderr) == (3, "", "listset: out of memory\n")

@@ -47,8 +47,8 @@ def drawn_schedule(kind, seed, lacks=None, overruns=False):
 
 
 class Compared:
-    """Compares the program's output for a text with the models. `words` are the options that name a broken list (a list
-    without one of its checks), if any.
+    """A comparison of the program's output for a text with the models. `words` are the options that name a broken list
+    (a list without one of its checks), if any.
     """
 
     def __init__(self, program, name, text, *words):
@@ -89,8 +89,8 @@ class Compared:
         assert texts <= {it.text for it in svg.iter()}, f"{' '.join(words)} of {self.text!r}"
 
     def pictures(self, picture, below=()):
-        """Compares three text pictures and two SVGs. One picture and one SVG show the whole run. The others begin or
-        end near the start, effect or end of a call. Options are left out at random.
+        """Compares three text pictures and two SVGs. One text picture and one SVG show the whole run. The others begin
+        or end near the start, effect or end of some call. Options are left out at random.
         """
         draw = random.Random(self.name)
         moments = Drawn(picture, 1, GREATEST).all or [1]
@@ -104,8 +104,8 @@ class Compared:
 
 
 def options(words, asked):
-    """Returns a command with its options, the first and last moment (position in the history) that they select, and the
-    width. None means that an option is missing.
+    """Returns a command with its options. `asked` has the first moment (position in the history), the last moment and
+    the width; None means that an option is missing.
     """
     given_words = [it for name, value in zip(["--from", "--to", "--width"], asked) if value is not None for it in (name, str(value))]
     first, last, width = (default if it is None else it for it, default in zip(asked, [1, GREATEST, 100]))

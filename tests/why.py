@@ -1,5 +1,5 @@
-"""Tests the lines that `judge` prints below a refusal. page/tests/verdicts.js checks each of these sentences in Node.
-The tests here check that the program prints the same sentences. A search through all orders also checks the refusals
+"""Tests the lines that `judge` prints below a refusal. page/tests/verdicts.js checks in Node that each sentence is
+true, and these tests check that the program prints the same sentences. A search through all orders checks the refusals
 that count adds and removes.
 """
 
@@ -22,7 +22,7 @@ def path(tmp_path):
 
 
 def recordings(seed, count):
-    """Yields random recordings, each with its calls, and its keys at the start and at the end."""
+    """Yields random recordings, each with its calls and with the keys at the start and at the end."""
     rng = random.Random(seed)
     for _ in range(count):
         yield spread(rng, *drawn(rng, rng.randrange(3, 10)))
@@ -34,8 +34,9 @@ def verdict_lines(output):
 
 
 def is_count(calls, opening, keys, lines):
-    """Returns whether a message about counted adds and removes is true: no order explains the named calls together with
-    all calls that could have changed the key back. Returns None if the message does not name all counted calls.
+    """Returns whether a message that counts adds and removes is true: no order explains the calls in the message
+    together with all calls that could have undone their changes. Returns None if the message does not list all counted
+    calls.
     """
     found = COUNT.match("\n".join(lines))
     named, key = found[1], int(found[2])
@@ -69,8 +70,8 @@ def test_a_message_has_at_most_fifteen_lines_and_its_count_is_true(program, path
 
 
 def mark_not_read(rounds):
-    """Returns a recording of a set with a bug in `contains`: during a `remove`, `contains` still finds the key, even
-    after a second `remove` has found the key absent.
+    """Returns a recording of a set whose `contains` has a bug: until a `remove` ends, `contains` still finds the key,
+    even after a second `remove` has found the key absent.
     """
     made = [("add", 1, 2, 0, "true"), ("remove", 3, 8, 1, "true"), ("remove", 4, 5, 0, "false"), ("contains", 6, 7, 0, "true")]
     calls = [Call(thread, word, 3, moment + begin, moment + end, reply) for moment in range(0, 8 * rounds, 8) for word, begin, end, thread, reply in made]
@@ -87,7 +88,7 @@ def test_an_operation_that_alone_is_wrong_is_named_with_a_cause(program, path):
 
 
 def test_a_few_contradictions_are_listed(program, path):
-    """Tests a recording with two keys. Each key was added by two overlapping calls."""
+    """Tests a recording with two keys. For each key, two overlapping adds returned true."""
     calls = [Call(thread, "add", key, 10 * key + thread, 10 * key + 5 + thread, "true") for key in (3, 5) for thread in range(2)]
     path.write_text(text_of(calls, [], [3, 5]))
     said = ran(program, "judge", path).stdout
@@ -104,7 +105,9 @@ def test_a_key_that_is_lost_without_a_call_is_named_and_has_a_recording(program,
 
 
 class OneSet:
-    """A correct set. Each call is a generator, and other calls can run at each of its yields. Each subclass has one bug."""
+    """A correct set. Each call is a generator; at each `yield`, calls of other threads can run. Each subclass has one
+    bug.
+    """
 
     def __init__(self, rng):
         self.rng, self.keys, self.more = rng, set(), set()
@@ -258,8 +261,8 @@ def test_a_linearizable_recording_has_no_diagnosis(program, path):
 
 
 def test_a_refusal_without_a_clash_has_a_count(program, path):
-    """Tests three adds and one remove that overlap. No two of these calls contradict each other, so `judge` must justify its
-    refusal by counting the adds and removes.
+    """Tests three adds and one remove that overlap. No two of the four calls contradict each other, so `judge` must
+    justify the refusal by counting the adds and removes.
     """
     calls = [Call(thread, "add", 7, 1 + thread, 10 + thread, "true") for thread in range(3)] + [Call(3, "remove", 7, 4, 9, "true")]
     path.write_text(text_of(calls, [], [7]))

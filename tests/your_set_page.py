@@ -106,7 +106,7 @@ func TestOptions(t *testing.T) { %s }
 
 
 def codes_of(language, heads):
-    """Returns the code in a language's row of the page's table with this heading."""
+    """Returns the code in the row of `language` in the page's table whose heading is `heads`."""
     table = PAGE.read_text(encoding="utf-8").split(f"| {' | '.join(heads)} |\n")[1].partition("\n\n")[0]
     (row,) = re.findall(rf"^\| {re.escape(language)}[ \d.]*\|(.*)\|$", table, re.M)
     return re.findall(r"`([^`]+)`", row.rpartition(" | ")[2] if len(heads) > 2 else row)
@@ -121,7 +121,7 @@ def options_of(language):
 
 
 def block_of(first):
-    """Returns the lines of the page's code block that begins with this line."""
+    """Returns the lines of the page's code block whose first line is `first`."""
     return re.search(rf"^ {{4}}{re.escape(first)}.*\n(?: {{4}}.*\n)*", PAGE.read_text(encoding="utf-8"), re.M)[0]
 
 
@@ -185,7 +185,7 @@ def test_the_lines_of_the_page_judge(program, room, lacking, language):
         assert well(program, "judge", own / "recorded" / "seed-1.calls").startswith("ok 48000 calls\n")
 
 
-# ---- Continuous integration: projects as the page describes them, tested by the command on the page
+# ---- Continuous integration: projects as docs/YOUR-SET.md describes them, tested by the page's command
 
 
 def lay_cpp(room, own):

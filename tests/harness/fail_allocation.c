@@ -1,7 +1,7 @@
 /*
  * Refuses one allocation of a program: the allocation with the number REFUSE. Allocations within the C library are not
- * counted. This file is loaded before the C library (LD_PRELOAD), so the program calls the malloc and realloc defined
- * here.
+ * counted. The library built from this file is loaded before the C library (LD_PRELOAD), so the program calls the
+ * malloc and realloc of this file.
  */
 
 extern void *__libc_malloc(unsigned long size);

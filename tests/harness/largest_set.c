@@ -1,6 +1,6 @@
-// Tests a set of maximum size for each list. Such a set has the maximum number of keys at the start and, below them, as
-// many added keys as the quotas of its seats (one for each thread) allow. Calls traverse all of these keys, and the set
-// is closed.
+// Tests a set of maximum size for each list. A set of maximum size starts with the maximum number of keys. Its seats
+// (one for each thread) then add as many smaller keys as their quotas (successful adds that one thread may make) allow.
+// Calls traverse all keys, and the set is closed.
 #include "listset.h"
 
 #include <stdio.h>
@@ -21,8 +21,8 @@ static void fill(int kind, listset_seat *seat, uint32_t first) {
   for (uint32_t number = QUOTA; number > 0; number--) expect(kind, "add", listset_add(seat, first + number - 1).is, LISTSET_TRUE);
 }
 
-// Splits all other seats off the first seat, uses up the quota of each, and merges each back into the first seat. After a
-// merge, no more seats can be split off.
+// Splits all other seats off the first seat, uses up the quota of each seat, and merges each seat back into the first
+// one. After the first merge, no more seats can be split off.
 static void fill_all(int kind, listset_seat *first) {
   listset_seat others[SEATS] = {LISTSET_NONE};
   for (uint32_t number = 1; number < SEATS; number++) expect(kind, "split", listset_split(first, &others[number]), LISTSET_OK);

@@ -1,6 +1,6 @@
 """A model of the five lists. It executes the step tables of docs/TABLES.md literally, one step of a thread at a time. A
-step uses the words of the nodes (key, link, lock) and the registers of the thread (pred, curr, ..). The table of a broken
-list differs in some rows.
+step uses the words of the nodes (key, link, lock) and the registers of the thread (pred, curr, ..). A broken list (a
+list without one of its checks) has a table that differs in some rows.
 """
 
 import collections
@@ -45,8 +45,8 @@ def table(one):
 TABLES = {it.word: table(it) for it in lists.lists() if it.type in SECTIONS}
 
 # The broken lists of docs/CLASSIC.md (lists without one of their checks): the intact list, and the changed rows of its
-# table. `pass` means to attempt to acquire a lock and to continue in any case. `curr^` is a link to curr with the mark
-# that register pkey has.
+# table. `pass` attempts to acquire a lock, and continues whether or not the attempt succeeds. `curr^` is a link to curr
+# with the mark in register pkey.
 LACKING = {
     "lock": ("coarse", "1 | pass list.lock | 2"),
     "second-lock": ("fine", ""),  # (see ROWS_OF_ONE_LOCK)
@@ -75,12 +75,12 @@ LACKING = {
     "new-slot": ("lock-free", ""),  # (each add uses the first slot)
 }
 # The broken list second-lock: a remove locks only pred. It reads the key of a node first, and locks the node only to
-# move past it. If the intact table sends a remove to a row that is a key of this dict, the remove continues at the row
-# that is the value.
+# move past it. ROWS_OF_ONE_LOCK maps a row to which the intact table sends a remove to the row at which the remove of
+# second-lock continues.
 ROWS_OF_ONE_LOCK = {3: 4, 4: 5, 5: 3, 12: 13}
 
-# The conditions in the step tables, as functions of a thread, the value s that its step saw, the key word K, and the
-# value that an exchange expects.
+# The conditions in the step tables, as functions of a thread, the value s that the thread's step loaded, the key word
+# K, and the value that an exchange expects.
 TESTS = {
     "below K": lambda it, s, key, old: s < key,
     "K": lambda it, s, key, old: s == key,
@@ -110,7 +110,7 @@ class Thread:
 
 
 class List:
-    """The words and the threads of a list. Executes one step of a thread at a time."""
+    """A list: its words in memory and its threads. `go` executes one step of a thread."""
 
     def __init__(self, kind, threads, quota, opening, lacks=None):
         self.table, self.quota, self.threads, self.lacks = TABLES[kind], quota, [Thread() for _ in range(threads)], lacks
@@ -127,7 +127,7 @@ class List:
 
     def chain(self):
         """Returns the keys from the head to the tail, each with its mark. (On a broken list, which lacks a check, the
-        chain can be a cycle, and can contain a slot without a key.)
+        chain can be a cycle, and can contain a slot, a reserved node, that has no key.)
         """
         node, told = self.words[4] // 2, []
         while node > 1 and len(told) < len(self.words) // 3:
@@ -171,7 +171,9 @@ class List:
         return "exchange", self.index(t, words[0]), self.value(t, words[2]), self.value(t, words[4])
 
     def go(self, t):
-        """Executes one step of a thread. Returns its access, the value that it saw, and the reply if the call ends."""
+        """Executes one step of a thread. Returns the step's memory access, the value that the step loaded, and the
+        reply if the call ends.
+        """
         it = self.threads[t]
         it.change = None
         step, parts = self.table.rows[it.pc]
@@ -186,8 +188,8 @@ class List:
         return action, seen, reply
 
     def follow(self, it, parts, seen, old):
-        """Executes the actions of a row after its step, up to the first action with a true condition (or `else`).
-        Returns the reply if the call ends.
+        """Executes the actions that a row has after its step, up to and including the first action whose condition is
+        true (or `else`). Returns the reply if the call ends.
         """
         for part in parts:
             test, is_test, then = part.rpartition(": ")
@@ -202,7 +204,7 @@ class List:
 
     def do(self, it, done, seen):
         """Executes one action of a row of the step table. Returns the reply if the call ends. (On an intact list, the
-        changes of the set are read from the chain.)
+        changes to the set are read from the chain.)
         """
         if done.isdigit():
             it.pc = int(done)

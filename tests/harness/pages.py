@@ -1,5 +1,5 @@
-"""Tests that the commands in tests/transcripts/*.md print exactly the output on these pages, and that the commands in README
-and the other pages print the output shown there.
+"""Tests that each command in tests/transcripts/*.md prints exactly the output below it, and that the commands in README
+and other pages print the output that the pages show.
 
 A heading `## NAME` begins a test. Lines with an indent of four spaces are commands and their output:
 
@@ -13,9 +13,9 @@ A heading `## NAME` begins a test. Lines with an indent of four spaces are comma
 All other lines are prose. The commands of a test run one after another in the same folder. A command that runs for 300
 seconds fails. No command pipes `listset` into `head`, since head can exit before the program has written everything.
 
-In the other pages, a test is a block that is indented by four spaces or follows ```sh, if its first line is a command. The
-test runs in a folder with the files of the repository, and ./listset is the program. The output followed by standard error is
-compared, but not the exit status. A line .. matches any number of lines.
+In README and the other pages, a test is a block that is indented by four spaces or follows ```sh, if the block's first
+line is a command. The test runs in a folder with the files of the repository, and ./listset is the program. The test
+compares the output, followed by standard error, but not the exit status. A line .. matches any number of lines.
 """
 
 import os
@@ -48,7 +48,7 @@ class PageCommand:
 
 
 def steps_of(lines, first):
-    """Returns the commands in some lines. `first` is the number of the first line."""
+    """Returns the commands in `lines`. `first` is the number of the first line."""
     steps = []
     for number, line in enumerate(lines, first):
         if line.startswith("$ "):
@@ -83,7 +83,7 @@ def tests_shown(page):
 
 
 def lines_of_transcript(run):
-    """Formats the output of a run like a transcript page."""
+    """Returns the output of a run in the format of a transcript page."""
     output, faults = (text.decode("utf-8", "backslashreplace") for text in (run.stdout, run.stderr))
     lines = output.split("\n")
     lines = lines[:-1] if lines[-1] == "" else [*lines, "."]
@@ -117,7 +117,9 @@ def printed_by_commands(page, steps, program, room):
 
 
 def is_as_shown(told, printed):
-    """Returns whether the lines shown on a page match the printed lines. A line `..` on the page matches any number of printed lines."""
+    """Returns whether the lines `told` on a page match the printed lines. A line `..` on the page matches any number of
+    printed lines.
+    """
     pieces = [re.escape(line) + "\n" if line != LEFT_OUT else "(?:.*\n)*?" for line in told]
     return re.fullmatch("".join(pieces), "".join(f"{line}\n" for line in printed))
 
@@ -131,7 +133,7 @@ def print_what_the_page_has(page, steps, program, room):
 
 
 def show(name, page, steps, program, room):
-    """Prints a test with its current output, in the form of the page."""
+    """Prints a test with its current output, in the format of the page."""
     print(f"\n## {name}\n")
     for step, lines in zip(steps, printed_by_commands(page, steps, program, room)):
         print(f"{INDENT}$ " + f"\n{INDENT}> ".join(step.command))

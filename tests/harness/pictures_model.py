@@ -1,6 +1,7 @@
-"""A model of the text picture that `show` prints, written from docs/TEXTS.md alone. A picture has a column for each moment
-(position in the history). It has a row for each thread, with the starts, ends and linearization points of its calls. Below
-are the set after each change, and the order of the calls. A Picture shows a run (traces_model) or a report (reports_model).
+"""A model of the text picture that `show` prints, written from docs/TEXTS.md alone. A picture has a column for each
+moment (position in the history), and a row for each thread, with the starts, ends and linearization points of the
+thread's calls. Below the rows are the set after each change, and the order of the calls. A Picture shows a run
+(traces_model) or a report (reports_model).
 """
 
 import collections
@@ -12,8 +13,8 @@ GREATEST = 4294967295
 # keys; why the order is refused, or None; and the refused event, or None.
 Picture = collections.namedtuple("Picture", "kind threads quota events calls ends order sets keys refusal refused")
 Place = collections.namedtuple("Place", "number reply at change")  # an entry of the order; it has no moment if the order is refused
-# Why an order is refused: the message, the first moment (position in the history) of the picture, and the number of an
-# unknown call.
+# The reason to refuse an order: the message, the first moment (position in the history) that the picture shows, and the
+# number of a call that the report does not have.
 Refusal = collections.namedtuple("Refusal", "said begun unknown")
 
 
@@ -30,8 +31,8 @@ def keys_text(keys, separator=","):
 
 
 class Drawn:
-    """A picture limited to the moments (positions in the history) from `first` to `last`. It has at most 64 columns,
-    one for each of these moments at which a call begins, takes effect or ends.
+    """A picture limited to the moments (positions in the history) from `first` to `last`. The picture has at most 64
+    columns, one for each moment at which a call begins, takes effect or ends.
     """
 
     def __init__(self, picture, first, last):
@@ -100,8 +101,9 @@ class Drawn:
         return [f"refused {self.picture.refusal.said}"] if self.picture.refusal else []
 
     def side(self, place):
-        """Returns -1, 0 or 1 if an entry of the order is before, within or after the drawn moments. Decides by the
-        linearization point or, if there is none, by the start and the end of the call. Returns None for an unknown call.
+        """Returns -1, 0 or 1 if `place`, an entry of the order, is before, within or after the drawn moments. The
+        linearization point decides or, if the entry has none, the start and the end of the call. Returns None for an
+        unknown call.
         """
         first = last = place.at
         if not self.has_points:
@@ -140,7 +142,7 @@ class Drawn:
         return [*told, *self.below(legend)]
 
     def in_svg(self):
-        """Returns texts that an SVG must contain, and how many circles and bars it must have."""
+        """Returns the texts that an SVG of the picture must contain, and the SVG's numbers of circles and bars."""
         legend = "filled: changes the set    open: changes nothing, its reply fits there    dashed: pending"
         points = [it for it in self.picture.order if self.has_points and self.first <= it.at <= self.last]
         bars = [it for it in self.picture.calls if it.begun <= self.last and self.picture.ends.get(it.number, [GREATEST])[0] >= self.first]

@@ -1,5 +1,5 @@
-"""Runs a program to its end and returns its status and outputs (`ran`), or only its output if it must succeed (`well`). Also
-waits for conditions, and kills the processes that run in a folder.
+"""Helpers for tests: `ran` runs a program to its end and returns its status and outputs. `well` returns only the output
+of a program that must succeed. `comes` waits for a condition, and `clear` kills the processes that run in a folder.
 """
 
 import contextlib
@@ -22,13 +22,13 @@ QUICK_CARGO = ["env", "CARGO_INCREMENTAL=0", "CARGO_PROFILE_DEV_DEBUG=0", "cargo
 
 
 def not_installed(*commands):
-    """Returns how to install the first of these commands that is missing."""
+    """Returns how to install the first missing command in `commands`."""
     return next((f"{it} is not installed: {NEEDS[it]}" for it in commands if not shutil.which(it)), None)
 
 
 def ran(*words, text=None, seconds=SECONDS, **how):
-    """Runs a program and returns its exit status, output and standard error, unchanged. Its input is `text`, or empty. If
-    `text` is bytes, the outputs are bytes too.
+    """Runs a program and returns its exit status, output and standard error, unchanged. The program's input is `text`,
+    or empty if `text` is None. If `text` is bytes, the outputs are bytes too.
     """
     given = {"stdin": subprocess.DEVNULL} if text is None else {"input": text.encode() if isinstance(text, str) else text}
     done = subprocess.run([*map(str, words)], capture_output=True, timeout=seconds, **given, **how)
@@ -56,7 +56,7 @@ def wants(run, status=0, output=None, tells=(), no=()):
 
 
 def comes(condition, what):
-    """Waits until a condition is true, at most SECONDS."""
+    """Waits until a condition is true, for at most SECONDS."""
     end = time.monotonic() + SECONDS
     while not condition():
         assert time.monotonic() < end, f"{what} does not come"
@@ -72,7 +72,9 @@ def is_running(process):
 
 
 def clear(folder):
-    """Kills the processes that run in this folder, or name it in their arguments or environment, and deletes the folder."""
+    """Kills the processes that run in `folder` or name `folder` in their arguments or environment, and deletes the
+    folder.
+    """
     for process in pathlib.Path("/proc").glob("[0-9]*"):
         with contextlib.suppress(OSError):
             has_it = any(str(folder).encode() in (process / it).read_bytes() for it in ("cmdline", "environ"))

@@ -1,6 +1,6 @@
-"""A model of the pictures of reports, written from docs/TEXTS.md alone. If the order of a report has an error, the model
-returns the message for the first error, otherwise the first moment when each call can take effect. Also damages reports at
-random.
+"""A model of the pictures of reports, written from docs/TEXTS.md alone. If the order of a report has an error, the
+model returns the message for the first error. Otherwise it returns, for each call, the first moment when the call can
+take effect. `damage` damages a report at random.
 """
 
 import collections
@@ -37,7 +37,7 @@ def read_report(text):
 def faults_of(report):
     """Yields each reason to refuse the order of a report. The checks run in the same sequence as in the program."""
     def about(said, number):
-        """Returns a refusal that concerns a call. The picture begins at this call."""
+        """Returns a refusal that concerns call `number`. The picture begins at the start of this call."""
         return Refusal(said, report.calls[number].begun, None)
 
     numbers = [it for it, _ in report.order]
@@ -56,8 +56,8 @@ def faults_of(report):
 
 
 def wrong_replies(report):
-    """Yields each call with a wrong reply in the order of a report, and the message: the history has a different reply for
-    the call, or the set returns one.
+    """Yields each call that has a wrong reply in the order of a report, with a message. A reply is wrong if it differs
+    from the call's reply in the history, or from the set's reply.
     """
     held, after = SetModel(report.quota, report.opening), {0: "at first", 1: "after place 1", 2: "after places 1 and 2"}
     for place, (it, says) in enumerate(report.order):
@@ -81,7 +81,7 @@ def wrong_sets(report):
 
 
 def first_fault(report):
-    """Returns why the order is refused, or None."""
+    """Returns the first reason to refuse the order of a report, or None if the order explains the calls."""
     return next(faults_of(report), None)
 
 
@@ -102,8 +102,8 @@ class Sets:
 
 
 def places_of(report):
-    """Returns the entries of an order, each with its moment (position in the history). An entry is at the start of its
-    call or, if the previous entry is later, at the moment of the previous entry.
+    """Returns the entries of an order, each with its moment (position in the history). An entry's moment is the start
+    of its call or, if later, the moment of the previous entry.
     """
     at = 0
     for it, reply in report.order:
@@ -137,8 +137,9 @@ def report_text(it):
 
 
 def damage(draw, it):
-    """Damages a report at random. An entry of the order is lost, duplicated, moved, or changed to a different reply or an
-    unknown call; or a call ends with a different reply; or final keys are lost, added, or reordered.
+    """Damages a report at random. The damage is one of these: an entry of the order is lost, duplicated, moved, or
+    changed to a different reply or an unknown call; a call ends with a different reply; or final keys are lost, added,
+    or reordered.
     """
     at, other = (draw.randrange(max(1, len(it.order))) for _ in range(2))
     number, reply = it.order[at] if it.order else (0, "true")

@@ -1,5 +1,5 @@
-"""A client of `listset serve`: sends lines, reads one answer for each, and disconnects in several ways. Also starts and
-stops the server, for tests/serve_clients.py.
+"""A client of `listset serve`: sends lines, reads one answer for each line, and disconnects in several ways. `serving`
+starts the server, and `started` stops it. tests/serve_clients.py uses this module.
 """
 
 import contextlib
@@ -25,8 +25,8 @@ class Server:
         return socket.create_connection((address, self.port), timeout=SECONDS)
 
     def ends(self, sessions, least, most, keys):
-        """Checks the last lines of the server: the number of sessions, the number of calls (from `least` to `most`), and the
-        final keys.
+        """Checks the last lines that the server prints: the number of sessions, the number of calls (from `least` to
+        `most`), and the final keys.
         """
         lines = self.process.stdout.read().splitlines()
         assert self.process.wait(SECONDS) == 0
@@ -37,7 +37,7 @@ class Server:
 
 @contextlib.contextmanager
 def started(*words):
-    """Starts a process, and kills it if it does not end."""
+    """Starts a process. Kills the process at the end of the context, if it still runs."""
     process = subprocess.Popen([*map(str, words)], stdout=subprocess.PIPE, stderr=subprocess.PIPE, text=True)
     watch = threading.Timer(2 * SECONDS, process.kill)
     watch.start()
@@ -57,12 +57,12 @@ def serving(program, kind, seats, quota, sessions, before=()):
 
 
 def read_all(connection):
-    """Returns the answers up to the end of the connection, which must not be a reset."""
+    """Returns the answers up to the end of the connection. The connection must end without a reset."""
     return b"".join(iter(lambda: connection.recv(65_536), b""))
 
 
 def read_lines(connection, count):
-    """Reads and returns `count` answers, and checks that no further byte has arrived."""
+    """Reads and returns `count` answers, and checks that no byte follows them."""
     text = b""
     while text.count(b"\n") < count:
         piece = connection.recv(4096)

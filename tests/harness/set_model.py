@@ -1,5 +1,5 @@
-"""A Python model of the sequential set: it returns the reply of each call, as written in a report. All tests that need
-replies use this model. It was written independently of the crates.
+"""A Python model of the sequential set. The model returns the reply to each call, as written in a report. All tests
+that need replies use this model. It was written independently of the crates.
 """
 
 import collections
@@ -8,7 +8,9 @@ CHANGES = ("add", "remove")  # the calls that change the set if they reply true
 
 
 def reply_of(word, key, keys, has_room=True):
-    """Returns the reply of a set with these keys. An `add` of an absent key returns `full` if `has_room` is false."""
+    """Returns the reply of a set with the keys `keys` to the call `word` on `key`. An `add` of an absent key returns
+    `full` if `has_room` is false.
+    """
     if word == "ceiling":
         above = [other for other in keys if other >= key]
         return f"at-{min(above)}" if above else "nothing"
@@ -18,12 +20,12 @@ def reply_of(word, key, keys, has_room=True):
 
 
 def fits_without_change(word, key, reply, keys, has_room=True):
-    """Returns whether a call that changes nothing can have this reply in a set with these keys."""
+    """Returns whether a call that does not change a set with the keys `keys` can return `reply`."""
     return reply == reply_of(word, key, keys, has_room) and not (word in CHANGES and reply == "true")
 
 
 class SetModel:
-    """A set. Each thread can add as many keys as its quota, or any number if there is no quota."""
+    """A set. Each thread can add as many keys as its quota, or any number of keys if the set has no quota."""
 
     def __init__(self, quota=None, keys=()):
         self.keys, self.quota, self.added = set(keys), quota, collections.Counter()
@@ -40,7 +42,7 @@ class SetModel:
         return self.quota is None or self.added[thread] < self.quota
 
     def reply(self, thread, word, key):
-        """Executes a call and returns the reply."""
+        """Executes a call and returns its reply."""
         reply = reply_of(word, key, self.keys, self.has_room(thread))
         if word in CHANGES and reply == "true":
             self.change(thread, word, key)

@@ -1,6 +1,6 @@
-"""A model of a schedule's run (lists_model) and of the output of `trace`, written from docs/TEXTS.md alone: a line for
-each event with the value that its step read, the chain after a change, and the end and the linearization point of each
-call.
+"""A model of a schedule's run (lists_model) and of the output of `trace`, written from docs/TEXTS.md alone: one line
+for each event, with the value that its step loaded; the chain after a change; and the end and the linearization point
+of each call.
 """
 
 import collections
@@ -60,7 +60,7 @@ def content(chain):
 
 
 class Tracing:
-    """A run in progress: the parts of its Run that are known so far. On an intact list, the set is computed from the
+    """A run in progress: the parts of the Run that are known so far. On an intact list, the set is computed from the
     chain; on a broken list (a list without one of its checks), from the changes that the rows report.
     """
 
@@ -71,7 +71,7 @@ class Tracing:
         self.lines, self.calls, self.ends, self.points = [], [], {}, {}
 
     def cause(self, t, is_begin):
-        """Returns the cause if an event of a thread is refused, otherwise None."""
+        """Returns the cause if thread `t`'s next event is refused, otherwise None."""
         if t >= self.plan.threads:
             return "NoThread"
         is_busy = self.list.threads[t].pc != 0
