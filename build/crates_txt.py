@@ -1,4 +1,4 @@
-"""Reads crates.txt, which lists the crates and the dependencies of each crate. Also makes copies of the repository
+"""Reads crates.txt, which lists the crates and the dependencies of each crate. `lay_out` makes a copy of the repository
 with some of the crates.
 """
 
@@ -30,14 +30,14 @@ def tests():
 
 
 def static_libraries():
-    """Returns the names of the crates that are static libraries. foreign/build and page/build prove these crates while they
-    build them.
+    """Returns the names of the crates that are static libraries. foreign/build and page/build prove and build the
+    static libraries.
     """
     return [it for it, line in lines_of().items() if line.partition(":")[0].split()[1:] == ["staticlib"]]
 
 
 def below(names, root=TOP, lines=None):
-    """Returns these crates and all their dependencies, dependencies first. (crates.txt lists each crate after its
+    """Returns the crates `names` and all their dependencies, dependencies first. (crates.txt lists each crate after its
     dependencies.)
     """
     lines, wanted = lines or lines_of(root), set(names)
@@ -48,8 +48,9 @@ def below(names, root=TOP, lines=None):
 
 
 def lay_out(to, names, is_whole=False):
-    """Creates a repository with these crates in a folder, without their must-fail edits (edits that the prover must
-    refuse). If `is_whole`, the copy also has the files outside of the crates, so that rt ci checks them.
+    """Creates, in the folder `to`, a copy of the repository that has only the crates `names`, without their must-fail
+    edits (edits that the prover must refuse). If `is_whole`, the copy also has the files outside of the crates, so that
+    rt ci checks these files.
     """
     to.mkdir(parents=True, exist_ok=True)
     (to / ".git").mkdir()

@@ -1,5 +1,5 @@
-"""Stores the verdict of the last complete gate run in the git folder, for build/release. If there are uncommitted changes,
-nothing is stored.
+"""Stores the verdict of the last complete gate run in the git folder, for build/release. Stores nothing if the clone
+has uncommitted changes.
 """
 
 import datetime
@@ -38,8 +38,8 @@ def sum_of(file):
 
 
 def write(commit, passed, failed):
-    """Stores the verdict of a gate run that began at this commit, if the commit is still checked out. Otherwise deletes the
-    previous verdict.
+    """Stores the verdict of a gate run that began at `commit`, if `commit` is still checked out. Otherwise deletes the
+    stored verdict of an earlier run.
     """
     place().unlink(missing_ok=True)
     if commit and commit == clean_commit():

@@ -1,4 +1,4 @@
-"""The lists in crates.txt: their names, and the files outside of their crates that contain these names."""
+"""The lists in crates.txt: the names of each list, and the files outside of its crate that contain these names."""
 
 import os
 import re
@@ -18,7 +18,9 @@ class List:
         self.crate, self.type = f"lset_{self.table}", f"{self.kind}List"
 
     def has_reads(self, root=TOP):
-        """Returns whether `contains` and `ceiling` of the list use no lock, and so have rows in its step table."""
+        """Returns whether the list's `contains` and `ceiling` use no lock. If so, they have rows in the list's step
+        table.
+        """
         return f"impl OpenReads for {self.type}" in (root / "crates" / self.crate / "src/lib.rt").read_text()
 
 
@@ -28,7 +30,8 @@ def lists(root=TOP):
     return [List(it.removeprefix("lset_").replace("_", "-")) for it in found]
 
 
-# The source files that must name each list, and the lines or items that contain the name. build/new_list writes them.
+# Maps each source file that must name every list to the lines or items that contain the name. build/new_list writes
+# these lines.
 CODE = {
     "crates/lset_words/src/lib.rt": ["    {kind},"],
     "crates/lset_text/src/words.rt": ['Kind::{kind} => "{word}"', "is_word_of(piece, Kind::{kind})"],
@@ -42,7 +45,7 @@ CODE = {
 }
 # The crates that use every list's crate, according to crates.txt.
 USERS = ["lset_lists", "lset_live", "tool_replay", "tool_threads"]
-# The files that describe each list in prose. They must be written by hand.
+# The files that describe each list in prose, and that must be written by hand.
 TEXTS = {
     "crates/tool_base/src/faults.rt": ["{word}"],
     "crates/lset_command/src/table.rt": ["{word}"],
@@ -53,20 +56,20 @@ TEXTS = {
 
 
 def add_exercises(root):
-    """Adds the crates of examples/lists to a copy of the repository. Each crate is the copy of a list that the exercise's
-    page describes, with the exercise's patch applied.
+    """Adds the crates of the exercises in examples/lists to a copy of the repository. Each crate is a copy of the list
+    that the exercise's page names, with the exercise's patch applied.
     """
     for patch in sorted((root / "examples/lists").glob("*.patch")):
         words = re.search(r"build/new_list (\S+) (\S+)", patch.with_suffix(".md").read_text()).groups()
         subprocess.run([root / "build/new_list", *words], stdout=subprocess.DEVNULL, check=True)
-        # (git must ignore a repository that contains the copy)
+        # If the copy is inside of a git repository, git must ignore that repository.
         outside = {**os.environ, "GIT_CEILING_DIRECTORIES": str(root.parent)}
         subprocess.run(["git", "apply", "--whitespace=nowarn", patch], cwd=root, env=outside, check=True)
 
 
 def missing(one, places, root=TOP):
-    """Returns a line for each missing text. `places` maps each file to the texts that it must contain, with
-    placeholders for the names of the list `one`. The line states the path of the file and the text.
+    """Returns a line with the file's path and the text for each text that is missing. `places` maps each file to the
+    texts that it must contain, with placeholders for the names of the list `one`.
     """
     texts = {path: (root / path).read_text() for path in places}
     wanted = [(path, form.format(**vars(one))) for path, forms in places.items() for form in forms]

@@ -2,7 +2,7 @@
 `listset help COMMAND`.
 
     python3 build/man_page_and_completions.py man | man -l -       shows the man page
-    source <(python3 build/man_page_and_completions.py bash)       completes in this shell; also: zsh, fish
+    source <(python3 build/man_page_and_completions.py bash)       completes in the current bash; also: zsh, fish
 
 The program is ./listset, or the second argument.
 """
@@ -69,7 +69,7 @@ def man_page(said, version, date):
         parts += [f'.SH "listset {name}"', *filled(text)]
     parts += ['.SH "EXIT STATUS"', *(line for it, text in STATUSES.items() for line in entry(it, text))]
     parts += [".SH EXAMPLES", *(line for it in said.examples() for line in (".PP", ".nf", quoted(it), ".fi"))]
-    # Leaves out an empty paragraph, such as one before an omitted example.
+    # Leaves out an empty paragraph, such as the one before an omitted example.
     parts = [it for it, below in zip(parts, [*parts[1:], ".SH"]) if it != ".PP" or not below.startswith((".PP", ".SH"))]
     return "\n".join(parts) + "\n"
 
@@ -80,13 +80,13 @@ def quoted(text):
 
 
 def entry(name, text):
-    """Returns an entry of a list in roff: a name and the first line of its text."""
+    """Returns a list entry in roff: the name `it`, and the first line of the text about it."""
     return [".TP", f"\\fB{quoted(name)}\\fR", *([quoted(text)] if text else [])]
 
 
 def filled(text):
-    """Returns the lines of a help text in roff: paragraphs, and lists of names with texts. A text can continue on further
-    lines, which are indented more.
+    """Returns the lines of a help text in roff: paragraphs, and lists of names, each with a text. A text can continue
+    on more deeply indented lines.
     """
     for line in text.splitlines():
         if not line:

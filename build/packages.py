@@ -1,6 +1,7 @@
 """Makes the package formats of a release: a .tar.gz, a .deb for dpkg, a wheel for pip, and SHA256SUMS. The input is a
-dict from names to bytes. Equal files make equal packages, because the only times and owners in a package are the given
-ones. (The usual packaging tools write the current date, the owners of files and their own version into a package.)
+dict from names to bytes. Equal files make equal packages, because a package contains only the times and owners that the
+caller passes. (The usual packaging tools write the current date, the owners of files and their own version into a
+package.)
 """
 
 import base64
@@ -17,7 +18,9 @@ MEMBER = "{:<16}{:<12}{:<6}{:<6}{:<8}{:<10}`\n"  # the header of a member in an 
 
 
 def files_below(folder, to="", leave=()):
-    """Returns the files below a folder, except the folders and names in `leave`. The names of the files begin with `to`."""
+    """Returns the files below `folder`, except those whose name or folder is in `leave`. The names in the result begin
+    with `to`.
+    """
     found = (it for it in sorted(folder.rglob("*")) if it.is_file() and it.suffix != ".pyc")
     return {f"{to}{it.relative_to(folder)}": it.read_bytes() for it in found if not set(it.relative_to(folder).parts) & set(leave)}
 
@@ -70,7 +73,7 @@ Description: concurrent list sets, and a judge of recorded calls
 
 
 def wheel(packed_files, version, tag, about):
-    """Returns a Python wheel with these files, for the machines that `tag` names."""
+    """Returns a Python wheel with `packed_files`, for the machines that `tag` names."""
     info = f"listset-{version}.dist-info"
     head = f"Metadata-Version: 2.1\nName: listset\nVersion: {version}\nSummary: Concurrent list sets and a judge of recorded calls\n"
     told = {
@@ -95,5 +98,5 @@ def sum_in_wheel(content):
 
 
 def sums(packed_files):
-    """Returns the file SHA256SUMS for these files, for `sha256sum -c`."""
+    """Returns the contents of SHA256SUMS for `packed_files`, as `sha256sum -c` reads it."""
     return "".join(f"{hashlib.sha256(content).hexdigest()}  {name}\n" for name, content in sorted(packed_files.items())).encode()

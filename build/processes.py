@@ -13,8 +13,8 @@ import time
 
 
 def script(main):
-    """Runs a script's main function and exits with its status. On a signal, first ends the started processes and deletes the
-    temporary folders, then ends the script.
+    """Runs a script's main function and exits with the status that it returns. On a signal, first ends the started
+    processes and deletes the temporary folders, then ends the script.
     """
     def end(number, _):
         global _is_ending
@@ -28,8 +28,8 @@ def script(main):
 
 
 def become(program, words):
-    """Replaces this process by a program with these arguments."""
-    # (Python ignores these two signals, and the program would inherit this setting.)
+    """Replaces the current process by `program` with the arguments `words`."""
+    # Python ignores SIGPIPE and SIGXFSZ. Without SIG_DFL, the program would ignore both signals too.
     for it in (signal.SIGPIPE, signal.SIGXFSZ):
         signal.signal(it, signal.SIG_DFL)
     os.execv(program, [program, *words])
@@ -39,8 +39,8 @@ _guarding, _lock, _is_ending = {}, threading.RLock(), False
 
 
 def _group():
-    """Starts a shell as the leader of a process group. The shell kills the group when this process closes the pipe.
-    Returns the shell and the pipe.
+    """Starts a shell as the leader of a process group. The shell kills the group when the script closes a pipe, or
+    ends. Returns the shell and the pipe.
     """
     ends, held = os.pipe()
     how = {"stdin": ends, "stdout": subprocess.DEVNULL, "stderr": subprocess.DEVNULL}
@@ -50,7 +50,7 @@ def _group():
 
 
 def guarded():
-    """Returns a prefix for a command. When this process ends, even if it is killed, the command and all its child
+    """Returns a prefix for a command. When the script ends, even if it is killed, the command and all its child
     processes are killed.
     """
     with _lock:
@@ -59,13 +59,13 @@ def guarded():
         if os.getpid() not in _guarding:
             _guarding[os.getpid()] = _group()
         guard = _guarding[os.getpid()][0]
-    # (Python ignores the signals SIGPIPE and SIGXFSZ. Without SIG_DFL, the command would ignore them too.)
+    # Python ignores SIGPIPE and SIGXFSZ. Without SIG_DFL, the command would ignore both signals too.
     joins = f"import os, sys, signal as s; os.setpgid(0, {guard.pid}); [s.signal(it, s.SIG_DFL) for it in (s.SIGPIPE, s.SIGXFSZ)]"
     return [sys.executable, "-ISc", f"{joins}; os.execvp(sys.argv[1], sys.argv[1:])"]
 
 
 def end_guarded():
-    """Ends all processes that this process started with `guarded`, and waits until their process group is gone."""
+    """Kills all processes that the script started with `guarded`, and waits until their process group is gone."""
     with _lock:
         if group := _guarding.pop(os.getpid(), None):
             os.close(group[1])
@@ -74,13 +74,13 @@ def end_guarded():
 
 @contextlib.contextmanager
 def room(kind):
-    """Creates a temporary folder that is deleted when this process ends."""
+    """Creates a temporary folder, and deletes it at the end of the `with` block."""
     folder = tempfile.mkdtemp(prefix=f"{kind}-")
     os.chmod(folder, 0o711)  # rt runs programs as the user nobody if rt runs as root; nobody must be able to enter the folder
     try:
         yield pathlib.Path(folder)
     finally:
-        # (processes that have just been killed can still be writing to the folder)
+        # Processes that have just been killed can still be writing to the folder, so deleting it can fail at first.
         for _ in range(20):
             shutil.rmtree(folder, ignore_errors=True)
             if not os.path.exists(folder):

@@ -17,30 +17,30 @@ import version_stamp
 
 SECONDS_BETWEEN = 60  # the time between two lines about the crates in progress
 MINUTES_OF_A_CRATE = 3  # the average time to prove a crate on one processor
-# Match lines of rt's output. IS_DONE: a crate is done ("is kept" if its proof was stored before). IS_ERROR: something
-# is not proved.
+# IS_DONE matches the line in which rt reports that a crate is proved ("is kept" if rt had stored its proof). IS_ERROR
+# matches the lines that report an error or a missing proof.
 IS_DONE = re.compile(r"rt: (\w+) (?:proved|is kept: .*)")
 IS_ERROR = re.compile(r"(^|: )error[:[]|it is not proved that|^rt: \w+ NOT PROVED|^rt: .*FAILED")
 
 
 def note_of(room, name):
-    """Returns the path of a file that exists if and only if a crate has been proved in a folder."""
+    """Returns the path of a file that exists exactly if the crate `name` has been proved in the folder `room`."""
     return room / ".git" / "proved" / name
 
 
 def end_of(room):
-    """Returns the path of a file that exists if and only if build/prove --in has ended."""
+    """Returns the path of a file that exists exactly if build/prove --in has ended."""
     return room / ".git" / "ended"
 
 
 def are_proved(room, names):
-    """Returns whether build/prove --in has proved these crates in a folder."""
+    """Returns whether build/prove --in has proved the crates `names` in the folder `room`."""
     return all(note_of(room, it).exists() for it in names)
 
 
 def wait_for(room, names):
-    """Waits until build/prove --in has proved these crates in a folder, or has ended. Returns whether the crates are
-    proved.
+    """Waits until build/prove --in has proved the crates `names` in the folder `room`, or has ended. Returns whether
+    the crates are proved.
     """
     while not end_of(room).exists() and not are_proved(room, names):
         time.sleep(2)
@@ -48,8 +48,8 @@ def wait_for(room, names):
 
 
 def wait_for_those_below(room, names):
-    """Waits until the dependencies of these crates are proved; raises NotBuilt if one is not. Lowers this process's
-    priority below that of the proofs (nice).
+    """Lowers the script's priority below the priority of the proofs (nice), and waits until the dependencies of the
+    crates `names` are proved. Raises NotBuilt if the proofs end before that.
     """
     os.nice(5)
     if not wait_for(room, [it for it in crates_txt.below(names) if it not in names]):
@@ -57,16 +57,16 @@ def wait_for_those_below(room, names):
 
 
 def prove(room, names, tell, is_whole=False):
-    """Proves these crates in the folder `room` and returns the exit status of rt ci. Each line of output is passed to
-    `tell`, with the folder of the copy replaced by the folder of this repository. The libraries remain in `room`. If `is_whole`,
-    the copy also has the lists of examples/lists.
+    """Proves the crates `names` in the folder `room` and returns the exit status of rt ci. Each line of output is
+    passed to `tell`, with the folder of the copy replaced by the folder of this repository. The libraries remain in
+    `room`. If `is_whole`, the copy also has the lists of examples/lists.
     """
     toolchain.folder()
     crates_txt.lay_out(room, names, is_whole)
     if is_whole:
         lists.add_exercises(room)
     how = {"stdin": subprocess.DEVNULL, "stdout": subprocess.PIPE, "stderr": subprocess.STDOUT, "text": True, "errors": "replace"}
-    # (rt does not delete its own temporary files if it is killed)
+    # If rt is killed, it does not delete its temporary files, so it writes them to a folder that the script deletes.
     with processes.room("rt-ci") as temporary:
         environment = {**os.environ, "TMPDIR": str(temporary)}
         with subprocess.Popen([*processes.guarded(), "rt", "ci"], cwd=room, env=environment, **how) as running:
@@ -76,7 +76,7 @@ def prove(room, names, tell, is_whole=False):
 
 
 def crates_in_work(room):
-    """Returns the crates that processes in a folder are currently proving."""
+    """Returns the crates that processes in the folder `room` are currently proving."""
     found = set()
     for process in pathlib.Path("/proc").glob("[0-9]*"):
         with contextlib.suppress(OSError):
@@ -110,8 +110,8 @@ def telling_each_minute(room, tell, began):
 
 
 def prove_below(room, names, tell):
-    """Proves these crates and their dependencies in the folder `room`. Prints each crate that is done and, once a minute, the
-    crates in progress. Raises NotBuilt if a crate is not proved.
+    """Proves the crates `names` and their dependencies in the folder `room`. Prints each crate that is done and, once a
+    minute, the crates in progress. Raises NotBuilt if a crate is not proved.
     """
     names, lines, done, began = crates_txt.below(names), [], [], time.monotonic()
     processors = len(os.sched_getaffinity(0))
@@ -132,13 +132,13 @@ def prove_below(room, names, tell):
 
 
 def take_program(name, room, began):
-    """Copies a proved program to this repository and stamps it with its commit. Sets its modification time to the start
-    of the build.
+    """Copies a proved program to this repository, stamps it with the commit, and sets its modification time to the
+    start of the build.
     """
     made, program = room / "crates" / name / "out" / name, crates_txt.TOP / "crates" / name / "out" / name
     program.parent.mkdir(exist_ok=True)
     shutil.copy2(made, f"{program}.new")
     version_stamp.stamp(f"{program}.new", version_stamp.PROVED)
-    # (sources that were edited during the build are then younger than the program)
+    # With the start of the build as its time, the program is older than sources that were edited during the build.
     os.utime(f"{program}.new", (began, began))
     os.replace(f"{program}.new", program)

@@ -1,6 +1,6 @@
-"""Parses Rattle sources: the functions of a file with their contracts, and the blocks that contain them. The sources must
-have been formatted by rt fmt: an item ends at the first line with the same indentation that is a bracket or ends with
-one.
+"""Parses Rattle sources: the functions of a file with their contracts, and the blocks that contain them. The sources
+must have been formatted by rt fmt: an item ends at the first line that has the item's indentation and is, or ends with,
+a closing bracket.
 """
 
 import re
@@ -15,7 +15,7 @@ END_OF_SIGNATURE = re.compile(r"\n\s*(?:requires|ensures|//)|\s*\{|;(?![^\[\]\n]
 
 
 def braced(text, start):
-    """Returns the position after the first pair of matching braces that follows `start`."""
+    """Returns the position just after the first pair of matching braces that follows `start`."""
     depth = 0
     for it in re.compile("[{}]").finditer(text, start):
         depth += 1 if it[0] == "{" else -1
@@ -41,14 +41,14 @@ class Block:
 
     @property
     def ghosts(self):
-        """Returns the block's ghost items: definitions, other than functions, that contracts use."""
+        """Returns the block's ghost items: definitions that are no functions and that only contracts use."""
         return "".join(self.text[it.start() : braced(self.text, it.start())] for it in GHOST.finditer(self.text))
 
 
 @dataclass(frozen=True)
 class Function:
-    """A function: the block that contains it (or None), and its lines, counted from 1. `top` is the first line of its
-    comments and attributes; `first` and `last` are the first and the last line of the function itself.
+    """A function: the block that contains the function (or None), and its lines, counted from 1. `top` is the first
+    line of the comments and attributes; `first` and `last` are the first and the last line of the function itself.
     """
 
     block: Block
@@ -83,7 +83,8 @@ class Source:
         return Function(block, head[4], head[2] == "pub ", self.top_of(first, head[1]), first, self.last_of(first, head[1], contract), contract)
 
     def contract_at(self, first):
-        """Returns the signature of the function that begins at a line, with its clauses."""
+        """Returns the signature of the function that begins at line `first`, with its `requires` and `ensures` clauses.
+        """
         text = "\n".join(self.lines[first - 1 :])
         place = END_OF_SIGNATURE.search(text, text.index(")")).start()
         while CLAUSES.match(text, place):
@@ -101,7 +102,7 @@ class Source:
         return next((at for at, text in enumerate(self.lines[first - 1 :], first) if ends.match(text)), first)
 
     def top_of(self, first, depth):
-        """Returns the first line of the comments and attributes above the function that begins at a line."""
+        """Returns the first line of the comments and attributes above the function that begins at line `first`."""
         top = first
         while top > 1 and self.lines[top - 2].strip() and self.lines[top - 2] != depth + "}" and self.lines[top - 2].startswith(depth):
             top -= 1

@@ -30,19 +30,19 @@ def number():
 
 
 def built(proof):
-    """Returns the last two of the four lines, for a build in this repository now."""
+    """Returns the last two of the version text's four lines, for a build of the repository's current state."""
     return PLACE.format(gate_verdict.clean_commit() or NO_COMMIT, proof)
 
 
 def told(proof):
-    """Returns all four lines of the version text, for a build from this repository as it is now."""
+    """Returns all four lines of the version text, for a build of the repository's current state."""
     number, kit = version_and_kit()
     return f"listset {number}\n{kit}\n{built(proof)}"
 
 
 def stamp(file, proof):
-    """Writes the last two lines of the version text into a program or its object file, into the bytes that
-    crates/listset/src/main.rt reserves for them. Returns how often such bytes were found.
+    """Writes the last two lines of the version text into a program or an object file, over the bytes that
+    crates/listset/src/main.rt reserves for them. Returns how often the reserved bytes occur in the file.
     """
     file, place = pathlib.Path(file), PLACE.format(NO_COMMIT, UNKNOWN).encode()
     content = file.read_bytes()
