@@ -142,7 +142,7 @@ final class ForeignCalls {
 
     public static void main(String[] words) throws Throwable {
         int threads = Integer.parseInt(words[1]), calls = Integer.parseInt(words[2]), keys = Integer.parseInt(words[3]);
-        // Warms up: the virtual machine compiles the calls during these runs, so the runs are not timed.
+        // Makes three runs to warm up. They are not timed, because the virtual machine compiles the calls during them.
         for (int at = 0; at < 3; at++) {
             nanoseconds(opened(words[0], threads, WARM_UP_KEYS), WARM_UP_CALLS / threads, WARM_UP_KEYS);
         }

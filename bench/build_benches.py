@@ -1,6 +1,6 @@
-"""Builds the benches: Rattle programs that measure the library. The gate does not prove them. They are proved and built
-in a separate folder, together with their dependencies. In bench/, the names of their files end in `_`, since rt accepts
-.rt and .antt files only in crates.
+"""Builds the benches: Rattle programs that measure the library. The gate does not prove the benches. They are proved
+and built in a separate folder, together with their dependencies. In bench/, the names of the benches' source files end
+in `_`, because rt accepts .rt and .antt files only in crates.
 """
 
 import pathlib
@@ -27,7 +27,7 @@ def lines_with_benches():
 
 
 def lay_out(room, names):
-    """Copies these benches and their dependencies to a folder."""
+    """Copies the benches `names` and their dependencies to the folder `room`."""
     wanted = crates_txt.below(names, lines=lines_with_benches())
     (room / "crates.txt").write_text("".join(f"{lines_with_benches()[it]}\n" for it in wanted))
     shutil.copy2(TOP / "HANDLES", room)
@@ -56,7 +56,7 @@ def program_of(name):
 
 
 def by_rustc(source, room):
-    """Builds a Rust file in bench/ with rustc and returns the program."""
+    """Builds the Rust file `source` in bench/ with rustc and returns the program's path."""
     if not shutil.which("rustc"):
         sys.exit(f"bench: the command rustc is missing: {toolchain.NEEDS['rustc']}")
     program = f"{room}/{source.removesuffix('.rs')}"
@@ -65,7 +65,7 @@ def by_rustc(source, room):
 
 
 def read():
-    """Checks names and types of each bench and its dependencies, without a proof. Returns the exit status."""
+    """Checks the names and types in each bench and its dependencies, without a proof. Returns the exit status."""
     failed = 0
     with tempfile.TemporaryDirectory(prefix="bench-") as room:
         lay_out(pathlib.Path(room), NAMES)

@@ -38,8 +38,9 @@ path = "{source}"
 
 
 def foreign():
-    """Prints the nanoseconds per call on sets of several sizes, with one thread and with four: the elapsed time,
-    divided by the calls of all threads. Each number is the median of several runs, which alternate between the sets.
+    """Prints the nanoseconds per call on sets of several sizes, with one thread and with four threads. Nanoseconds per
+    call are the elapsed time divided by the number of calls of all threads. Each number is the median of several runs,
+    which alternate between the sets.
     """
     if not (OUT / "lib" / "liblistset.a").exists():
         sys.exit("bench: foreign/out is missing: build it with foreign/build")

@@ -6,7 +6,7 @@ use std::time::Instant;
 
 use listset::{open, Added, List, Seat};
 
-/// The three operations that a thread calls.
+/// A set as one thread sees it: the three operations that a thread calls.
 trait Calls: Send {
     fn add(&mut self, key: u32) -> bool;
     fn remove(&mut self, key: u32) -> bool;

@@ -12,7 +12,7 @@ MILLION = 1_000_000
 THREADS, KEYS = 16, 64
 RUNS = 3
 
-# The recordings: name, number of calls, threads and keys, and whether an additional call overlaps all others.
+# The recordings: the name, the numbers of calls, threads and keys, and whether one more call overlaps all calls.
 RECORDINGS = {
     "2 threads": (MILLION, 2, KEYS, False),
     "8 threads": (MILLION, 8, KEYS, False),
@@ -36,7 +36,8 @@ RECORDINGS = {
 def judge():
     """Prints the table of recordings. A time is the minimum of several runs, which alternate between the two judges. A
     size is the peak memory. The instructions per call are counted in a recording with a tenth of the calls. The last
-    column is the number of instructions for the whole recording, divided by the number for this tenth.
+    column is the number of instructions for the whole recording divided by the number for the recording with a tenth of
+    the calls.
     """
     measures = "`judge`, s", "KB", "by hand, s", "KB", "ratio of s", "of KB", "instructions a call", "by hand", "ratio", "ten times"
     heading("Recording", *measures)
@@ -62,10 +63,10 @@ def ratio(ours, hand):
 
 
 def instructions(programs, room, whole, calls, *asked):
-    """Returns the table cells about instructions. The first three are the instructions per call of `judge` and of the
-    judge written by hand, both counted in a recording with a tenth of the calls, and their ratio. The last cell is the
-    number of instructions of `judge` for the whole recording, divided by its number for this tenth, or `-` for a
-    recording of more than a million calls.
+    """Returns the table cells about instructions. The first two cells are the instructions per call of `judge` and of
+    the judge written by hand, counted in a recording with a tenth of the calls; the third cell is their ratio. The last
+    cell is how many times as many instructions `judge` needs for the whole recording as for the recording with a tenth
+    of the calls, or `-` for a recording of more than a million calls.
     """
     file = write(f"{room}/tenth", calls // 10, *asked)
     ours, hand = (instructions_of(words, file) or 0 for words in programs)

@@ -1,8 +1,8 @@
 //! Loads a set server on the loopback, and measures how fast it answers.
 //!   rustc -O load.rs;  load PROTOCOL PORT CLIENTS AT_ONCE REQUESTS KEYS
 //! PROTOCOL is `listset`, or `redis` with a set named `s`. Each client has its own thread and connection and sends
-//! REQUESTS requests, which are prepared before the first one is sent: one third each of add, remove and contains, on
-//! KEYS keys. A client sends AT_ONCE requests in one write, waits for their answers, and then sends the next AT_ONCE
+//! REQUESTS requests on KEYS keys: a third each of add, remove and contains. All requests are prepared before the first
+//! one is sent. A client sends AT_ONCE requests in one write, waits for the answers, and then sends the next AT_ONCE
 //! requests. Prints three numbers: the requests per second, from the first write to the last answer of all clients; and
 //! the median and the 99th percentile of the microseconds from a write to the last of its answers. A read fails after
 //! ten seconds.
@@ -37,7 +37,7 @@ impl Protocol {
         }
     }
 
-    /// Returns `true` if an answer can begin with this byte. listset answers TRUE or FALSE, redis a colon and a number.
+    /// Returns `true` if an answer can begin with `byte`. listset answers TRUE or FALSE, redis a colon and a number.
     fn begins(self, byte: u8) -> bool {
         match self {
             Protocol::Listset => b"TF".contains(&byte),
@@ -92,7 +92,7 @@ fn read_answers(stream: &mut TcpStream, protocol: Protocol, many: usize) {
     }
 }
 
-/// The times of a client: its start, its end, and the time from each write to the last answer to that write.
+/// The times of a client: when it began, when it ended, and how long each write waited for its last answer.
 struct Seen {
     began: Instant,
     ended: Instant,

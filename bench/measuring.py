@@ -31,7 +31,7 @@ def measured_on():
 
 
 def built(name):
-    """Returns the path of the program with this name. If the program is missing, first proves and builds it."""
+    """Returns the path of the program `name`. If the program is missing, first proves and builds it."""
     if name in build_benches.NAMES:
         return build_benches.program_of(name)
     program = f"{TOP}/crates/{name}/out/{name}"
@@ -43,7 +43,9 @@ def built(name):
 
 
 def processor_seconds(process):
-    """Waits for a process and returns its processor time in seconds. Its exit status is then in `returncode`."""
+    """Waits until `process` ends and returns its processor time in seconds. Stores its exit status in
+    `process.returncode`.
+    """
     _, status, used = os.wait4(process.pid, 0)
     process.returncode = os.waitstatus_to_exitcode(status)
     return used.ru_utime + used.ru_stime
@@ -72,8 +74,8 @@ def memory_of(words, given):
 
 
 def instructions_of(words, given):
-    """Returns the number of instructions of a command, counted by valgrind's callgrind. This number does not depend on
-    the load of the machine. Returns None if valgrind is not installed.
+    """Returns the number of instructions that a command executes, counted by valgrind's callgrind. The number does not
+    depend on the load of the machine. Returns None if valgrind is not installed.
     """
     if not shutil.which("valgrind"):
         return None

@@ -3,9 +3,9 @@
 //!   peer each KIND THREADS QUOTA CALLS KEYS SEED     times each call, like `bench_calls KIND each ..`
 //!   peer whole KIND ..                               times rounds of all calls, like `bench_calls KIND whole ..`; here KIND can also be
 //!                                                    `mutex-tree`, which has no quota
-//! The times are printed on standard error. `each` prints two numbers for each operation: the nanoseconds of all
-//! threads, and how many calls were left out because they lasted longer than `LONGEST`, for example because the thread
-//! was preempted. `whole` prints the elapsed nanoseconds. Standard output has the number of calls.
+//! The times are printed on standard error. `each` prints two numbers for each operation: the total nanoseconds of the
+//! calls of all threads, and how many calls were left out because they lasted longer than `LONGEST`, for example
+//! because their thread was preempted. `whole` prints the elapsed nanoseconds. Standard output has the number of calls.
 
 mod lists;
 
@@ -16,7 +16,7 @@ use std::sync::Mutex;
 use std::time::{Duration, Instant};
 
 const LONGEST: u64 = 200_000;
-/// Rounds are repeated until all of them together have lasted this long.
+/// The least total time of all rounds: rounds are repeated until they have lasted this long.
 const ENOUGH: Duration = Duration::from_millis(100);
 const OPS: [(Op, &str); 3] = [(Op::Add, "add"), (Op::Remove, "remove"), (Op::Contains, "contains")];
 
@@ -51,7 +51,7 @@ impl Pcg {
     }
 }
 
-/// The arguments, in the order of `listset run`.
+/// The arguments, in the order in which `listset run` has them.
 struct Wanted {
     threads: u64,
     quota: u64,
@@ -67,7 +67,7 @@ impl Wanted {
         Wanted { threads, quota, calls, keys, seed }
     }
 
-    /// Returns the calls of a thread.
+    /// Returns the calls that thread number `thread` makes.
     fn program(&self, thread: u64) -> Vec<Call> {
         let mut drawn = Pcg::seeded(self.seed.wrapping_add(thread));
         let call = |_| {
@@ -82,7 +82,7 @@ impl Wanted {
     }
 }
 
-/// Waits until `many` threads have arrived.
+/// Waits until `many` threads have called `meet`.
 fn meet(there: &AtomicUsize, many: usize) {
     there.fetch_add(1, SeqCst);
     while there.load(SeqCst) < many {
@@ -158,8 +158,8 @@ fn each(kind: Kind, wanted: &Wanted) {
     }
 }
 
-/// Times rounds of all calls, each on a new set. A round lasts from the first call of the first thread to the end of the last
-/// thread.
+/// Times rounds, each on a new set. In a round, every thread makes all its calls. A round lasts from the start of the
+/// first thread's first call to the end of the last thread.
 fn whole<S: Sync>(wanted: &Wanted, new: impl Fn() -> S, make_calls: impl Fn(&S, u64, &[Call]) + Sync) {
     let programs = wanted.programs();
     let (mut calls, mut spent) = (0, Duration::ZERO);

@@ -23,7 +23,7 @@ REDIS_STARTS_WITHIN = LOAD_ENDS_WITHIN = 60  # seconds
 
 @contextlib.contextmanager
 def ended(process):
-    """Kills the process at the end of the block if the process has not exited by itself."""
+    """Kills `process` at the end of the `with` block, if it has not ended by itself."""
     try:
         yield process
     finally:
@@ -33,14 +33,14 @@ def ended(process):
 
 @contextlib.contextmanager
 def listset(tool, kind, clients):
-    """Starts the program as a server for this number of clients, and returns the server's port."""
+    """Starts the program `tool` as a server for `clients` clients, and returns the server's port."""
     words = [tool, "serve", kind, str(clients), "16384", "0", str(clients)]
     with ended(subprocess.Popen(words, stdout=subprocess.PIPE, text=True)) as process:
         yield process.stdout.readline().rpartition(":")[2].strip()
 
 
 def answers(port):
-    """Returns whether a server on the port accepts a connection."""
+    """Returns whether a server on `port` accepts a connection."""
     with contextlib.suppress(OSError), socket.create_connection(("127.0.0.1", port), timeout=1):
         return True
     return False
@@ -62,7 +62,7 @@ def redis(program, _kind, _clients):
 
 
 def loaded(load, protocol, server, clients, at_once):
-    """Returns the requests per second and the 99th percentile of the time of a write, in microseconds."""
+    """Returns the requests per second, and the 99th percentile of the microseconds from a write to its last answer."""
     with server(clients) as port:
         words = [load, protocol, port, str(clients), str(at_once), REQUESTS[at_once], KEYS]
         told = subprocess.run(words, stdout=subprocess.PIPE, text=True, check=True, timeout=LOAD_ENDS_WITHIN).stdout
@@ -71,8 +71,8 @@ def loaded(load, protocol, server, clients, at_once):
 
 
 def server():
-    """Prints the table of servers: thousands of requests per second, and the 99th percentile of the microseconds per
-    write. Each number is the median of several rounds, which alternate between the servers.
+    """Prints the table of servers: thousands of requests per second, and the 99th percentile of the microseconds from a
+    write to its last answer. Each number is the median of several rounds, which alternate between the servers.
     """
     tool = built("listset")
     servers = {kind: ("listset", lambda clients, kind=kind: listset(tool, kind, clients)) for kind in KINDS}

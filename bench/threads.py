@@ -17,8 +17,8 @@ MANY_RUNS = 25
 
 
 def calls():
-    """Prints the table of calls by operation. Each number is the time of the calls divided by the time of the list written by
-    hand. It is the median of several runs, which alternate between the two programs.
+    """Prints the table of calls by operation. Each number is the library's time divided by the time of the list written
+    by hand, and is the median of several runs, which alternate between the two programs.
     """
     timer, kind_names = built("bench_calls"), ("add", "remove", "contains")
     heads = (f"`{call}`" + f", {named(many)}" * (call == "add") for many in THREADS for call in kind_names)

@@ -1,10 +1,10 @@
 """Checks docs/BELIEVE.md and believed.txt, which list the definitions that a reader of the public contracts must
-believe. Reports definitions and files that are missing there, and names of definitions, functions and clauses that do
-not exist.
+believe. Reports definitions and files that the two lists lack, and names on the lists for which no definition, function
+or clause exists.
 
-The search begins with the names in the signature and the clauses of each public function, and in the statements of
-public types and traits. It follows definitions by name. It does not follow lemmas, which the prover checks, or
-invariants of types.
+The search for definitions begins with the names in the signature and the clauses of each public function, and in the
+statements of public types and traits. It continues with the names in each definition that it finds, but not into
+lemmas, which the prover checks, or into invariants of types.
 """
 
 import functools
@@ -21,7 +21,7 @@ USE = re.compile(r"^\s*(?:ghost )?(?:pub )?use Rattle\.([^\s{;]+?)(?:\.\{([^}]*)
 KINDS = {"abbrev", "unfoldable", "opaque", "record", "data"}
 IMPORT = re.compile(r"(?:pub )?(?:use|mod|infixl|infixr|infix|syntax)\b")
 HEAD = re.compile(rf"((?:(?:pub|{'|'.join(KINDS)}) )*)({NAME})((?: [({{].*?[)}}])* :)?")
-# Matches functions in a cell of a table, followed by clauses in parentheses.
+# Matches the functions in a table cell, and the clauses that follow the functions in parentheses.
 SAID_BY = re.compile(r"((?:`[a-z]\w+::[\w:{}, ]+`,? ?)+)(?:\(((?:`\w+`,? ?)+)\))?")
 IN_BRACKETS = re.compile(r"(?<!\w)\[([A-Z][a-z ][^][]*)\](?!\()")
 
@@ -38,7 +38,7 @@ class Module(NamedTuple):
 
 
 def uses(text):
-    """Returns the imports of a file: a dict of the imported names, and a dict of the modules with another name."""
+    """Returns the imports of a file: a dict of the imported names, and a dict of the modules that the file renames."""
     names, modules = {}, {}
     for path, listed, other in USE.findall(text):
         for entry in filter(None, (listed or "").split(",")):
@@ -77,8 +77,8 @@ def modules():
 
 
 def named(text, sign, names, others, own=()):
-    """Yields the definitions that a text names outside of comments, as pairs of module and name. A definition of the
-    same file has no module.
+    """Yields the definitions that `text` names outside of comments, as pairs of module and name. A definition of the
+    file that contains `text` has no module.
     """
     text = " ".join(re.sub(rf"(^|\s){sign}.*", "", text, flags=re.M).split())
     text = re.sub(r"\bpub " + NAME + r" :", ":", re.sub(r"(?<=[{;])\s*" + NAME + r"\s*=(?![=>])", "", text))
@@ -143,22 +143,22 @@ def reached(items=""):
 
 
 def print_reached():
-    """Prints each file that has definitions which public contracts reach, with the names of these definitions."""
+    """Prints each file with definitions that public contracts reach, and the names of the definitions."""
     for path, module in modules().items():
         if names := [it for it in module.definitions if (path, it) in reached()]:
             print(f"{module.file}: {', '.join(names)}")
 
 
-# For each row of the page's table of line counts, a pattern that matches the functions that the row is about. The key of the
-# dict is the row's first word in code font or, if none is in code font, the row's first word.
+# Maps each row of the page's table of line counts to a pattern that matches the functions that the row is about. The
+# key is the row's first word in code font or, if none is in code font, the row's first word.
 OF_ROWS = {"check_order": "lset_history::check_order$", "laws": "lset_steps::laws::", "headline": "lset_lists::runs_are_linearizable$",
            "replay": "lset_replay::replay$", "LiveSet::call": "lset_live::LiveSet::call$", "LiveSet::close": "lset_live::LiveSet::close$",
            "work": "lset_work::work$", "session": "lset_session::session$", "serve": "lset_server::serve$", "everything": ""}  # fmt: skip
 
 
 def wrong_numbers(page):
-    """Yields the rows in the page's table of line counts with a number that is wrong by more than a twentieth. The right
-    number is the number of lines in the definitions that the row's contracts reach.
+    """Yields the rows of the page's table of line counts whose number is wrong by more than a twentieth. The right
+    number is the number of lines of the definitions that the row's contracts reach.
     """
     said = {row: int(number) for row, number in re.findall(r"^\| (.*) \| (\d+) \|$", page, re.M)}
     for word, items in OF_ROWS.items():
@@ -170,7 +170,7 @@ def wrong_numbers(page):
 
 
 def entries():
-    """Yields each line of believed.txt: a file, and the names that it defines."""
+    """Yields the file and the defined names in each line of believed.txt."""
     for line in BELIEVED.read_text(encoding="utf-8").splitlines():
         if line and not line.startswith("#"):
             file, _, names = line.partition(": ")
@@ -191,7 +191,7 @@ def file_faults():
 
 
 def name_faults(top, rows):
-    """Yields two kinds of errors: a name in brackets, in a comment or on a page, that no definition has; and a
+    """Yields two kinds of errors: a name in brackets, in a comment or on a page, for which no definition exists; and a
     definition that no row names.
     """
     known = {name for _, names in entries() for name in names}
@@ -204,8 +204,8 @@ def name_faults(top, rows):
 
 
 def function_faults(rows):
-    """Yields a message for each function that is named in `rows` but does not exist. Also yields a message for each
-    clause named there that is not an `ensures` clause of the functions listed with it.
+    """Yields a message for each function in `rows` that does not exist, and for each clause in `rows` that is not an
+    `ensures` clause of the functions in the same row.
     """
     stated = {}
     for crate, name, text, _ in public_contracts():
@@ -220,6 +220,6 @@ def function_faults(rows):
 
 
 def is_declared(crate, name):
-    """Returns whether a crate declares a function, type or trait with this name."""
+    """Returns whether `crate` declares a function, type or trait named `name`."""
     declared = re.compile(rf"\b(?:fn|struct|enum|trait|type|mod) {name.rpartition('::')[2]}\b")
     return any(declared.search(it.read_text(encoding="utf-8")) for it in (CRATES / crate / "src").rglob("*.rt"))

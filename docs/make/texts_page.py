@@ -1,6 +1,6 @@
-"""Makes generated parts of two pages. The tables of errors in docs/TEXTS.md come from the sources: the comments of the causes,
-and the text of `listset faults`. The usage and arguments of the commands in docs/COMMANDS.md come from `listset help`. Also
-reports limits in docs/TEXTS.md that differ from the sources.
+"""Generates parts of two pages. The tables of errors in docs/TEXTS.md come from the sources: the comments of the
+causes, and the text of `listset faults`. The usage and arguments of the commands in docs/COMMANDS.md come from `listset
+help`. Also reports limits in docs/TEXTS.md that differ from the sources.
 """
 
 import re
@@ -14,16 +14,16 @@ def table(head, rows):
 
 
 def faults_below(top, head):
-    """Returns the entries of `listset faults` below a line that begins with `head`: the name of each error and the first
-    line of its text.
+    """Returns the entries in the output of `listset faults` below a line that begins with `head`: the name of each
+    error, and the first line of the error's text.
     """
     said = (top / "crates/tool_base/src/faults.rt").read_text().split(f"\n{head}")[1].split("\n\n")[0]
     return dict(re.findall(r"^  (\S+) +(.*?)\.?$", said, re.M))
 
 
 def table_of_causes(top):
-    """Returns the table of causes that refuse a line: the comment of each variant of `Cause`, and the files that `listset
-    faults` names for it.
+    """Returns the table of causes for which a line is refused: the comment of each variant of `Cause`, and the kinds of
+    files that `listset faults` names for the variant.
     """
     text = (top / "crates/lset_text/src/causes.rt").read_text()
     causes = re.findall(r"((?:^    /// .*\n)+)    (\w+),$", text.split("pub enum Cause {")[1].split("\n}")[0], re.M)
@@ -39,7 +39,7 @@ def table_of_causes(top):
 
 
 def table_of_orders(top):
-    """Returns a table, taken from `listset faults`, of the errors that make `listset check` refuse an order."""
+    """Returns the table of the errors for which `listset check` refuses an order, taken from `listset faults`."""
     return table(["Fault", "When"], [[f"`{name}`", when] for name, when in faults_below(top, "refused FAULT ID").items()])
 
 
