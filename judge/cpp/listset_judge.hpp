@@ -3,15 +3,15 @@
 //     auto verdict = listset::judge<MySet>();
 //     ASSERT_TRUE(verdict) << verdict;             // GoogleTest; any other: if (!verdict) std::cerr << verdict
 //
-// MySet has add, remove and contains; or insert, erase, and contains or count. Threads call new sets, and the start and
-// the end of each call are recorded. A judge decides whether some order of the calls explains their replies.
+// MySet has add, remove and contains; or insert, erase, and contains or count. Threads call new sets. The start and the
+// end of each call are recorded. A judge decides whether some order of the calls explains their replies.
 //
 // The judge is liblistset if <listset.h> is included before this file. Otherwise it is the program named by the
 // environment variable LISTSET or, if that is not set, `listset` in PATH. LISTSET can also name a listset.js, which is
 // run with node. If LISTSET is `skip`, nothing is judged.
 //
-// If this process has only one thread, each run gets its own process. If a set crashes or hangs there, the calls made
-// so far are judged. Requires C++17, -pthread and a POSIX system.
+// If the test's process has only one thread, each run gets its own process. If a set crashes or hangs in a run's own
+// process, the calls made so far are judged. Requires C++17, -pthread and a POSIX system.
 #pragma once
 #include <algorithm>
 #include <atomic>
@@ -52,7 +52,7 @@
 #include <sys/syscall.h>
 #endif
 
-// Parts of GoogleTest, which a test includes before or after this file, or not at all.
+// Declarations of parts of GoogleTest. A test can include GoogleTest before or after this file, or not at all.
 namespace testing {
 class Message;
 class TestPartResult;
@@ -62,8 +62,8 @@ class AssertHelper;
 }  // namespace testing
 
 namespace listset {
-// (The inner namespace has a name that depends on this macro, because two files of one program can define it
-// differently.)
+// The name of the inner namespace depends on whether LISTSET_H is defined, because LISTSET_H can be defined in one file
+// of a program and not in a second one.
 #ifdef LISTSET_H
 inline namespace judged_by_library {
 #else
@@ -76,33 +76,36 @@ struct options {
     /// The number of threads that call a set at the same time: 1 to 64. 0 selects the preset's number.
     unsigned threads = 0;
     /// The number of calls of each thread: at least 1, and at most 1,000,000,000 for all threads together. 0 selects
-    /// the preset's number. After every 20,000 calls of all threads together, the threads wait until these calls are
-    /// written to the file.
+    /// the preset's number. After every 20,000 calls of all threads together, the threads wait until the calls are
+    /// written to the recording's file.
     unsigned calls = 0;
     /// The number of keys: 1 to 1,048,576. 0 selects the preset's number. With more than eight keys, half of the calls
     /// use the first four.
     unsigned keys = 0;
-    /// How often a thread pauses before a call, in percent: 0 to 100. A pause lasts at most a few microseconds. If this
-    /// is not 0 and the set has its own process, the signal SIGURG also interrupts threads during calls.
+    /// How often a thread pauses before a call, in percent: 0 to 100. A pause lasts at most a few microseconds. If
+    /// `pauses` is not 0 and the set has its own process, the signal SIGURG also interrupts threads during calls.
     unsigned pauses = 20;
     /// The number of runs: 1 to 1,000,000. A run calls one set, or several new sets one after another.
     unsigned runs = 20;
     /// The random seed for the calls, keys and pauses of the first run. Each later run uses the next seed. If the first seed
     /// is not 1, no further runs follow a refusal.
     unsigned seed = 1;
-    /// If no call begins or ends for this many seconds, a run is considered hung and is cut short: 1 to 3,600.
+    /// A run is considered hung, and is cut short, if no call begins or ends for this many seconds: 1 to 3,600.
     unsigned seconds = 30;
-    /// The time limit for the test in seconds, 1 to 604,800. No run starts after this time.
+    /// The time limit for the test in seconds: 1 to 604,800. No run starts after the limit.
     unsigned within = 60;
-    /// The verdict is false if less than this percentage of the calls overlap a call that adds or removes the same key.
+    /// The least percentage of calls that must overlap a call that adds or removes the same key: if fewer do, the
+    /// verdict is false.
     unsigned at_least = 0;
     /// The relative frequencies of add, remove and contains.
     unsigned adds = 1, removes = 1, finds = 1;
-    /// If false, sets are called in this process, which crashes or hangs with them. Useful for debuggers and coverage.
+    /// If false, sets are called in the test's process, which then crashes or hangs if a set does. Useful for debuggers
+    /// and coverage.
     bool own_process = true;
     /// If true, `contains` is called for each key before all other calls to record the opening keys.
     bool opens_with_keys = false;
-    /// Called at the beginning and at the end of each thread that creates or calls the set.
+    /// Functions that each thread that creates or calls a set calls at its beginning (`begins`) and at its end
+    /// (`ends`).
     std::function<void()> begins = nullptr, ends = nullptr;
     /// The folder for the recordings of all runs. If empty, only the recording of a failed run is kept, in the folder that
     /// the variable LISTSET_RECORD names, or else in TMPDIR or /tmp.
@@ -113,7 +116,7 @@ struct options {
 /// of the calls overlapped a call that added or removed the same key. `<<` prints it.
 struct verdict {
     bool ok = true;
-    /// Whether the test was skipped because of LISTSET=skip, so that nothing was judged.
+    /// Whether the test was skipped because LISTSET is `skip`, so that nothing was judged.
     bool is_skipped = false;
     uint64_t calls = 0;
     /// The number of calls that overlapped a call that added or removed the same key, as counted by the judge.
@@ -122,9 +125,9 @@ struct verdict {
     uint64_t seed = 0;
     /// The judge's output about the failed run, and the file with the run's recording.
     std::string said, file;
-    /// The name of the judge, and what the judge states about its own proof.
+    /// The name of the judge, and whether the judge states that it is proved.
     std::string judge;
-    /// The complete message.
+    /// The complete message about the test.
     std::string text;
     explicit operator bool() const { return ok; }
 };
@@ -263,8 +266,8 @@ inline constexpr auto by_erase = [](auto &set, auto &key) -> decltype(set.erase(
 inline constexpr auto by_contains = [](auto &set, auto &key) -> decltype(set.contains(key)) { return set.contains(key); };
 inline constexpr auto by_count = [](auto &set, auto &key) -> decltype(set.count(key)) { return set.count(key); };
 
-// Whether a set of type S has at least one of these calls for a key of type K. `called` calls the first of these names that
-// the set has.
+// Returns whether a set of type S has at least one of the methods `Calls` for a key of type K. `called` calls the first
+// method among its arguments that the set has.
 template <class S, class K, class... Calls> constexpr bool has(const Calls &...) { return (std::is_invocable_v<Calls, S &, const K &> || ...); }
 
 template <class S, class K, class First, class... Others> reply called(S &set, const K &key, First first, Others... others) {
@@ -276,8 +279,8 @@ template <class S, class K, class First, class... Others> reply called(S &set, c
 
 enum phase { GOING, OVER, FAILED, UNMADE };
 
-// A recorded call. Its thread writes the record when the call begins, and completes the record when the call ends. After an
-// unknown reply, the thread continues under a new thread number.
+// A recorded call. The calling thread writes the record when the call begins, and completes it when the call ends.
+// After a call with an unknown reply, the thread continues under a new thread number.
 struct slot {
     unsigned thread, key;
     kind call;
@@ -286,7 +289,7 @@ struct slot {
 };
 
 // How much of a run is in the file: the length of the file, and the value of `tickets` at the last save. The file
-// contains all calls that had begun by then.
+// contains all calls that had begun by the last save.
 struct saved {
     uint64_t length = 0;
     unsigned moment = 0;
@@ -320,7 +323,7 @@ struct area {
 
     size_t count() const { return size_t(of.threads) * rows; }
 
-    // Calls a function and stores the exception that it throws, if any. Only the first exception is kept.
+    // Calls a function and stores the exception that it throws, if any. Only the run's first exception is kept.
     template <class F> void tries(phase as, F call) {
         try {
             call();
@@ -345,8 +348,8 @@ struct area {
         return !is_stopping;
     }
 
-    // Waits until all threads have called this function, so that they continue at the same time. Polls without sleeping if
-    // there is a processor for each thread, unless an earlier wait of this kind lasted too long.
+    // Waits until all threads have called `meet`, so that they continue at the same time. Polls without sleeping if
+    // there is a processor for each thread, unless an earlier call of `meet` lasted too long.
     void meet() {
         const unsigned all = there++ / of.threads * of.threads + of.threads;
         const unsigned awake = of.threads <= std::thread::hardware_concurrency() && !is_busy ? AWAKE : LONGEST;
@@ -355,23 +358,23 @@ struct area {
         if (looks > awake + LONGEST) is_busy = true;
     }
 
-    // Returns whether interrupted threads should sleep for longer. On a busy machine, a thread is seldom preempted during a
-    // call: often it has finished all its calls before it is preempted.
+    // Returns whether interrupted threads should sleep for longer. On a busy machine, a thread is seldom preempted
+    // during a call, because it has often completed all its calls before the system preempts it.
     bool interrupts_longer() const { return is_busy || of.meets_once; }
 };
 
 constexpr const char *WORDS[] = {"add", "remove", "contains"};
 
-// Returns the line of a call whose key has this number in the recording.
+// Returns the line of a call in a recording, where the call's key is `key` and its end is `end`.
 inline std::string line_of(const slot &it, unsigned key, unsigned end) {
     std::string text = "call " + std::to_string(it.thread) + " " + WORDS[int(it.call)] + " " + std::to_string(key) + " " + std::to_string(it.begin) + " ";
     const bool is_open = end == 0 || it.answer == reply::unknown;
     return text + (is_open ? "- -\n" : std::to_string(end) + (it.answer == reply::yes ? " true\n" : " false\n"));
 }
 
-// Returns the lines of the calls that have not been saved, ordered by start, and the pending calls. Threads can
-// begin and end calls meanwhile: a call that begins after the start of this function is left out, and a call that ends after
-// the start of this function is pending.
+// Returns the lines of the calls that have not been saved, ordered by start, and the pending calls. Threads can begin
+// and end calls while `lines_of` runs: a call that begins meanwhile is left out, and a call that ends meanwhile is
+// pending.
 inline std::pair<std::string, std::vector<const slot *>> lines_of(const area &from) {
     const unsigned now = from.tickets, since = from.saves[from.save].moment;
     std::map<unsigned, std::pair<const slot *, unsigned>> found;
@@ -388,12 +391,13 @@ inline std::pair<std::string, std::vector<const slot *>> lines_of(const area &fr
     return {lines, under_way};
 }
 
-// Interrupts its thread during some calls, by a timer that sends the signal SIGURG. The thread then sleeps for a microsecond.
-// On a busy machine, the thread sleeps repeatedly until other threads have executed calls, at most PATIENT times. A signal
-// between two calls has no effect, and the timer is started again. Works on Linux only.
+// Interrupts the current thread during some calls, by a timer that sends the signal SIGURG. The interrupted thread
+// sleeps for a microsecond. On a busy machine, it sleeps repeatedly, at most PATIENT times, until other threads have
+// made calls. If the signal arrives between two calls, it has no effect, and the timer is started again. Works on Linux
+// only.
 struct stops {
 #ifdef __linux__
-    // What the signal handler reads and writes in its thread.
+    // The variables of a thread that its signal handler reads and writes.
     struct state {
         const area *run = nullptr;
         std::atomic<bool> is_in_call{false}, is_missed{false};
@@ -422,8 +426,8 @@ struct stops {
         errno = before;
     }
 
-    // Starts the timer before STOPS of `calls` calls, and after a signal between two calls before one in AGAIN. Must be called
-    // before each of these calls.
+    // Starts the timer before about STOPS of `calls` calls. After a signal that arrived between two calls, starts it
+    // before one call in AGAIN instead. Must be called before each of the `calls` calls.
     void before_call(uint64_t calls) {
         const uint64_t starts = its.is_missed ? std::max(calls / AGAIN, uint64_t(STOPS)) : STOPS;
         if (timer < 0 || draw() % calls >= starts) return;
@@ -433,7 +437,7 @@ struct stops {
         syscall(SYS_timer_settime, timer, 0, &in, nullptr);
     }
 
-    // Executes a call of the set. Only here does a signal interrupt the thread.
+    // Makes a call to the set. A signal interrupts the thread only during `in_call`.
     template <class Call> reply in_call(Call call) {
         its.is_in_call.store(true, std::memory_order_relaxed);
         std::atomic_signal_fence(std::memory_order_seq_cst);
@@ -472,10 +476,10 @@ struct stops {
 #endif
 };
 
-// Lets two threads begin calls at the same time, for races that last only nanoseconds. On a busy machine, threads are seldom
-// on two processors at once. So a thread polls for a partner before a call, and both continue only if the partner polls too.
-// Half of the calls then use two neighboring keys, which change after every MEET calls. This happens in runs with an
-// odd seed, unless `pauses` is 0.
+// Lets two threads begin calls at the same time, for races that last only nanoseconds. On a busy machine, threads are
+// seldom on two processors at once. So a thread polls for a partner before a call, and both threads continue when the
+// partner polls too. Half of the calls then use two neighboring keys, which change after every MEET calls. Only runs
+// with an odd seed have partners, and only if `pauses` is not 0.
 struct partners {
     area &run;
     const unsigned thread;
@@ -494,12 +498,13 @@ struct partners {
         run.ended++;
     }
 
-    // Returns whether all other threads have ended this block of calls.
+    // Returns whether all other threads have completed the current block of calls.
     bool is_alone() const { return run.ended >= (blocks + 1) * run.of.threads - 1; }
 
     unsigned key_or(unsigned other) { return is_on && draw() % 2 ? (first_key + unsigned(draw() % 2)) % run.of.keys : other; }
 
-    // Polls for at most ALERT microseconds for a thread that polls at the same time. Never sleeps: a thread that sleeps would wake up too late.
+    // Polls for at most ALERT microseconds, and returns whether a second thread polled at the same time. Never sleeps,
+    // because a sleeping thread would wake up too late.
     bool polls() {
         unsigned mine = thread + 1, other = run.alert;
         if (other != 0) return run.alert.compare_exchange_strong(other, 0);
@@ -510,7 +515,8 @@ struct partners {
         return !run.alert.compare_exchange_strong(mine, 0);
     }
 
-    // Waits for a partner. At most TRIES waits of a run end without one. Returns whether two threads can now begin their calls.
+    // Waits for a partner. A thread stops waiting for partners after TRIES waits without one. Returns whether two
+    // threads can now begin their calls.
     bool meet() {
         near = is_on ? unsigned(draw() % NEAR) : 0;
         while (is_on && tries > 0 && !is_alone() && !run.is_stopping) {
@@ -521,13 +527,14 @@ struct partners {
         return false;
     }
 
-    // Delays a call by up to some hundred nanoseconds, because one of two partners always continues a bit earlier.
+    // Delays a call by up to some hundred nanoseconds, because of two partners the same one always continues a bit
+    // earlier.
     void delay() const {
         for (volatile unsigned left = near; left > 0; left = left - 1) {}
     }
 };
 
-// Creates the sets of a run and calls them.
+// Creates the sets of a run, and makes the calls of all threads to them.
 template <class Make, class K> struct maker {
     using pointer = std::invoke_result_t<Make &>;
     using set_type = typename std::pointer_traits<pointer>::element_type;
@@ -561,7 +568,7 @@ template <class Make, class K> struct maker {
         return unsigned(draw()) % below;
     }
 
-    // Executes the calls of one thread on a set, up to the next save of the recording.
+    // Makes the calls of one thread to a set, up to the next save of the recording.
     void call_set(area &run, unsigned round, unsigned &number, std::mt19937 &draw, stops &own, partners &others) {
         set_type &its = *set;
         slot *at = run.slots + size_t(others.thread) * run.rows;
@@ -600,11 +607,11 @@ template <class Make, class K> struct maker {
         if (how.ends) how.ends();
     }
 
-    // For the opening and the final keys, `contains` is called at most this often for a key, as long as its outcome is
-    // unknown.
+    // The most calls of `contains` that try to find out whether a key is an opening or final key. A call is repeated
+    // while its outcome is unknown.
     static constexpr unsigned MOST_ASKED = 100;
 
-    // Calls `contains` for each key, and retries if the outcome is unknown. Returns a line for each key found.
+    // Calls `contains` for each key, and calls it again if the outcome is unknown. Returns a line for each key found.
     std::string lines_of_keys(area &run, const char *word, unsigned round) {
         std::string lines;
         for (unsigned key = 0; key < run.of.keys; key++, run.tickets++) {
@@ -620,7 +627,7 @@ template <class Make, class K> struct maker {
         if (!(file << lines << std::flush)) run.fail(UNMADE, "its recording cannot be written");
     }
 
-    // Appends lines to the file and marks all calls so far as saved. No thread is in a call meanwhile.
+    // Appends `lines` to the file and marks all calls so far as saved. No call is pending while `save` runs.
     void save(area &run, const std::string &lines) {
         const unsigned now = run.save;
         write(run, lines);
@@ -628,8 +635,8 @@ template <class Make, class K> struct maker {
         run.save = 1 - now;  // (if the process ends before this step, its last calls are only in memory)
     }
 
-    // Creates the sets one after another. The threads call each set in parts (a part is the calls between two saves). After
-    // each part, writes its calls to the file.
+    // Creates the sets one after another. The threads call each set in parts, and after each part, `lead` writes the
+    // part's calls to the file.
     void lead(area &run, pointer &own) {
         std::string left, lines = "listset-calls 1\n";
         for (unsigned round = 0; round < run.rounds; round++, lines = "") {
@@ -653,8 +660,8 @@ template <class Make, class K> struct maker {
         write(run, run.is_end_known ? left + "end\n" : "cut\n");  // (lines not marked as saved: the run can still be cut short)
     }
 
-    // Runs all threads. `is_own` is true if this process was started for the set. Only then can threads be interrupted
-    // during calls.
+    // Runs all threads. `is_own` is true if the process was started for the set. If it is false, threads are not
+    // interrupted during calls.
     void all(area &run, bool is_own) {
         std::vector<std::thread> threads;
         for (unsigned i = 0; i < run.of.threads; i++)
@@ -670,9 +677,9 @@ template <class Make, class K> struct maker {
     }
 };
 
-// Waits until `is_done` returns true. Returns false at the time `until`, or if no call begins or ends for `seconds` seconds.
-// The time between two polls counts as at most five milliseconds, so that a run that gets no processor for a long time does
-// not count as hung.
+// Waits until `is_done` returns true. Returns false at the time `until`, or if no call begins or ends for `seconds`
+// seconds. The time between two polls counts as at most five milliseconds, so that a run that gets no processor for a
+// long time is not considered hung.
 template <class Done> bool comes_to_end(const area &run, unsigned seconds, clock::time_point until, Done is_done) {
     unsigned seen = run.tickets;
     clock::duration waited{};
@@ -686,7 +693,7 @@ template <class Done> bool comes_to_end(const area &run, unsigned seconds, clock
     return true;
 }
 
-// Returns whether this thread is the only thread of its process. If there were a second thread, it could hold a lock during a
+// Returns whether the current thread is the only thread of its process. A second thread could hold a lock during a
 // fork.
 inline bool is_alone() {
     std::error_code none;
@@ -716,8 +723,8 @@ template <class Maker> std::string made_in_child(Maker &by, area &run, clock::ti
     return run.at < OVER || ended != 0 ? say(ENDED_SO, ended) : "";
 }
 
-// Performs a run in threads of this process. Threads that hang keep running. Returns the reason if the run was cut short,
-// otherwise an empty string.
+// Performs a run in threads of the current process. Threads that hang keep running. Returns the reason if the run was
+// cut short, otherwise an empty string.
 template <class Maker> std::string made_here(std::shared_ptr<Maker> by, std::shared_ptr<area> run) {
     const auto is_over = std::make_shared<std::atomic<bool>>(false);
     std::thread leader([=] {
@@ -743,13 +750,13 @@ struct answer {
 
 inline std::string stripped(const std::string &text) { return text.substr(0, text.find_last_not_of('\n') + 1); }
 
-// Returns the judge's line that states whether the judge is proved.
+// Returns the line of output in which the judge states whether it is proved correct.
 inline std::string proof_in(const std::string &version) {
     const size_t at = ("\n" + version).find("\nproof ");
     return at == std::string::npos ? "proof unknown" : version.substr(at, version.find('\n', at) - at);
 }
 
-// The judge of a test: its name, what it states about its own proof, and how to call it.
+// The judge of a test: its name, whether it states that it is proved, and how to call it.
 struct judge_found {
     std::string name, proof;
     std::function<answer(const std::string &file)> asked_of;
@@ -783,7 +790,7 @@ inline std::string quoted(const std::string &word) {
     return text + "'";
 }
 
-// Returns whether a command exists. Without this check, the shell would print its own message.
+// Returns whether a command exists. Without the check, the shell would print a message of its own.
 inline bool is_command(const std::string &name) { return !std::system(("command -v " + quoted(name) + " >/dev/null 2>&1").c_str()); }
 
 inline void check_script(const std::string &name) {
@@ -821,8 +828,8 @@ inline judge_found find_judge() {
 }
 #endif
 
-// Judges a recording. Returns two values: the judge's output if no order explains the calls, otherwise an empty string;
-// and the number of calls that overlapped a call that changed the same key.
+// Judges a recording. The first value of the result is the judge's output if no order explains the calls, otherwise an
+// empty string. The second is the number of calls that overlapped a call that changed the same key.
 inline std::pair<std::string, uint64_t> judged(const judge_found &by, const std::string &file) {
     const auto [status, said] = by.asked_of(file);
     const std::string first = said.substr(0, said.find('\n'));
@@ -851,7 +858,7 @@ inline uint64_t contradictions_in(const std::string &refused) {
 
 // ---- a test: a sequence of runs
 
-// The file with the recording of a run, which grows during the run. It is deleted at the end unless it is kept.
+// The file with the recording of a run. The file grows during the run, and is deleted at the end unless it is kept.
 struct recording {
     std::string path;
     bool is_kept;
@@ -872,7 +879,7 @@ struct recording {
     }
 };
 
-// Ends the recording of a run that was cut short. Returns the pending calls.
+// Completes the recording of a run that was cut short. Returns the pending calls.
 inline std::vector<const slot *> cut(const area &run, const std::string &path, const std::string &trouble) {
     if (run.tickets == 0) throw no_verdict(say(NOT_MADE, trouble));
     const auto [lines, under_way] = lines_of(run);
@@ -918,7 +925,7 @@ template <class Make, class Key> struct tester {
     const Make &make;
     const Key &key;
 
-    // Returns the preset for a seed, modified by the options.
+    // Returns the preset that belongs to `seed`, modified by the options.
     shape shape_of(uint64_t seed) const {
         shape it = PRESETS[(seed + std::size(PRESETS) - 1) % std::size(PRESETS)];
         if (how.threads) it.threads = how.threads;
@@ -961,8 +968,8 @@ template <class Make, class Key> struct tester {
         return keys;
     }
 
-    // Describes the key that has this number in the recording and, if the run has several sets, the key's set. Returns an
-    // empty string if the number itself is the key, and the run has a single set.
+    // Describes the key whose number in the recording is `number` and, if the run has several sets, the key's set.
+    // Returns an empty string if the key is the number and the run has a single set.
     static std::string key_line(const std::string &number, const shape &it, const std::vector<K> &keys) {
         if (number.empty() || (it.sets == 1 && std::is_same_v<Key, listset::judging::number>)) return "";
         const unsigned long at = std::stoul(number) / it.times;
@@ -982,7 +989,8 @@ template <class Make, class Key> struct tester {
         return lines.empty() ? " no call" : lines;
     }
 
-    // Returns the part of the message that says whether the run has other sizes than its preset.
+    // Returns the part of the message that states that a run has more overlapping calls than its preset, or an empty
+    // string.
     std::string made_harder(uint64_t seed, const shape &it) const {
         const shape first = shape_of(seed);
         return it.threads == first.threads && it.calls == first.calls && it.keys == first.keys ? "" : MADE_HARDER;
@@ -990,7 +998,7 @@ template <class Make, class Key> struct tester {
 
     bool has_own_process() const { return how.own_process && is_alone(); }
 
-    // Performs a run and judges it. If the set has its own process, the run is cut short at the time `until`.
+    // Performs a run and judges its recording. If the set has its own process, cuts the run short at the time `until`.
     outcome judged_run(uint64_t seed, const shape &it, clock::time_point until = clock::time_point::max()) const {
         const auto run = area::made(it, seed);
         const auto text = std::make_shared<recording>(how, seed);
@@ -1023,7 +1031,7 @@ template <class Make, class Key> struct tester {
         }
     }
 
-    // Performs longer runs like a refused run, with later seeds of the same preset, until one cannot be completed. Returns
+    // Performs longer runs with the preset of a refused run and later seeds, until a run cannot be completed. Returns
     // the run whose refusal states the most contradictions, and the part of the message that counts the refused runs.
     std::pair<outcome, std::string> clearest(const outcome &first, clock::time_point until) const {
         if (is_replay(how) || !has_own_process()) return {first, ""};
@@ -1089,7 +1097,8 @@ template <class Make, class Key> struct tester {
     }
 };
 
-// The type T, which the compiler looks at only when it knows the set S: GoogleTest can be included after this file.
+// The type T, which the compiler looks up only when it knows the set S, because GoogleTest can be included after this
+// file.
 template <class S, class T> struct later {
     using type = T;
 };

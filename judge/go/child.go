@@ -21,7 +21,7 @@ import (
 // fileName is the variable that names the file with the shared memory of a run.
 const fileName = "LISTSET_AREA"
 
-// child is a process that runs a test again up to its call of Check, and then performs the runs of this Check.
+// child is a process that runs a test again up to its call to Check, and then performs the runs of that call.
 type child struct {
 	*area
 	process *exec.Cmd
@@ -29,8 +29,8 @@ type child struct {
 	over    chan bool
 }
 
-// inChild starts a child process for the Check with this name, and returns a caller that performs runs there. In that
-// child process, inChild performs the runs and never returns.
+// inChild starts a child process for the call to Check named name, and returns a caller that performs runs in the child
+// process. In the child process, inChild itself performs the runs and never returns.
 func inChild(name string, a *area) (caller, error) {
 	c := &child{area: a, over: make(chan bool)}
 	if os.Getenv(checkName) == name {
@@ -51,7 +51,7 @@ func inChild(name string, a *area) (caller, error) {
 	return c, c.start(name, file.Name())
 }
 
-// share maps the file into memory, and uses this memory for the runs.
+// share maps the file into memory, and uses the mapped memory for the runs.
 func (c *child) share(file *os.File) error {
 	memory, err := syscall.Mmap(int(file.Fd()), 0, c.bytes(), syscall.PROT_READ|syscall.PROT_WRITE, syscall.MAP_SHARED)
 	if err == nil {
@@ -60,7 +60,7 @@ func (c *child) share(file *os.File) error {
 	return err
 }
 
-// start starts the process and waits until it has reached the Check.
+// start starts the child process and waits until it has reached the call to Check.
 func (c *child) start(name, file string) error {
 	pieces := strings.Split(name[:strings.LastIndex(name, "#")], "/")
 	for i, piece := range pieces {

@@ -2,5 +2,6 @@
 
 package judge
 
-// inChild runs in this process: on this platform no child process can share memory with it.
+// inChild returns a caller that performs runs in the current process, because on this platform a child process cannot
+// share its memory.
 func inChild(_ string, a *area) (caller, error) { return &here{a}, nil }

@@ -9,8 +9,8 @@
 // named by the environment variable LISTSET or, if that is not set, `listset` in PATH. LISTSET can also name a
 // listset.js, which is run with node. If LISTSET is `skip`, the test is skipped.
 //
-// On Unix, Check starts a separate process for the set, which runs this test again up to Check. If the set crashes or hangs
-// in that process, its calls so far are judged.
+// On Unix, Check starts a separate process for the set, which runs this test again up to Check. If the set crashes or
+// hangs in the separate process, the calls so far are judged.
 package judge
 
 import (
@@ -112,7 +112,7 @@ func numberOf(variable string, other, least, most int64) (int64, error) {
 	return found, nil
 }
 
-// shape is the preset of a run, modified by the options.
+// shape has the name and the sizes of a run's preset, as modified by the options.
 type shape struct {
 	name string
 	size
@@ -155,7 +155,7 @@ type limits struct {
 	least, most int
 }
 
-// shapeOf returns the preset for a seed, modified by the options.
+// shapeOf returns the preset that belongs to seed, modified by the options.
 func (o Options) shapeOf(seed int64) shape {
 	count := int64(len(presets))
 	s := presets[((seed-1)%count+count)%count]
@@ -174,7 +174,8 @@ func (o Options) shapeOf(seed int64) shape {
 	return s
 }
 
-// madeHarder returns the part of the message that says whether a run has other sizes than its preset.
+// madeHarder returns the part of the message that states that a run has more overlapping calls than its preset, or an
+// empty string.
 func (o Options) madeHarder(seed int64, s size) string {
 	first := o.shapeOf(seed)
 	if s.threads == first.threads && s.calls == first.calls && s.keys == first.keys {
@@ -215,7 +216,7 @@ func most(a, b int) int {
 	return b
 }
 
-// most returns the largest value of the size that of selects, in all presets as modified by the options.
+// most returns the maximum of of over the sizes of all presets, as modified by the options.
 func (o Options) most(of func(size) int) (most int) {
 	for i := range presets {
 		if its := of(o.shapeOf(int64(i + 1)).size); its > most {
@@ -226,8 +227,8 @@ func (o Options) most(of func(size) int) (most int) {
 }
 
 // Verdict is the result of a successful test: some order explains each run. Overlapped is the number of calls that
-// overlapped a call that added or removed the same key, as counted by the judge. Judge is the judge's name, and what
-// the judge states about its own proof. String formats the verdict.
+// overlapped a call that added or removed the same key, as counted by the judge. Judge is the judge's name, and whether
+// the judge states that it is proved. String formats the verdict.
 type Verdict struct {
 	Calls, Overlapped int
 	Judge             string
@@ -262,7 +263,7 @@ type NotLinearizable struct{ Failed }
 
 type CutShort struct{ Failed }
 
-// Skipped is the error of Judge if LISTSET is `skip`.
+// Skipped is the error that Judge returns if LISTSET is `skip`.
 var Skipped = errors.New(saySkipped)
 
 // Test has the methods of *testing.T that Check needs.
@@ -277,7 +278,7 @@ type Test interface {
 
 // Check judges the sets that newSet creates. It fails the test if no order explains a run, or if the set crashes or
 // hangs. It uses DefaultOptions unless an Options is given. The set gets a separate process, which runs the test from
-// its beginning up to this Check; other Checks of the test do nothing in this process.
+// its beginning up to the call to Check. Earlier calls to Check do nothing in the separate process.
 func Check[S Set](t Test, newSet func() S, options ...Options) {
 	t.Helper()
 	check(t, func(int) (source, error) { return numbers(newSet), nil }, options)
@@ -289,7 +290,7 @@ func CheckKeys[K comparable, S SetOf[K]](t Test, newSet func() S, key func(uint3
 	check(t, func(keys int) (source, error) { return ofKeys(newSet, key, keys) }, options)
 }
 
-// Judge judges the sets that newSet creates, in this process.
+// Judge judges the sets that newSet creates, in the current process.
 func Judge[S Set](newSet func() S, options Options) (Verdict, error) {
 	return judged(options, func(int) (source, error) { return numbers(newSet), nil }, "", nil)
 }
@@ -318,7 +319,7 @@ func check(t Test, of func(keys int) (source, error), options []Options) {
 	}
 }
 
-// checkName is the environment variable that tells a child process for which Check it was started.
+// checkName is the environment variable that tells a child process for which call to Check it was started.
 const checkName = "LISTSET_CHECK"
 
 var (
@@ -326,7 +327,7 @@ var (
 	lock   sync.Mutex
 )
 
-// nameOf returns the name of the test and the number of this Check in the test.
+// nameOf returns the name of the test, and the number of the current call to Check in the test.
 func nameOf(t Test) string {
 	lock.Lock()
 	defer lock.Unlock()
@@ -384,8 +385,8 @@ type tester struct {
 	until   time.Time
 }
 
-// endsBefore shortens a test so that it ends before go test stops it: a minute earlier, or after three quarters of the
-// time that is left.
+// endsBefore shortens a test so that it ends before go test would stop it: a minute earlier, or after three quarters of
+// the remaining time.
 func (o Options) endsBefore(limited interface{ Deadline() (time.Time, bool) }) Options {
 	if limited == nil {
 		return o
@@ -400,8 +401,8 @@ func (o Options) endsBefore(limited interface{ Deadline() (time.Time, bool) }) O
 	return o
 }
 
-// judged judges one run after another, in a child process for the Check with this name, or in this process if the name
-// is empty. The runs end before the deadline of limited, which can be nil.
+// judged judges one run after another, in a child process for the call to Check named name, or in the current process
+// if name is empty. If limited is not nil, the runs end before its deadline.
 func judged(options Options, of func(keys int) (source, error), name string, limited interface{ Deadline() (time.Time, bool) }) (verdict Verdict, err error) {
 	if err = options.check(); err != nil {
 		return verdict, err
@@ -483,8 +484,8 @@ func (o Options) passedBefore(seed int64) string {
 	return fmt.Sprintf(sayPassedBefore, strings.Join(names, ", "))
 }
 
-// judgedRun performs a run and judges it. It returns the number of calls that overlapped a call that changed the same
-// key.
+// judgedRun performs a run and judges its recording. It returns the number of calls that overlapped a call that changed
+// the same key.
 func (t *tester) judgedRun(seed int64, s shape) (int, error) {
 	overlapped, first, err := t.outcome(seed, s, time.Time{})
 	if first == nil {
@@ -502,8 +503,9 @@ func (t *tester) judgedRun(seed int64, s shape) (int, error) {
 	return 0, &NotLinearizable{failed}
 }
 
-// outcome performs a run and judges it. It returns the number of calls that overlapped a call that changed the same key, or
-// the failed run, whose recording is still open. Unless until is zero, the run is cut short at this time.
+// outcome performs a run and judges its recording. It returns the number of calls that overlapped a call that changed
+// the same key, or the failed run, whose recording is still open. Unless until is zero, the run is cut short at the
+// time until.
 func (t *tester) outcome(seed int64, s shape, until time.Time) (overlapped int, failed *failedRun, err error) {
 	r, err := newRecording(seed, t.options.Record)
 	if err != nil {
@@ -529,7 +531,7 @@ func (o Options) isReplay() bool {
 	return os.Getenv("LISTSET_SEED") != "" || o.Seed != DefaultOptions().Seed && os.Getenv("LISTSET_SECONDS") == ""
 }
 
-// clearest performs longer runs like a refused run, with later seeds of the same preset, until one cannot be completed. It
+// clearest performs longer runs with the preset of a refused run and later seeds, until a run cannot be completed. It
 // returns the run whose refusal states the most contradictions, and the part of the message that counts the refused runs.
 func (t *tester) clearest(first *failedRun, s shape) (*failedRun, string) {
 	if _, isHere := t.caller.(*here); isHere || t.options.isReplay() {

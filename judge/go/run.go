@@ -30,8 +30,8 @@ const (
 	unmade
 )
 
-// slot is a recorded call. Its goroutine writes the record when the call begins, and completes the record when the call
-// ends. After an unknown outcome, the goroutine continues under a new thread number.
+// slot is a recorded call. The calling goroutine writes the record when the call begins, and completes it when the call
+// ends. After a call with an unknown outcome, the goroutine continues under a new thread number.
 type slot struct {
 	begin, end               uint32 // begin is 0 until the call begins, end until the call ends
 	thread, call, key, reply uint32
@@ -48,13 +48,14 @@ func (t *text) set(to string) { t.length = uint32(copy(t.bytes[:], to)) }
 func (t *text) String() string { return string(t.bytes[:t.length]) }
 
 // saved describes how much of a run is in the file: the length of the file, and the value of tickets at the last save.
-// The file contains all calls that had begun by then.
+// The file contains all calls that had begun by the last save.
 type saved struct {
 	length int64
 	moment uint32
 }
 
-// head has the numbers of a run. Two processes can share it: one performs the run, the other watches the run.
+// head has the numbers that describe a run and its progress. A process that performs the run can share the head with a
+// process that watches the run.
 type head struct {
 	seed  int64
 	saves [2]saved
@@ -86,7 +87,7 @@ func newArea(options Options, source source) *area {
 
 func (a *area) bytes() int { return int(unsafe.Sizeof(head{})) + manyPart*int(unsafe.Sizeof(slot{})) }
 
-// lay lays out the area of a run in this memory: the head, then the slots.
+// lay lays out the area of a run in memory: the head, then the slots.
 func (a *area) lay(memory []byte) {
 	a.memory, a.head = memory, (*head)(unsafe.Pointer(&memory[0]))
 	a.slots = unsafe.Slice((*slot)(unsafe.Pointer(&memory[unsafe.Sizeof(head{})])), manyPart)
@@ -94,9 +95,9 @@ func (a *area) lay(memory []byte) {
 
 func (a *area) saved() saved { return a.saves[atomic.LoadUint32(&a.save)] }
 
-// lines returns the lines of the calls that have not been saved, ordered by start, and the pending calls in this order.
-// Goroutines can begin and end calls meanwhile: a call that begins after the start of lines is left out, and a call that
-// ends after the start of lines is pending.
+// lines returns the lines of the calls that have not been saved, and the pending calls, both ordered by start.
+// Goroutines can begin and end calls while lines runs: a call that begins meanwhile is left out, and a call that ends
+// meanwhile is pending.
 func (a *area) lines() (lines string, underWay []slot) {
 	now, since, of, begins := atomic.LoadUint32(&a.tickets), a.saved().moment, map[uint32]string{}, []uint32{}
 	for i := range a.slots[:a.threads*a.rows()] {
@@ -123,7 +124,7 @@ func (a *area) lines() (lines string, underWay []slot) {
 
 var words = []string{"add", "remove", "contains"}
 
-// line returns the line of a call in the recording, where the key is its number times this number.
+// line returns the line of a call in the recording. The line's key is the call's key number times the number times.
 func (s *slot) line(end, times uint32) string {
 	if end == 0 || s.reply == unknown {
 		return fmt.Sprintf("call %d %s %d %d - -\n", s.thread, words[s.call], s.key*times, s.begin)
@@ -142,7 +143,7 @@ type caller interface {
 	close()          // frees the memory of the runs
 }
 
-// here performs runs in this process. Goroutines that hang keep running.
+// here performs runs in the current process. Goroutines that hang keep running.
 type here struct{ *area }
 
 func (h *here) begin() { go h.callAll() }
@@ -155,9 +156,9 @@ func (h *here) stop() { atomic.StoreUint32(&h.isStopping, 1) }
 
 func (h *here) close() { h.stop() }
 
-// made performs the run with this seed. If the run was cut short, trouble is the reason. Unless until is zero, the run is cut
-// short at this time. The time between two polls counts as at most five milliseconds, so that a run that gets no processor
-// for a long time does not count as hung.
+// made performs the run with the seed seed. If the run was cut short, trouble is the reason. Unless until is zero, the
+// run is cut short at the time until. The time between two polls counts as at most five milliseconds, so that a run
+// that gets no processor for a long time is not considered hung.
 func (a *area) made(seed int64, s size, file string, by caller, until time.Time) (trouble string, err error) {
 	for i := range a.memory {
 		a.memory[i] = 0
@@ -200,7 +201,7 @@ func (a *area) made(seed int64, s size, file string, by caller, until time.Time)
 
 // ---- for the process that performs a run
 
-// fail recovers from a panic and stores its text. Only the first text is kept.
+// fail recovers from a panic and stores the panic's text. Only the text of the run's first panic is kept.
 func (a *area) fail(as uint32, words string) {
 	if why := recover(); why != nil && atomic.CompareAndSwapUint32(&a.isStopping, 0, 1) {
 		a.why.set(fmt.Sprintf(words, fmt.Sprint(why)+place()))
@@ -208,7 +209,7 @@ func (a *area) fail(as uint32, words string) {
 	}
 }
 
-// place returns where the panic occurred: the innermost call that is neither in Go's runtime nor in this package.
+// place returns where a panic occurred: the innermost call that is neither in Go's runtime nor in package judge.
 func place() string {
 	_, own, _, _ := runtime.Caller(0)
 	folder := own[:strings.LastIndex(own, "/")+1]
@@ -236,8 +237,8 @@ func (a *area) waits(awake int, isDone func() bool) bool {
 	return atomic.LoadUint32(&a.isStopping) == 0
 }
 
-// meet waits until all goroutines have called it, so that they continue at the same time. It does not sleep if there is a
-// processor for each goroutine, unless an earlier wait of this kind lasted too long.
+// meet waits until all goroutines have called meet, so that they continue at the same time. It polls without sleeping
+// if there is a processor for each goroutine, unless an earlier call of meet lasted too long.
 func (a *area) meet() bool {
 	awake, count, looks := manyLongest, uint32(a.threads), 0
 	if a.threads <= runtime.NumCPU() && atomic.LoadUint32(&a.isBusy) == 0 {
@@ -257,7 +258,7 @@ func (a *area) meet() bool {
 // stage has the set that the goroutines call.
 type stage struct{ set Set }
 
-// callAll creates the sets of a run and calls them.
+// callAll creates the sets of a run, and makes the calls of all goroutines to them.
 func (a *area) callAll() {
 	var all sync.WaitGroup
 	on := &stage{}
@@ -282,8 +283,8 @@ func (a *area) newSet() (set Set) {
 	return set
 }
 
-// lead creates the sets one after another. The goroutines call each set in parts (a part is the calls between two saves).
-// After each part, lead saves its calls in the file.
+// lead creates the sets one after another. The goroutines call each set in parts, and after each part, lead saves the
+// part's calls in the file.
 func (a *area) lead(on *stage) {
 	defer a.fail(failed, sayThrew)
 	file, err := os.OpenFile(a.file.String(), os.O_WRONLY, 0)
@@ -330,7 +331,7 @@ func (a *area) write(file *os.File, lines string) {
 	}
 }
 
-// saveLines appends lines to the file and marks all calls so far as saved. No goroutine is in a call meanwhile.
+// saveLines appends lines to the file and marks all calls so far as saved. No call is pending while saveLines runs.
 func (a *area) saveLines(file *os.File, lines string) {
 	a.write(file, lines)
 	other := 1 - atomic.LoadUint32(&a.save)
@@ -356,12 +357,12 @@ func (a *area) number(key int) uint32 {
 	return uint32(key * a.times)
 }
 
-// mostAsked is the maximum number of calls of Contains for one opening or final key. The call is repeated while its
-// outcome is unknown.
+// mostAsked is the most calls of Contains that try to find out whether a key is an opening or final key. A call is
+// repeated while its outcome is unknown.
 const mostAsked = 100
 
-// linesOfKeys calls Contains for each key, and retries if the outcome is unknown. It returns a line for each key found,
-// and whether each outcome became known.
+// linesOfKeys calls Contains for each key, and calls it again if the outcome is unknown. It returns a line for each key
+// found, and whether the outcome became known for each key.
 func (a *area) linesOfKeys(word string, set Set, round int) (lines string, areKnown bool) {
 	areKnown = true
 	for key := 0; key < a.keys; key++ {
@@ -378,7 +379,8 @@ func (a *area) linesOfKeys(word string, set Set, round int) (lines string, areKn
 	return lines, areKnown
 }
 
-// callInRounds executes the calls of one goroutine, one part (the calls between two saves) after another.
+// callInRounds makes the calls of one goroutine to the sets, part by part. A part consists of the calls between two
+// saves.
 func (a *area) callInRounds(on *stage, thread int) {
 	draw, number, rows := rand.New(rand.NewSource(a.seed*64+int64(thread))), uint32(thread), a.rows()
 	others := newPartners(a, thread)

@@ -40,8 +40,8 @@ func (r *right[K]) Contains(key K) bool {
 	return r.keys[key]
 }
 
-// fault returns the error that the variable SET names. `E later` is the error E if the file `judged` exists, else
-// `finds all`.
+// fault returns the name of the set's bug in the variable SET. `E later` stands for the bug E if the file `judged`
+// exists, otherwise for `finds all`.
 func fault() string {
 	name := os.Getenv("SET")
 	if !strings.HasSuffix(name, " later") {
@@ -53,7 +53,7 @@ func fault() string {
 	return strings.TrimSuffix(name, " later")
 }
 
-// set is a correct set, except for the error that fault names.
+// set is a set that is correct except for the bug that fault returns.
 type set struct {
 	*right[uint32]
 	is    string
@@ -73,8 +73,8 @@ func newSet() *set {
 	return made
 }
 
-// part returns the set of a key: the whole set or, with the bug "first use", a set for this key alone. The first call
-// with the key creates this set, and two calls can both create it.
+// part returns the set that contains key: the whole set or, with the bug "first use", a set for key alone. The first
+// call with key creates the set for key, and two overlapping calls can both create one.
 func (s *set) part(key uint32) *right[uint32] {
 	if s.is != "first use" {
 		return s.right
@@ -87,8 +87,8 @@ func (s *set) part(key uint32) *right[uint32] {
 	return made
 }
 
-// place returns the key that the set uses instead of key. With "collides", this is the remainder modulo 64, so some different
-// keys are treated as one key.
+// place returns the key that the set uses instead of key. With "collides", the set uses the remainder modulo 64, so
+// some different keys are treated as one key.
 func (s *set) place(key uint32) uint32 {
 	if s.is == "collides" {
 		return key % 64
@@ -96,8 +96,8 @@ func (s *set) place(key uint32) uint32 {
 	return key
 }
 
-// called executes a call. With "not known" or "again", it loses one reply in fifty: the outcome is then unknown, or the
-// call is repeated.
+// called makes a call. With "not known" or "again", it loses one reply in fifty. With "not known" the outcome of the
+// call is then unknown, with "again" the call is repeated.
 func (s *set) called(call func(uint32) bool, key uint32) bool {
 	reply := call(s.place(key))
 	if s.is != "not known" && s.is != "again" || atomic.AddInt32(&s.calls, 1)%50 > 0 {
@@ -109,8 +109,7 @@ func (s *set) called(call func(uint32) bool, key uint32) bool {
 	return call(key)
 }
 
-// stop does in a late remove what the variable SET names, while holding the lock: it hangs, crashes, exits, panics or
-// naps.
+// stop hangs, crashes, exits, panics or naps in a late remove, while the lock is held. The variable SET selects which.
 func (s *set) stop() {
 	s.lock.Lock()
 	defer s.lock.Unlock()
@@ -193,8 +192,8 @@ func howOf(words string) Options {
 	return how
 }
 
-// TestSet judges the set that the variable SET names, with the options in HOW, such as "threads=4 runs=2". It judges the set
-// once, or as often as TESTS states.
+// TestSet judges the set that the variable SET names, with the options in HOW, such as "threads=4 runs=2". It judges
+// the set once, or TESTS times.
 func TestSet(t *testing.T) {
 	how := howOf(os.Getenv("HOW"))
 	switch os.Getenv("SET") {

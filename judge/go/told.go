@@ -12,7 +12,7 @@ import (
 	"strings"
 )
 
-// recording is the file that records the calls of a run. It grows during the run.
+// recording is the file with the recorded calls of a run. The file grows during the run.
 type recording struct {
 	seed   int64
 	file   *os.File
@@ -39,8 +39,8 @@ func newRecording(seed int64, record string) (*recording, error) {
 	return r, nil
 }
 
-// failedRun is a failed run: its recording, the judge's output (preceded by the reason if the run was cut short), and the
-// key that the judge names.
+// failedRun is a failed run: its recording; the judge's output, preceded by the reason if the run was cut short; and
+// the key that the judge names.
 type failedRun struct {
 	*recording
 	said, key  string
@@ -74,7 +74,7 @@ func (r *recording) judged(by *judgeFound, a *area, trouble string) (int, *faile
 	return 0, f, nil
 }
 
-// contradictions returns how many contradictions the refusal states, or 0 if it states no number.
+// contradictions returns how many contradictions the judge's output states, or 0 if the output states no number.
 func (f *failedRun) contradictions() (number int) {
 	if found := ofContradictions.FindStringSubmatch(f.said); found != nil {
 		number, _ = strconv.Atoi(found[1])
@@ -82,8 +82,8 @@ func (f *failedRun) contradictions() (number int) {
 	return number
 }
 
-// failed returns the run with the complete message, and keeps its recording. first is the seed of the first failed run, and
-// refusedOf is the part of the message that counts the refused runs.
+// failed returns the failed run f with the complete message, and keeps the run's recording. first is the seed of the
+// first failed run, and refusedOf is the part of the message that counts the refused runs.
 func (t *tester) failed(f *failedRun, s shape, first int64, refusedOf string) Failed {
 	f.isKept = true
 	notes, small := t.options.madeHarder(f.seed, s.size)+refusedOf+t.options.passedBefore(first), ""
@@ -122,7 +122,7 @@ func pending(a *area, calls []slot) (lines string) {
 	return lines
 }
 
-// nameOf returns the key that the set gets for a number of a run.
+// nameOf returns the key that the set receives for a key number of the run, as text.
 func (a *area) nameOf(number int) string { return a.source.shown(a.number(number % a.keys)) }
 
 // inSet returns the part of the message that names the set of a key if the run has several sets.
@@ -133,8 +133,8 @@ func (a *area) inSet(number int) string {
 	return fmt.Sprintf(sayInSet, number/a.keys+1)
 }
 
-// keyLine describes the key that has this number in the recording and, if the run has several sets, the key's set. It
-// returns an empty string if the number itself is the key and the run has a single set.
+// keyLine describes the key whose number in the recording is number and, if the run has several sets, the key's set. It
+// returns an empty string if the key is the number and the run has a single set.
 func keyLine(a *area, number int) string {
 	if a.sets == 1 && !a.source.isOwn {
 		return ""
@@ -166,7 +166,7 @@ func (r *recording) close() {
 
 // ---- the judge
 
-// judgeFound is the judge of a test: its name, what it states about its own proof, and how to call it.
+// judgeFound is the judge of a test: its name, whether it states that it is proved, and how to call it.
 type judgeFound struct {
 	name, proof string
 	answer      func(recording *os.File) (status int, said string)
@@ -227,7 +227,7 @@ func checkNode(name string) error {
 	return nil
 }
 
-// proofIn returns the judge's line that states whether the judge is proved.
+// proofIn returns the line of output in which the judge states whether it is proved correct.
 func proofIn(version string) string {
 	if found := regexp.MustCompile("(?m)^proof .*$").FindString(version); found != "" {
 		return found
