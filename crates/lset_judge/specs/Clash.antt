@@ -77,8 +77,8 @@ abbrev pub is_before : ℕ → Option CallRecord → Bool
 is_before begun None = true
 is_before begun (Some y) = is_before_end begun y.ended
 
--- Holds if no call on `key` can change the key to the state `there` between the moment `since` and the end of the call
--- `second`: each call that makes this change has ended by `since`, or starts when `second` ends or later.
+-- Holds if each call on `key` that can change the key to the state `there` has ended by the moment `since`, or starts
+-- no earlier than the call `second` ends.
 abbrev pub NothingTurns : List CallRecord → ℕ → Presence → ℕ → Option CallRecord → Type 0
 NothingTurns calls key there since second = All (λ (x : CallRecord). (key_of x.call).0 ≡ key → turns_to there (kind_if x.call x.ended) ≡ true
     → is_before x.begun second ≡ true → has_ended since x.ended ≡ true) calls

@@ -129,14 +129,14 @@ pub record IsKept (call : StreamCall) (old new : Facts) : Type 0 where
   pub better : old.was ≡ new.was → until_of (other new.was) old ≤ old.begun → ⊥
 
 -- Holds if the call that the facts f store is at least as useful as `call` for finding two calls that contradict each
--- other. If all changes away from the state in which `call` left the key had ended when `call` started, the stored call
--- left the key in the same state, and all of these changes had also ended when the stored call started.
+-- other. Suppose that all changes away from the state in which `call` left the key had ended when `call` started. Then
+-- the stored call left the key in the same state, and all of these changes had also ended when the stored call started.
 abbrev pub ServesAsWell : StreamCall → Facts → Type 0
 ServesAsWell call f = IfSome call.ended (λ (e : ℕ × Reply). is_plain call.call e.1 ≡ true) → (p : Presence) → leaves_if call.call call.ended ≡ Some p
     → until_of (other p) f ≤ call.begun → (f.was ≡ p) × (until_of (other p) f ≤ f.begun)
 
 -- Holds if the end of `call` does not change the facts about the key, because the call that the facts already contain
--- is at least as useful as `call` for finding a clash (two calls that contradict each other).
+-- is at least as useful as `call` for finding contradictions.
 pub record IsUnchanged (call : StreamCall) (old new : Facts) : Type 0 where
   pub same : new ≡ old
   pub serves : ServesAsWell call old
@@ -195,9 +195,8 @@ pub record IsAsGood (key : ℕ) (f : Facts) (p : Presence) (first : Option CallR
   pub standing : until_of (other p) f ≤ f.begun
   pub early : (moment : ℕ) → EndsBefore first moment → EndsBefore (record_if (first_of key f)) moment
 
--- Holds if the facts f about a key suffice to find a clash (two calls that contradict each other): if any completed
--- call or the key's opening state can contradict a call that ends later, the call that f stores can contradict that
--- call too.
+-- Holds if the facts f about a key suffice to find contradictions: whenever a completed call or the key's opening state
+-- can contradict a call that ends later, the call that f stores can contradict the later call too.
 pub record AreComplete (opening : List ℕ) (calls : List CallRecord) (moment key : ℕ) (f : Facts) : Type 0 where
   pub latest : (there : Presence) → IsLatest calls key there (until_of there f)
   pub since : f.begun ≡ since_of (record_if (first_of key f))

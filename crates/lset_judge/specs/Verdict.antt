@@ -24,8 +24,8 @@ is_truth True = true
 is_truth False = true
 is_truth r = false
 
--- Returns whether the judge can decide a completed call with its reply: the call is not a `ceiling` (a call that
--- returns the smallest key not less than its argument), and the reply is true or false.
+-- Returns whether the judge can decide a completed call with its reply: an `add`, a `remove` or a `contains` that
+-- returned true or false.
 abbrev pub is_plain : Call → Reply → Bool
 is_plain (Ceiling k) r = false
 is_plain c r = is_truth r
@@ -43,14 +43,13 @@ may_add c ended = puts_in (kind_if c ended)
 abbrev pub adds_of : ℕ → List CallRecord → ℕ
 adds_of thread calls = count_by (λ (x : CallRecord). may_add x.call x.ended && x.thread == thread) calls
 
--- Holds if no completed call is a `ceiling` (a call that returns the smallest key not less than its argument), and each
--- completed call returned true or false.
+-- Holds if each completed call is an `add`, a `remove` or a `contains` that returned true or false.
 abbrev pub IsPlain : List CallRecord → Type 0
 IsPlain calls = All (λ (x : CallRecord). IfSome x.ended (λ (e : ℕ × Reply). is_plain x.call e.1 ≡ true)) calls
 
--- Holds if the judge decides the history h: no completed call is a `ceiling` (a call that returns the smallest key not
--- less than its argument), each completed call returned true or false, and the quota (the number of successful `add`s
--- that one thread can make) covers all `add`s of each thread that returned true or are pending.
+-- Holds if the judge decides the history h. Each completed call must be an `add`, a `remove` or a `contains` that
+-- returned true or false. The quota (the number of successful `add`s that one thread can make) must cover all `add`s of
+-- each thread that returned true or are pending.
 pub record IsJudged (h : HistoryValue) : Type 0 where
   pub plain : IsPlain h.calls
   pub room : (thread : ℕ) → adds_of thread h.calls ≤ h.opening.quota

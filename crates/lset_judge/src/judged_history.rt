@@ -99,9 +99,9 @@ fn add_next(judge: &mut Judge, call: StreamCall) -> Result<(), AllocError>
 /// Decides whether some order linearizes the calls of a history and leaves the final keys `keys`. The set opens with
 /// the history's opening keys and has no quota. `keys` must be in increasing order.
 ///
-/// The verdict is exact if no completed call is a `ceiling` (a call that returns the smallest key not less than its
-/// argument), and each completed call returned true or false. For any other history, the verdict is `NotLinearizable`
-/// only if no order explains the calls, and `Undecided` otherwise. The function fails only if an allocation fails.
+/// The verdict is exact if each completed call is an `add`, a `remove` or a `contains` that returned true or false. For
+/// any other history, the verdict is `NotLinearizable` only if no order explains the calls, and `Undecided` otherwise.
+/// The function fails only if an allocation fails.
 pub fn judge(alloc: Global, history: &History, keys: &[u32]) -> Result<Judged, AllocError>
     requires { IsStrictlyIncreasing keys.now }
     ensures { IfOk result (IsJudged history.now keys.now) }
