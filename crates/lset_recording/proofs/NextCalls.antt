@@ -1,5 +1,5 @@
--- Proof that the judge accepts a call after the earlier calls of a history exactly if the call can follow the earlier
--- calls.
+-- Proof that the judge accepts a call after the earlier calls of a history if and only if the call can follow the
+-- earlier calls.
 use Rattle.std.proofs.Common.{◌≡◌, ℕ, ◌+◌, ◌<◌, ◌≤◌, inl, inr, true, Result, Ok, Err, List, [], ◌∷◌, ◌++◌, length, Option, Some, None, sym, ap, subst}
 use Rattle.std.proofs.Common.{arith, length-append}
 use Rattle.std.specs.Prelude.{IfSome, IfOk}

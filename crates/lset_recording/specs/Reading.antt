@@ -140,7 +140,7 @@ with_line c (told.Key k) = record c { keys = c.keys ++ k ∷ [] }
 with_line c told.End = c
 with_line c told.Cut = record c { cut_off = true }
 
--- The state of the reader after some lines: the section that the reader is in, and the recording so far.
+-- The state of the reader after some lines: the section that the reader is in, and the recording read so far.
 pub record SoFar : Type 0 where
   pub section : Section
   pub told : Recording
@@ -154,8 +154,8 @@ nothing_told = record {
   told = record { opening = []; calls = []; keys = []; cut_off = false };
 }
 
--- Holds if a line is consistent with the recording so far: with the line, the keys still increase, and the calls are
--- still a history, ordered by start.
+-- Holds if a line is consistent with the recording read so far: with the line, the keys still increase, and the calls
+-- are still a history, ordered by start.
 abbrev pub GoesOn : Recording → RecordingLine → Type 0
 GoesOn c told.Title = Unit {0}
 GoesOn c (told.Opening k) = is_above c.opening k ≡ true
@@ -164,7 +164,7 @@ GoesOn c (told.Key k) = is_above c.keys k ≡ true
 GoesOn c told.End = Unit {0}
 GoesOn c told.Cut = Unit {0}
 
--- Returns the cause to report if a line is inconsistent with the recording so far.
+-- Returns the cause to report if a line is inconsistent with the recording read so far.
 abbrev pub cause_of : RecordingLine → Cause
 cause_of (told.Call x) = wrong.History
 cause_of l = wrong.Opening

@@ -240,9 +240,9 @@ impl RecordingReader {
         self.judging.finish()
     }
 
-    /// Ends the text and returns the verdict: whether the calls, made one by one in some order (calls that do not
-    /// overlap keep their order), return the recorded replies and leave the final keys. If the recording was cut off,
-    /// its final keys are unknown, and the calls can leave any keys. Allocates; does not block.
+    /// Ends the text and returns the verdict: whether the calls, executed one at a time in some order (calls that do
+    /// not overlap keep their order), return the recorded replies and leave the final keys. If the recording was cut
+    /// off, its final keys are unknown, and the calls can leave any keys. Allocates; does not block.
     #[tactic(auto, using(crate::proofs::ReadLaws::none_failed, crate::proofs::ReadLaws::one_failed))]
     pub fn finish(self) -> Result<RecordingAnswer, LineFault>
         ensures said { IfOk result (λ answer. (bytes : List ℕ) → IsRead bytes self

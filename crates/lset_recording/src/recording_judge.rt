@@ -22,9 +22,9 @@ const FIRST_LINE: u64 = 1;
 /// The verdict on a recording, counts of its calls, and whether the recording was cut off.
 #[derive(Debug, Drop)]
 pub struct RecordingAnswer {
-    /// Whether the recorded calls are linearizable, which means that the calls, made one by one in some order (calls
-    /// that do not overlap keep their order), return the recorded replies and leave the final keys. If the calls are
-    /// not linearizable, the verdict has the reason.
+    /// Whether the recorded calls are linearizable, which means that the calls, executed one at a time in some order
+    /// (calls that do not overlap keep their order), return the recorded replies and leave the final keys. If the calls
+    /// are not linearizable, the verdict has the reason.
     pub verdict: Verdict,
     /// The number of calls in the recording.
     pub calls: u64,
@@ -174,8 +174,8 @@ impl Judging {
         Ok(())
     }
 
-    /// Adds the content of a line to the recording so far. If the line is inconsistent with the recording so far,
-    /// returns the cause.
+    /// Adds the content of a line to the recording read so far. If the line is inconsistent with the recording read so
+    /// far, returns the cause.
     #[inline(always)]
     fn keep(&mut self, line: Line) -> Result<(), Cause>
         requires { IsFormed line }
@@ -197,8 +197,8 @@ impl Judging {
         }
     }
 
-    /// Adds a line to the recording so far, and continues with the next line. The current section must allow lines of
-    /// the same kind as `line`. If the line is inconsistent with the recording so far, returns the cause.
+    /// Adds a line to the recording read so far, and continues with the next line. The current section must allow lines
+    /// of the same kind as `line`. If the line is inconsistent with the recording read so far, returns the cause.
     #[inline(always)]
     pub(crate) fn put(&mut self, line: Line) -> Result<(), Cause>
         requires { IsFormed line }

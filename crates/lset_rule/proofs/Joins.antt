@@ -31,7 +31,7 @@ use Rattle.lset_rule.proofs.ViewsFit.{is_in, set_there, stands_else, stands_stil
 use Rattle.lset_rule.proofs.MovesKeepRule.{M}
 use Rattle.lset_words.specs.Words.{Opening}
 
--- Converts the own thread of a seat to a spare thread. `w` is the view of the seat (what the seat knows about the run).
+-- Converts a seat's own thread to a spare thread. `w` is the view of the seat (what the seat knows about the run).
 abbrev aside : View → SpareThread
 aside w = record { thread = w.thread; local = w.local }
 

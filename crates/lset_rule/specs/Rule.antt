@@ -60,7 +60,7 @@ pub record Holds (m : Table) (k : Opening) (s : table.State (Unit {0}) View) : T
   pub known : (j : ℕ) (v : View) → get_elem? s.views j ≡ some v → StartsWith log v.seen
 
 -- Returns spare threads for the first seat: n idle threads, numbered from t. The first seat (one thread's access to the
--- set) has all threads of the set. It calls as the last thread, and all other threads are spare.
+-- set) has all threads of the set. It makes its calls as the last thread, and all other threads are spare.
 abbrev pub asides_from : Opening → ℕ → ℕ → List SpareThread
 asides_from k t zero = []
 asides_from k t (suc n) = record { thread = t; local = idle k.quota t } ∷ asides_from k (t + 1) n
@@ -80,8 +80,8 @@ opener k = record {
 }
 
 -- Returns the view (what a seat knows about the run) of a new seat that is split off from a seat with view v. The new
--- seat calls as the first of the given spare threads, has an empty record, and has seen the same events as the old
--- seat.
+-- seat makes its calls as the first of the given spare threads, has an empty record, and has seen the same events as
+-- the old seat.
 abbrev head_aside : View → List SpareThread → View
 head_aside v [] = record v { spent = true }
 head_aside v (o ∷ os) = record v {
@@ -103,8 +103,8 @@ tail_asides (o ∷ os) = os
 abbrev pub left_view : View → View
 left_view v = record v { others = tail_asides v.others }
 
--- Returns the view of the new seat (what the seat knows about the run) after a split. The new seat calls as the first
--- spare thread of the old seat.
+-- Returns the view of the new seat (what the seat knows about the run) after a split. The new seat makes its calls as
+-- the first spare thread of the old seat.
 abbrev pub right_view : View → View
 right_view v = head_aside v v.others
 

@@ -24,7 +24,7 @@ pub type Words<M> = Shared<(), View, Opened, Follows<M>>;
 ///
 /// `place` is a seat (one thread's access to the set) on the words `table`, with a pending call. `action` is the action
 /// that the step table has at the call's current row. Returns the value that the step saw: the value that was loaded or
-/// stored, or the value that a compare-and-exchange found. (An exchange succeeds exactly if it finds the expected
+/// stored, or the value that a compare-and-exchange found. (An exchange succeeds if and only if it finds the expected
 /// value.) The step table's function `feed` computes the thread's next private state from the returned value. After the
 /// step, the seat has seen all events up to and including the step.
 #[inline(always)]

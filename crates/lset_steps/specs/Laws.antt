@@ -72,7 +72,7 @@ LockUse ws t (Exchange w old new) = IsLockWord w → (old ≡ 0) × (new ≡ t +
 abbrev pub Due : Bool → ℕ → (ℕ → View) → ℕ → ℕ → ℕ → Call → Reply → Type 0
 Due done q vs first now t call r = RightReply done q (contents_of vs) (counts_of vs) first now t call (Some r)
 
--- Holds if the call has ended (`pc` is 0) exactly when the step has a reply, and the reply, if any, is correct.
+-- Holds if the call has ended (`pc` is 0) if and only if the step has a reply, and the reply, if any, is correct.
 abbrev pub Answered : Bool → ℕ → (ℕ → View) → ℕ → ℕ → ℕ → Call → ℕ → Option Reply → Type 0
 Answered done q vs first now t call pc None = pc ≢ 0
 Answered done q vs first now t call pc (Some r) = (pc ≡ 0) × Due done q vs first now t call r
@@ -91,7 +91,7 @@ pub record StepLaws (T : Table) (op : Opening) (es : ℕ → Event) (k t : ℕ) 
   -- The thread's pending call may make the change `change`.
   pub by_call : MayChange op.quota l.used l.call (has_changed (log_of T op es) t k) change
   pub counts : (T.feed l (seen_next T s t)).local.used ≡ count_after change l.used
-  -- The call ends exactly if the step has a reply, and the reply, if any, is correct.
+  -- The call ends if and only if the step has a reply, and the reply, if any, is correct.
   pub answered : Answered (has_changed (log_of T op es) t (suc k)) op.quota (views T op es)
       (begun_at (log_of T op es) t (suc k)) (suc k) t l.call
       (T.feed l (seen_next T s t)).local.pc (T.feed l (seen_next T s t)).answer

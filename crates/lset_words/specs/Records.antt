@@ -35,7 +35,7 @@ own_calls (fresh t) = []
 own_calls (called r c) = own_calls r ++ c ∷ []
 own_calls (gathered r g) = own_calls r
 
--- Holds if `u` is the record's own thread, or the own thread of a record that was merged into the record.
+-- Holds if `u` is the thread of the record, or the thread of a record that was merged into it.
 abbrev pub Names : ℕ → Record → Type 0
 Names u (fresh t) = u ≡ t
 Names u (called r c) = Names u r
@@ -59,8 +59,8 @@ abbrev pub HasOwnCalls : List Answered → Record → Type 0
 HasOwnCalls order r = calls_by (thread_of r) order ≡ map (placed_by (thread_of r)) (own_calls r)
 
 -- Holds if call `c` is at the right place in `order`. `r` is the record of the thread before it made `c`. Before `c`,
--- `order` contains exactly the own calls of `r` as calls by the thread. After `c`, `order` contains no call by a thread
--- whose record was merged into `r`, directly or as part of another record.
+-- the thread's calls in `order` are exactly the calls in `r` that the thread made itself. After `c`, `order` contains
+-- no call by a thread whose record was merged into `r`, directly or as part of another record.
 pub record Follows (order : List Answered) (r : Record) (c : CallMade) : Type 0 where
   pub before : List Answered
   pub after : List Answered
@@ -68,15 +68,15 @@ pub record Follows (order : List Answered) (r : Record) (c : CallMade) : Type 0 
   pub own : HasOwnCalls before r
   pub gathered_before : (u : ℕ) → NamesGathered u r → calls_by u after ≡ []
 
--- Holds if `order` agrees with each record that was merged into the given record, and each own call comes after the
--- calls of the records that were merged before the call.
+-- Holds if `order` agrees with each record that was merged into the given record, and each call by the given record's
+-- own thread comes after the calls of the records that were merged before the call.
 abbrev pub KeepsItems : List Answered → Record → Type 0
 KeepsItems order (fresh t) = Unit {0}
 KeepsItems order (called r c) = KeepsItems order r × Follows order r c
 KeepsItems order (gathered r g) = KeepsItems order r × HasOwnCalls order g × KeepsItems order g
 
--- Holds if `order` agrees with the record. The calls by the record's own thread in `order` are the record's own calls,
--- in sequence. `order` also agrees with each record that was merged into the record. Each own call comes after all
--- calls by the threads of the records that were merged before the call.
+-- Holds if `order` agrees with the record: the calls by the record's own thread are the same in `order` and in the
+-- record, in the same sequence, `order` agrees with each record that was merged into the record, and each call by the
+-- record's own thread comes after all calls by the threads of the records that were merged before the call.
 abbrev pub Keeps : List Answered → Record → Type 0
 Keeps order r = HasOwnCalls order r × KeepsItems order r
