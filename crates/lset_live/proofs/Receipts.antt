@@ -25,7 +25,7 @@ use Rattle.lset_rule.specs.Runs.{StartsWith, history_of}
 use Rattle.lset_rule.proofs.OneMoreEvent.{event_of_first}
 use Rattle.lset_live.specs.Explained.{IsAnswered, StandsBefore}
 
--- A completed call stays in the history when the run gets longer
+-- ---- A completed call stays in the history when the run gets longer
 module _ (m : ℕ) (y : CallRecord) (d : ℕ × Reply) (ended : y.ended ≡ Some d) where
   stays_before : (z : TracedCall) (xs : List TracedCall) (n : ℕ) → get_elem? (map record_of xs) n ≡ some y →
       get_elem? (map record_of (xs ++ z ∷ [])) n ≡ some y
@@ -83,7 +83,7 @@ ended_stays T k log es (rest, is) n y d ended at =
     (ap (λ (l : List TracedCall). get_elem? (map record_of l) n)
     (calls_agree (log_of T k (event_at es)) (log_of T k (event_at (es ++ rest))) (length es) (log_of_first T k es rest)) ∙ at))
 
--- Lemmas about two calls that do not overlap
+-- ---- Lemmas about two calls that do not overlap
 numbered : (H : List CallRecord) (n : ℕ) (y : CallRecord) → get_elem? H n ≡ some y → (call_numbered H n ≡ y) × (n < length H)
 numbered [] n y at = absurd (some-ne-none y (sym at))
 numbered (x ∷ H) zero y at = (some-injective x y at, omega arith)

@@ -13,7 +13,7 @@ use Rattle.lset_replay.specs.Follows.{ComesNext}
 pub as_many : (es : List LineEvent) → length (only_events es) ≡ length es
 as_many es = length-map es event_in
 
--- Lemmas about the executed events and the remaining events
+-- ---- Lemmas about the executed events and the remaining events
 
 -- Holds if the first `k` events of the list `es` were executed, and the events in `rest` remain.
 pub record IsAhead (es : List LineEvent) (k : ℕ) (rest : List LineEvent) : Type 0 where

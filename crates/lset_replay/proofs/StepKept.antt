@@ -30,7 +30,7 @@ use Rattle.lset_replay.proofs.ReplayKept.{changed_seats, changed_open, changed_c
 use Rattle.lset_replay.proofs.ReplayKept.{ended_seats, ended_others, ended_seat, ended_count, ended_other, ended_here}
 use Rattle.lset_replay.proofs.ReplayKept.{ended_changes, calls_are, steady_next, watched_next}
 
--- Lemmas about the linearization point of the call that takes the step
+-- ---- Lemmas about the linearization point of the call that takes the step
 module _ (q : ℕ) (contents : Contents) (counts : Counts) (x : TracedCall) (m : ℕ) (changes : ℕ → List ℕ) (o : OpenCall) where
   changed_place : (ch : Option Change) (r : Option Reply) (p : Option Linearized) (c : ℕ) → p ≡ Some (changed_at c)
       → end_place changes m r o p ≡ Some (changed_at c)

@@ -70,7 +70,7 @@ abbrev pub settled : Option Linearized → Option ℕ → ℕ → Reply → Opti
 settled (Some p) moment end reply = Some p
 settled None moment end reply = Some (read_at moment end reply)
 
--- The content of a recorder
+-- ---- The content of a recorder
 
 pub record Trace : Type 0 where
   pub calls : List CallRecord

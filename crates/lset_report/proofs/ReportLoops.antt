@@ -109,7 +109,7 @@ stops_at all start s line rest x after e parts (inr full) stands =
       grind (arith, end_is),
     )
 
--- Lemmas about the whole text, including the header
+-- ---- Lemmas about the whole text, including the header
 
 abbrev pub report_told : SoFar → Result ReportValue LineFault
 report_told s = Ok s.report

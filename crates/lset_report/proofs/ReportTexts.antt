@@ -101,7 +101,7 @@ more_lines r (told.Place p) next good = push_before (to_order r) (map key_line r
 more_lines r (told.Key k) next good = push_last (to_keys r) key_line r.keys k
 more_lines r told.End next good = refl
 
--- An accepted report is within its limits
+-- ---- An accepted report is within its limits
 
 is_report : (r : ReportValue) → Opens r.history.opening → HasOpening r.version r.history.opening.keys
     → IsHistory r.history.opening.threads r.history.calls
@@ -200,7 +200,7 @@ is_found bytes r is =
     let done = (kept_if (is_done last.0.section) _ last.0 last.0 found.1).0 in
     rw (← ok_is last.0.report r last.2) (found.2.0, found.0 ∙ rw done refl)
 
--- Lemmas about reading a written text
+-- ---- Lemmas about reading a written text
 
 none_reached : (s : Section) (v : Version) (h : Header) → Reaches s (no_lines v h)
 none_reached section.Opening v h = (refl, refl, refl)
@@ -324,7 +324,7 @@ reads_text r is =
       again.1,
     )
 
--- The two postconditions of `read_report` about the text of a report
+-- ---- The two postconditions of `read_report` about the text of a report
 
 pub found_in : (bytes : List ℕ) (r : Result Report LineFault) → Gives view r bytes
     → IfOk r (λ s. IsReport (view s) × (bytes ≡ report_text (view s)))
@@ -337,7 +337,7 @@ only_in bytes (Ok s) gives q is text = ok_is (view s) q (sym gives ∙ ap readin
 only_in bytes (Err e) (inl bad) q is text = absurd (let read : reading bytes ≡ Ok q = ap reading text ∙ reads_text q is in cc)
 only_in bytes (Err e) (inr out) q is text = out.cause
 
--- `write_report` accepts every report that was read
+-- ---- `write_report` accepts every report that was read
 
 end_words : (v : Version) (o : Option (ℕ × Reply)) → IsEnd v o → HasEnd v o
 end_words v None h = tt
@@ -354,7 +354,7 @@ words_in Two calls order are places = tt
 pub has_words : (r : ReportValue) → IsReport r → HasWordsOfVersion r
 has_words r is = record { opening = is.opening; words = words_in r.version r.history.calls r.order is.calls is.places }
 
--- Lemmas about the parts of the text that `write_report` builds
+-- ---- Lemmas about the parts of the text that `write_report` builds
 
 pub texts_of : (a b c d e : List (List ℕ)) (z : List ℕ)
     → text_of (a ++ b ++ c ++ d ++ e ++ z ∷ []) ≡ text_of a ++ text_of b ++ text_of c ++ text_of d ++ text_of e ++ ended z

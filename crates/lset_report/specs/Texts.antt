@@ -54,7 +54,7 @@ report_lines r = header_lines (title r.version) (header_in r) ++ opening_lines r
 abbrev pub report_text : ReportValue → List ℕ
 report_text r = text_of (report_lines r)
 
--- Reports that can be written in a version of the format
+-- ---- Reports that can be written in a version of the format
 
 -- Holds if the call is pending, or the version has a word for its reply.
 abbrev pub HasEnd : Version → Option (ℕ × Reply) → Type 0

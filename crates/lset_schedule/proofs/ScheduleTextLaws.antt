@@ -61,7 +61,7 @@ pub no_opening : (v : Version) (l : Line) → IsLine v l → have_form v opening
 no_opening v (Begin t c) is = refl
 no_opening v (Go t n) is = refl
 
--- Proof for complete schedules
+-- ---- Proof for complete schedules
 
 title_lacks : (v : Version) → Lacks 10 (title v)
 title_lacks One = Lacks-from_test 10 (title One) refl
@@ -85,7 +85,7 @@ reads_text p is =
     let parts : List (List ℕ) = header_lines (title v) (header_in p) ++ rest in
     ap plan_of again.0 ∙ ap (λ w. plan_in w parts) (version_again schedules refl v (header_in p) rest) ∙ rw again.1 refl
 
--- Proofs of the contracts of the functions that read a schedule
+-- ---- Proofs of the contracts of the functions that read a schedule
 
 is_memory : (c : Cause) → (c ≢ Memory → ⊥) → c ≡ Memory
 is_memory Memory h = refl

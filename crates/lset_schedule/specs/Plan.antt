@@ -89,7 +89,7 @@ pub record IsSchedule (p : Plan) : Type 0 where
   pub lines : AllByRecursion (IsLine p.version) p.lines
   pub few : sum_by event_count p.lines ≤ MOST_EVENTS
 
--- The calls that each version of the format has
+-- ---- The calls that each version of the format has
 
 abbrev pub HasCallOfLine : Version → Line → Type 0
 HasCallOfLine version (Begin thread call) = HasCall version call

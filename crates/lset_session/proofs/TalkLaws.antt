@@ -68,7 +68,7 @@ turns_rest left p lacks short =
     let one = slice_split_none (λ b. eqb b 10) p lacks in
     rw (append-nil p, one, few) refl
 
--- Lemmas about the turns of a session
+-- ---- Lemmas about the turns of a session
 
 pub turns_quit : (left : ℕ) (e : Exchange) (q : Request) (later : List Turn) → turn_of e ≡ line q → q ≡ request.Quit
     → turns_after left q later ≡ turn_of e ∷ []
