@@ -25,8 +25,8 @@ use Rattle.lset_loops.specs.Begun.{Begun}
 use Rattle.lset_loops.specs.Calling.{Holds, first, row}
 use Rattle.lset_loops.proofs.StepsOfCall.{no_rest}
 
--- Returns the private state of a thread that executes a `contains`. The thread is at row `pc` of the step table, and
--- `x` is the current node.
+-- Returns the private state of a thread that executes a `contains`. The thread is at row `pc` of the list's step table
+-- (its numbered atomic steps), and `x` is the current node.
 abbrev pub reading : Begun → OwnSlots → ℕ → ℕ → Local
 reading b own pc x = row own b.call pc None 0 x no_rest
 

@@ -20,8 +20,8 @@ use Rattle.lset_rule.specs.Views.{Stands}
 use Rattle.lset_rule.specs.Calls.{IsMid, Makes}
 use Rattle.lset_loops.specs.Begun.{Begun, begun_at}
 
--- Holds if call `b` is pending on list `m`, its thread has the private state `l`, and its seat (per-thread handle) is
--- now `s`.
+-- Holds if call `b` is pending on the list with the step table `m` (its numbered atomic steps), its thread has the
+-- private state `l`, and its seat (per-thread handle) is now `s`.
 pub record Holds (m : Table) (b : Begun) (l : Local) (s : TableSeat) : Type 0 where
   pub words : b.table_id.words ≡ word_count (sizes b.me.0.shape)
   pub used : b.me.0.spent ≡ false
@@ -30,20 +30,21 @@ pub record Holds (m : Table) (b : Begun) (l : Local) (s : TableSeat) : Type 0 wh
   pub stands : Stands m s.me.0
   pub local : s.me.0.local ≡ l
 
--- Holds if, according to the step table `m`, action `a` is the next step of call `b` and does not end the call.
+-- Holds if, according to the step table `m` (a list's numbered atomic steps), action `a` is the next step of call `b`
+-- and does not end the call.
 pub record MayStep (m : Table) (b : Begun) (a : Action) (s : TableSeat) : Type 0 where
   pub held : Local
   pub holds : Holds m b held s
   pub acts : a ≡ m.next held
   pub goes_on : (n : ℕ) → (m.feed held n).answer ≡ None
 
--- Holds if a step of call `b` saw the value `n`, and the call has continued as the step table prescribes for `n`. The
--- seat (per-thread handle) is `s` before the step and `s'` after it.
+-- Holds if a step of call `b` saw the value `n`, and the call has continued as the list's step table (its numbered
+-- atomic steps) prescribes for `n`. The seat (per-thread handle) is `s` before the step and `s'` after it.
 pub record HasStepped (m : Table) (b : Begun) (s : TableSeat) (n : ℕ) (s' : TableSeat) : Type 0 where
   pub leads : (l : Local) → Holds m b l s → Holds m b (m.feed l n).local s'
 
--- Holds if, according to the step table `m`, call `b` now attempts to take the lock at index `word`, and repeats the
--- attempt until it succeeds.
+-- Holds if, according to the step table `m` (a list's numbered atomic steps), call `b` now attempts to take the lock at
+-- index `word`, and repeats the attempt until it succeeds.
 pub record MayLock (m : Table) (b : Begun) (word thread : ℕ) (s : TableSeat) : Type 0 where
   pub held : Local
   pub holds : Holds m b held s
@@ -61,8 +62,9 @@ abbrev pub feeds : Table → Local → List (ℕ × ℕ) → Local
 feeds m l [] = l
 feeds m l ((word, value) ∷ more) = feeds m (m.feed l value).local more
 
--- Holds if, according to the step table `m`, a thread in the private state `l` executes the given stores in its next
--- steps, and none of the stores ends the call. Each store is a pair of a word and a value.
+-- Holds if, according to the step table `m` (a list's numbered atomic steps), a thread in the private state `l`
+-- executes the given stores in its next steps, and none of the stores ends the call. Each store is a pair of a word and
+-- a value.
 abbrev pub Stores : Table → Local → List (ℕ × ℕ) → Type 0
 Stores m l [] = Unit {0}
 Stores m l ((word, value) ∷ more) = (Store word value ≡ m.next l) × ((n : ℕ) → (m.feed l n).answer ≡ None)
@@ -102,7 +104,8 @@ pub record Answered (m : Table) (b : Begun) (r : Reply) (l : Local) (s : TableSe
   pub makes : Makes m b.call b.me.0 r s.me.0
   pub local : s.me.0.local ≡ l
 
--- Holds if, according to the step table `m`, action `a` is the next step of call `b`. The step can end the call.
+-- Holds if, according to the step table `m` (a list's numbered atomic steps), action `a` is the next step of call `b`.
+-- The step can end the call.
 pub record MayAnswer (m : Table) (b : Begun) (a : Action) (s : TableSeat) : Type 0 where
   pub held : Local
   pub holds : Holds m b held s
@@ -113,14 +116,14 @@ pub record MayAnswer (m : Table) (b : Begun) (a : Action) (s : TableSeat) : Type
 abbrev pub StandsAfter : Table → Begun → Fed → TableSeat → Type 0
 StandsAfter m b f s = MatchOption f.answer (Holds m b f.local s) (λ r. Answered m b r f.local s)
 
--- Holds if a step of call `b` saw the value `n`, and the call has ended or continued as the step table prescribes for
--- `n`. The seat (per-thread handle) is `s` before the step and `s'` after it.
+-- Holds if a step of call `b` saw the value `n`, and the call has ended or continued as the list's step table (its
+-- numbered atomic steps) prescribes for `n`. The seat (per-thread handle) is `s` before the step and `s'` after it.
 abbrev pub HasTold : Table → Begun → TableSeat → ℕ → TableSeat → Type 0
 HasTold m b s n s' = (l : Local) → Holds m b l s → (f : Fed) → m.feed l n ≡ f → StandsAfter m b f s'
 
--- Holds if call `b` has executed a compare-and-exchange, and has ended or continued as the step table prescribes for
--- the value seen. A successful exchange saw the value `old`; a failed exchange saw a different value. The seat
--- (per-thread handle) is `s` before the exchange and `s'` after it.
+-- Holds if call `b` has executed a compare-and-exchange, and has ended or continued as the list's step table (its
+-- numbered atomic steps) prescribes for the value seen. A successful exchange saw the value `old`; a failed exchange
+-- saw a different value. The seat (per-thread handle) is `s` before the exchange and `s'` after it.
 abbrev pub HasExchanged : Table → Begun → ℕ → TableSeat → Bool → TableSeat → Type 0
 HasExchanged m b old s true s' = HasTold m b s old s'
 HasExchanged m b old s false s' = (n : ℕ) × (n ≢ old) × HasTold m b s n s'
@@ -132,8 +135,8 @@ pub record Rest : Type 0 where
   pub pkey : ℕ
   pub ckey : ℕ
 
--- Returns the private state of a thread at row `pc` of the step table. `p` is the previous node, `x` is the current
--- node, and `j` contains the parts that do not matter for the loops.
+-- Returns the private state of a thread at row `pc` of the list's step table (its numbered atomic steps). `p` is the
+-- previous node, `x` is the current node, and `j` contains the parts that do not matter for the loops.
 abbrev pub row : OwnSlots → Call → ℕ → Option Reply → ℕ → ℕ → Rest → Local
 row own c pc r p x j = record {
   thread = own.thread;
@@ -151,14 +154,14 @@ row own c pc r p x j = record {
 }
 
 -- Returns a thread's private state after its call has made the decision `d`: to add the key, to remove the key, or only
--- to reply. The thread continues at the row of the step table that corresponds to `d`.
+-- to reply. The thread continues at the row for `d` in the list's step table (its numbered atomic steps).
 abbrev pub done : Targets → Decision → Local → Local
 done t PutIn l = goes_to t.adds None l
 done t TakeOut l = goes_to t.removes None l
 done t (Answer r) l = goes_to t.leaves (Some r) l
 
--- Holds if the step table makes the decision `d` when the walk of call `c` stops at a node with the key `word`. The
--- decision is to add the key, to remove the key, or only to reply.
+-- Holds if the list's step table (its numbered atomic steps) makes the decision `d` when the walk of call `c` stops at
+-- a node with the key `word`. The decision is to add the key, to remove the key, or only to reply.
 abbrev pub Decides : Call → OwnSlots → ℕ → Decision → Type 0
 Decides c own word d = (t : Targets) (l : Local) → l.call ≡ c → l.used ≡ own.used → l.quota ≡ own.quota →
     decided_on t word l ≡ done t d l

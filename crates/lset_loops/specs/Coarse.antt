@@ -1,5 +1,6 @@
--- Conditions that hold between the parts of a call on a CoarseList (take the lock, walk, act). They state the next row
--- of the step table and the nodes in the thread's private state.
+-- Conditions that hold between the parts of a call on a CoarseList (take the lock, walk, change the set). Each
+-- condition names the call's next row in the list's step table (its numbered atomic steps), and the nodes in the
+-- thread's private state.
 use Rattle.std.specs.Prelude.{ℕ, Some, None}
 use Rattle.lset_words.specs.declared.Reply.{Reply}
 use Rattle.lset_steps.specs.Rows.{decided_on}
@@ -18,8 +19,8 @@ AtHead b own s = (j : Rest) × Holds coarse b (row own b.call 2 None 0 0 j) s
 abbrev pub AtKey : Begun → OwnSlots → ℕ → ℕ → TableSeat → Type 0
 AtKey b own p x s = (j : Rest) × Holds coarse b (row own b.call 3 None p x j) s
 
--- Holds if the walk has stopped at the two nodes in `f`. The call continues at the row of the step table that
--- corresponds to its decision (add, remove or reply).
+-- Holds if the walk has stopped at the two nodes in `f`. The call continues at the row of the list's step table (its
+-- numbered atomic steps) for its decision: to add, to remove or to reply.
 abbrev pub StopsAt : Begun → OwnSlots → Found → TableSeat → Type 0
 StopsAt b own f s = (j : Rest) × Holds coarse b (decided_on targets f.word (row own b.call 3 None f.pred.number f.curr.number j))
     s

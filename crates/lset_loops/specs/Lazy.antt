@@ -1,5 +1,6 @@
--- Conditions that hold between the parts of an `add` or `remove` on a LazyList (walk, lock, validate, act). They state
--- the next row of the step table and the nodes in the thread's private state.
+-- Conditions that hold between the parts of an `add` or `remove` on a LazyList (walk, lock, validate, change the set).
+-- Each condition names the call's next row in the list's step table (its numbered atomic steps), and the nodes in the
+-- thread's private state.
 use Rattle.std.specs.Prelude.{ℕ, Option, Some, None}
 use Rattle.lset_words.specs.declared.Reply.{Reply}
 use Rattle.lset_steps.specs.Rows.{decided_on}
@@ -24,7 +25,7 @@ abbrev pub HasLocked : Begun → OwnSlots → Found → TableSeat → Type 0
 HasLocked b own f s = (j : Rest) × Holds lazy b (row own b.call 6 None f.pred.number f.curr.number (record j { ckey = f.word })) s
 
 -- Holds if the two nodes in `f` are locked neighbors, and the link of `f.curr` points to `n`. The call continues at the
--- row of the step table that corresponds to its decision (add, remove or reply).
+-- row of the list's step table (its numbered atomic steps) for its decision: to add, to remove or to reply.
 abbrev pub AreNeighbours : Begun → OwnSlots → Found → Node → TableSeat → Type 0
 AreNeighbours b own f n s = (j : Rest)
     × Holds lazy b (decided_on targets f.word

@@ -1,5 +1,6 @@
--- Conditions that hold between the parts of an `add` or `remove` on a LockFreeList (find, attempt the change). They
--- state the next row of the step table and the nodes in the thread's private state.
+-- Conditions that hold between the parts of an `add` or `remove` on a LockFreeList (find, attempt the change). Each
+-- condition names the call's next row in the list's step table (its numbered atomic steps), and the nodes in the
+-- thread's private state.
 use Rattle.std.specs.Prelude.{◌≡◌, ℕ, Option, Some, None}
 use Rattle.lset_words.specs.declared.Reply.{Reply}
 use Rattle.lset_steps.specs.declared.Fed.{Fed}
@@ -15,8 +16,8 @@ use Rattle.lset_loops.specs.Calling.{Holds, Rest, row, StandsAfter, HasAnswered}
 abbrev pub AtLink : Begun → OwnSlots → ℕ → ℕ → TableSeat → Type 0
 AtLink b own p x s = (j : Rest) × Holds lock_free b (row own b.call 2 None p x j) s
 
--- Holds if the walk has stopped at the two nodes in `f`, and the call has ended or continues at the row of the step
--- table that corresponds to its decision (add or remove).
+-- Holds if the walk has stopped at the two nodes in `f`, and the call has ended or continues at the row of the list's
+-- step table (its numbered atomic steps) for its decision: to add or to remove.
 abbrev pub StopsAt : Begun → OwnSlots → Found → TableSeat → Type 0
 StopsAt b own f s = (j : Rest)
     × ((fed : Fed) → decision_of (decided_on targets f.word (row own b.call 4 None f.pred.number f.curr.number j)) ≡ fed →

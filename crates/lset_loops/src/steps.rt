@@ -1,5 +1,5 @@
 //! The steps of a pending call. Each function requires that its step is the next step according to the list's step
-//! table.
+//! table (its numbered atomic steps).
 ghost use Rattle.std.specs.Prelude.{◌≡◌, ◌≢◌, ℕ, ◌+◌, None, IfSome};
 ghost use Rattle.lset_words.specs.Words.{key_index, link_index, lock_index};
 ghost use Rattle.lset_steps.specs.ReadRows.{continued};

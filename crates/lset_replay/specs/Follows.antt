@@ -18,9 +18,9 @@ use Rattle.lset_replay.specs.Trace.{trace_at, trace_of}
 use Rattle.lset_replay.specs.Reports.{world_after, IsFirstRefused}
 use Rattle.lset_words.specs.Words.{Opening}
 
--- Holds if values of type `W` change with each event as the step table `T` defines. A value of type `W` is a world (the
--- words and threads of a list), and `state` returns the world's state. `account` and `listed` are the assumptions about
--- `T`: how each event changes the keys in the set, and which keys can be in the set.
+-- Holds if values of type `W` change with each event as the step table `T` (the atomic steps of a list) defines. A
+-- value of type `W` is a world (the words and threads of a list), and `state` returns the world's state. `account` and
+-- `listed` are the assumptions about `T`: how each event changes the keys in the set, and which keys can be in the set.
 pub record AreSteps (T : Table) (W : Type 0) (makes : W → Event → Result Told Cause → W → Type 0) (state : W → WorldState) : Type 0 where
   pub account : HasAccount T
   pub listed : ListedContent T

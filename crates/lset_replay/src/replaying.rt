@@ -72,7 +72,7 @@ pub(crate) fn follow<W: Steps>(
     Ok(())
 }
 
-/// Replays a schedule on the list with the step table `M`.
+/// Replays a schedule on the list with the step table `M` (its atomic steps).
 fn replay_on<M: Machine>(alloc: Global, schedule: &Schedule) -> Result<Report, ReplayFault>
     requires { IsInLimits (view schedule.now) }
     ensures replays { Replays M.table (view schedule.now) result }

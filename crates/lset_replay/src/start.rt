@@ -8,9 +8,9 @@ use lset_steps::{Machine, World};
 use lset_words::layout_opening;
 use std::alloc::{AllocError, Global};
 
-/// Creates the world (shared words and private states) of the list with the step table `M`, before the first event of a
-/// schedule. `schedule` must be within the limits, as every schedule from `read_schedule` is. Returns `AllocError` if
-/// an allocation fails.
+/// Creates the world (shared words and private states) of the list with the step table `M` (its atomic steps), before
+/// the first event of a schedule. `schedule` must be within the limits, as every schedule from `read_schedule` is.
+/// Returns `AllocError` if an allocation fails.
 pub fn world_of<M: Machine>(alloc: Global, schedule: &Schedule) -> Result<World<M>, AllocError>
     requires { Opens (opening_in (view schedule.now)) }
     ensures { IfOk result (λ w. w ≡ record {

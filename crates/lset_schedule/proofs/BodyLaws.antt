@@ -169,7 +169,7 @@ module _ {L : Type 0} (text : EventLines L) (v : Version) (title : List ℕ) (pi
         line_found_lacks v Event item_pieces IsItem kinds x i.0 known i.1,
       )
 
-  -- Proof that each written text can be read
+  -- ---- Proof that each written text can be read
 
   event_step : (s : BodyValue L) (l : L) → Good l → sum_by text.count s.lines + text.count l ≤ MOST_EVENTS
       → with_line text v s (line_text l) ≡ Ok (record s { lines = s.lines ++ l ∷ [] })
@@ -207,7 +207,7 @@ module _ {L : Type 0} (text : EventLines L) (v : Version) (title : List ℕ) (pi
       has.opens has.opening (λ front k two room low above. key_step t.header front k two low room above))
       (events_lead t t.lines has.lines has.few)
 
-  -- Proof for complete texts
+  -- ---- Proof for complete texts
 
   starts : (h : Header) → IsHeader h → HasText text v Good (no_lines h)
   starts h is = record {

@@ -29,8 +29,8 @@ text_end end = end
 -- `s` to `s'`, its record (the calls made, with their replies) from `r` to `r'`, and the bytes written to its client
 -- from `w` to `w'`.
 pub record IsSession (end : EndReason) (calls : ℕ) (s s' : Option (List ℕ)) (r r' : Record) (w w' : Option (List ℕ)) : Type 0 where
-  -- The bytes that the session has read. `talk` lists the turns of the session (its lines, and the notice of the limit)
-  -- with their answers.
+  -- The bytes that the session has read. `talk` lists the turns of the session (its lines, and the notice that the
+  -- limit of lines is reached) with their answers.
   pub bytes : List ℕ
   pub talk : List Exchange
   pub read : Consumes s s' bytes
