@@ -75,8 +75,8 @@ pub extern "C" fn listset_judge_from(
     room: &mut [u8],
     status: &mut u8,
 ) -> usize
-    // No contract states the content of a file. The contract of `judge_input` states the answer for all bytes that can be
-    // read.
+    // No contract states the content of a file. The contract of `judge_input` states the answer for all bytes that can
+    // be read.
     ensures { Hands (λ _. Unit {0}) room.old room.new status.new result }
 {
     let mut input = HostInput { file };
@@ -128,18 +128,19 @@ pub extern "C" fn listset_why(alloc: Global, text: &[u8], room: &mut [u8], statu
     hand(diagnose_text(alloc, text), room, status)
 }
 
-/// Diagnoses a refused recording and writes a record, with status 1. The record consists of these lines, in this order:
+/// Diagnoses a refused recording and writes a record, with status 1. The record consists of the following lines, in the
+/// given order:
 /// - `headline TEXT`;
 /// - `call THREAD OPERATION KEY BEGIN END REPLY MARK` for each call to show, ordered by start; MARK is `-`,
 ///   `expected BOOL`, `leaves STATE`, `finds STATE`, `either` or `suspected`, and STATE is `present` or `absent`;
-/// - `also THREAD OPERATION KEY BEGIN END REPLY` for each change of another key at the same time (of many, the
-///   longest); `suspected` follows if the likely cause blames this change;
+/// - `also THREAD OPERATION KEY BEGIN END REPLY` for each overlapping change of another key (of many such changes, the
+///   longest); `suspected` follows if the likely cause blames the change;
 /// - `fact TEXT` for each fact;
 /// - `likely TEXT` and `because TEXT`, if there is a likely cause.
 ///
 /// END and REPLY are `-` for a pending call. If a line has the wrong form or some order explains the calls, writes
-/// nothing and sets status 0. Judge the text first: this function does not check that keys increase, nor that each call
-/// can follow the calls before it.
+/// nothing and sets status 0. Judge the text first: `listset_why_record` does not check that keys increase, nor that
+/// each call can follow the calls before it.
 #[unsafe(no_mangle)]
 pub extern "C" fn listset_why_record(
     alloc: Global,
@@ -171,13 +172,15 @@ pub extern "C" fn listset_why_from(
 }
 
 /// Checks a report and writes the verdict as a record. If the report's order explains its calls, the record is `verdict
-/// own`. Otherwise the status is 1 and the record consists of these parts:
-/// - `order ERROR CALL ..`, the order's first error with its details: the reply in the order, its place and the set's
-///   reply; or the call's start, the other call and its end;
+/// own`. Otherwise the status is 1 and the record consists of the following parts:
+/// - `order ERROR CALL ..`, the order's first error with details: either the reply in the order, the call's place in
+///   the order and the set's reply; or the call's start, and the number and the end of a call that had already ended at
+///   that start;
 /// - `set K ..`, only for `SetReply` and `WrongSet`;
-/// - `verdict another`, `verdict unknown` or `verdict none`, which state whether another order explains the calls;
-/// - after `verdict none`: `reply N` if no set returns the reply of call N, nothing if the final keys are not in increasing
-///   order, and otherwise the lines of `listset_judge_record`.
+/// - `verdict another`, `verdict unknown` or `verdict none`, which state whether an order other than the report's
+///   explains the calls;
+/// - after `verdict none`: `reply N` if no set returns the reply of call N, nothing if the final keys are not in
+///   increasing order, and otherwise the lines of `listset_judge_record`.
 ///
 /// Errors are written as `listset_check` writes them.
 #[unsafe(no_mangle)]
@@ -245,9 +248,9 @@ pub extern "C" fn listset_trace_with_chains(
 /// an event of the schedule is not enabled; a schedule is drawn up to the event that is not enabled. If the text has an
 /// error or is too long, writes the message about the first error.
 ///
-/// `options` contains the values of `--from`, `--to` and `--width`, in this order, separated by zero bytes. Each value
-/// follows a `=`. An option that is empty, or missing at the end, is not set. If an option is wrong, writes `listset:
-/// bad FROM` (or `TO`, `WIDTH`) and sets status 2.
+/// `options` contains first the value of `--from`, then of `--to`, then of `--width`, separated by zero bytes. Each
+/// value follows a `=`. An option that is empty, or missing at the end, is not set. If an option is wrong, writes
+/// `listset: bad FROM` (or `TO`, `WIDTH`) and sets status 2.
 #[unsafe(no_mangle)]
 pub extern "C" fn listset_show(
     alloc: Global,

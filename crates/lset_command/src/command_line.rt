@@ -41,7 +41,7 @@ pub struct Options {
     pub width: Option<String>,
     /// Whether `judge` prints only the verdict, without an explanation.
     pub brief: bool,
-    /// The value of `--only`: `judge` prints only the calls on this key.
+    /// The value of `--only`: `judge` prints only the calls on the key that the option names.
     pub only: Option<String>,
     /// Whether `trace` prints the chain of nodes.
     pub chain: bool,
@@ -100,7 +100,7 @@ fn value_option<'a>(alloc: Global, name: &'a str, value_name: &'a str, help: &'a
 }
 
 // Adds an argument to `command` if `command` is not an error. The callers use this function instead of `?`: an early
-// return drops all arguments, and most of the proof would be about these drops.
+// return drops all arguments, and most of the proof would be about dropping them.
 fn and_arg<'a>(
     command: Result<clap::Command<'a>, AllocError>,
     arg: Arg<'a>,

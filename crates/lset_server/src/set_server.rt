@@ -228,7 +228,7 @@ fn serve_all<R: Threads + Wait + Clock + Sync, M: Running + Send + Sync>(
 ///
 /// # Errors
 ///
-/// Returns a `ServeFault` with one of these causes:
+/// Returns a `ServeFault` with one of the following causes:
 ///
 /// - `Seats`: if and only if `seats`, including the seats merged into them, are not all seats of the set. No connection
 ///   was accepted, and the set and the seats are returned.

@@ -79,22 +79,23 @@ fn run_all<R: Threads + Wait + Sync, M: Running + Send + Sync, G: Gate + Sync>(
     )
 }
 
-/// Makes the calls of each program on its seat. All programs run at the same time, each on its own thread.
+/// Makes the calls of each program on its seat. All programs run at the same time, each in its own thread. (A seat is
+/// one thread's handle to the set.)
 ///
 /// Before each call, `gate` decides whether the program continues. At the end, the seats are merged into one (gathered)
 /// and the set is closed. Some legal order (Herlihy and Wing) has exactly the calls in the seats' records and the calls
-/// of the programs with their replies. This order keeps the order of each seat's calls, and leaves the final keys. A
-/// program has at most 4,294,967,295 calls. Blocks until all threads have ended. A thread can block on the set's locks,
-/// and while the gate blocks.
+/// of the programs with their replies. The legal order keeps the order of each seat's calls, and leaves the final keys.
+/// A program has at most 4,294,967,295 calls. Blocks until all threads have ended. A thread can block on the set's
+/// locks, and while the gate blocks.
 ///
 /// # Errors
 ///
-/// Returns a `WorkFault` with one of these causes:
+/// Returns a `WorkFault` with one of the following causes:
 ///
 /// - `Programs`: if and only if the number of programs differs from the number of seats, or the seats (together with
 /// the seats merged into them) are not all seats of the set. No call was made, and the set and the seats are returned.
 /// - `Spawn`: the system refused to start a thread. The threads that had been started have ended.
-/// - `Gate`: the gate returned false, and no further call of this program was made. All threads have ended.
+/// - `Gate`: the gate refused a call, and no further call of that call's program was made. All threads have ended.
 /// - `Memory`: an allocation failed. All memory, including the memory for the final keys, is allocated before the first
 /// thread starts. The set and the seats are returned.
 ///

@@ -138,8 +138,8 @@ fn a_receipt_has_no_bytes(rt: HostRuntime) {
     assert!(rt; size_of::<TableSeat>() == 0);
 }
 
-/// Two calls at the same time, from seat 0 and from seat 1 (per-thread handles), for each operation. The set contains
-/// the keys 3 and 4.
+/// For each operation, two calls that are made at the same time, from seat 0 and from seat 1 (per-thread handles to the
+/// set). The set contains the keys 3 and 4.
 const OF_EACH_KIND: [(Call, Call); 4] = [
     (Call::Add(Key(1)), Call::Add(Key(2))),
     (Call::Remove(Key(3)), Call::Remove(Key(4))),

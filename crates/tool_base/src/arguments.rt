@@ -1,4 +1,4 @@
-//! Reads the arguments of the commands `gen`, `run` and `serve`, and defines limits for these arguments.
+//! Reads the arguments of the commands `gen`, `run` and `serve`, and defines the limits of the arguments.
 
 ghost use Rattle.std.specs.Prelude.{◌≡◌, ◌≤◌, ◌-◌, ◌^◌, IfOk, IfSome, map, string_bytes};
 ghost use Rattle.lset_schedule.specs.Generating.{IsAccepted};
@@ -74,7 +74,7 @@ fn kind_at(values: &[String], index: usize) -> Option<Kind>
 }
 
 /// Parses argument `index` (counted from 0) as a decimal number from `low` to `high` without leading zeros. Returns
-/// `None` if the argument is missing or is not a number of this form.
+/// `None` if the argument is missing or is not a number of the described form.
 fn number_at(values: &[String], index: usize, low: u32, high: u32) -> Option<u32>
     ensures value { result ≡ number_at (map string_bytes values.now) index low high }
     ensures range { IfSome result (λ n. (low ≤ n) × (n ≤ high)) }
@@ -88,8 +88,8 @@ fn seed_at(values: &[String], index: usize) -> Option<u64>
     long_number(values.get(index)?.as_bytes(), 0, u64::MAX)
 }
 
-/// Reads the arguments of `gen`, in this order: KIND, THREADS, QUOTA, CALLS, KEYS, SEED. Their ranges are documented in
-/// `RandomRequest`. Numbers are decimals without leading zeros. Further arguments are ignored.
+/// Reads the arguments of `gen`, in this order: KIND, THREADS, QUOTA, CALLS, KEYS, SEED. `RandomRequest` documents the
+/// ranges of the arguments. Numbers are decimals without leading zeros. Further arguments are ignored.
 ///
 /// # Errors
 ///
@@ -136,8 +136,8 @@ pub fn read_lives_request(values: &[String]) -> Result<LivesRequest, ValueName> 
     Ok(LivesRequest { run, lives })
 }
 
-/// Reads the arguments of `serve`, in this order: KIND, SEATS, QUOTA, PORT, SESSIONS. Their ranges are documented in
-/// `ServeRequest`. Numbers are decimals without leading zeros. Further arguments are ignored.
+/// Reads the arguments of `serve`, in this order: KIND, SEATS, QUOTA, PORT, SESSIONS. `ServeRequest` documents the
+/// ranges of the arguments. Numbers are decimals without leading zeros. Further arguments are ignored.
 ///
 /// # Errors
 ///

@@ -80,7 +80,7 @@ pub enum Trouble {
 }
 
 impl Trouble {
-    /// Returns the program's exit status for this error: 1, 2 or 3.
+    /// Returns the program's exit status for the error: 1, 2 or 3.
     pub fn status(self) -> u8
         ensures { result ≡ status_of self }
     {

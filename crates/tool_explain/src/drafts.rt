@@ -81,8 +81,8 @@ fn trace_up_to(
     Ok(answer_on(alloc, &trace, &schedule))
 }
 
-/// If the last step of a trace is an attempt to take a lock that another thread holds, returns the lock and the number
-/// of the thread that holds the lock. Otherwise returns `None`.
+/// If a trace ends with an attempt to take a lock that another thread holds, returns the lock and the number of the
+/// thread that holds the lock. Otherwise returns `None`.
 fn held_lock<'a>(trace: &Lines<'a>) -> Option<(&'a str, &'a str)> {
     let step = trace.line(trace.count().saturating_sub(1));
     let lock = str::from_utf8(field_or_empty(step, 7)).unwrap_or("a lock");

@@ -174,7 +174,7 @@ fn put_ending(
 }
 
 /// Explains why a thread cannot take all steps of a line: the call that begins in line `since` has already ended, or
-/// ends before the last step.
+/// ends before the final step of the line.
 fn put_idle(
     alloc: Global,
     out: &mut String,

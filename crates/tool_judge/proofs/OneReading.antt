@@ -1,4 +1,4 @@
--- Reading the same bytes twice has the same result.
+-- Lemmas: reading given bytes always has the same result.
 use Rattle.std.proofs.Common.{◌≡◌, ℕ, ◌+◌, inl, inr, List, [], ◌∷◌, Result, Ok, Err, sym, ap, subst, ◌∙◌}
 use Rattle.lset_text.specs.declared.causes.Cause.{Cause}
 use Rattle.lset_text.specs.declared.causes.LineFault.{LineFault}

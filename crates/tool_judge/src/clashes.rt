@@ -368,7 +368,7 @@ fn needs_and_leaves(
 }
 
 /// Returns the words for the case that the second of two overlapping calls takes effect first: no `add` or `remove`
-/// that would bring the key into the state `need` overlaps the period that the text names after these words.
+/// that would bring the key into the state `need` overlaps the period that the text names next.
 fn nor_text(alloc: Global, need: Presence) -> Result<Vec<u8>, AllocError>
     ensures { IfOk result (λ text. text.items ≡ lines.nor_text need) }
 {

@@ -81,15 +81,15 @@ fn answer_of(alloc: Global, reader: RecordingReader, detail: Detail) -> Result<A
 
 /// Judges the text of a recording. The answer is `ok N calls` with exit status 0 if some order of the calls explains
 /// all replies and ends with the final keys. The answer is `not linearizable` with exit status 1 if no order does. If
-/// the recording was cut off, its final keys are unknown. In this case the answer is `ok` if some order explains the
-/// replies, whatever its final keys are. Allocates. Does not block.
+/// the recording was cut off, its final keys are unknown. The answer is then `ok` if some order explains the replies,
+/// whatever final keys the order leaves. Allocates. Does not block.
 ///
-/// After `ok N calls`, the answer states how many calls overlap a change of their key. If these are fewer than 5 of
-/// 100, advice follows. If the recording was cut off, a remark follows. After `not linearizable`, the answer names a
-/// key and a moment (a time in the recording): no order explains the calls of this key up to this moment. If a
-/// contradiction was found, the answer also shows it: one call leaves the key in a state, another call needs the
-/// opposite state, and no call could have changed the state in between. The key's first or final state can take the
-/// place of a call.
+/// After `ok N calls`, the answer states how many calls overlap a change of their key. If fewer than 5 of 100 calls
+/// overlap a change, advice follows. If the recording was cut off, a remark follows. After `not linearizable`, the
+/// answer names a key and a moment (a time in the recording): no order explains the key's calls up to the moment. If a
+/// contradiction was found, the answer also shows the contradiction: one call leaves the key in a state, another call
+/// needs the opposite state, and no call could have changed the state in between. The key's first or final state can
+/// take the place of a call.
 ///
 /// # Errors
 ///
@@ -152,7 +152,8 @@ pub fn judge_briefly<R: Read>(alloc: Global, input: &mut R) -> Result<Answer, Tr
 /// allocation or a read fails, there are three cases:
 /// - the answer is `ok` with status 0 if and only if the bytes are a recording that has an order;
 /// - the answer is `not linearizable` with status 1 if and only if the bytes are a recording that has no order;
-/// - the result is an error with a line and a cause if and only if this is the first wrong line and its cause.
+/// - the result is an error with a line and a cause if and only if the line is the first wrong line of the bytes and
+///   the cause is correct.
 pub fn answers_are_right()
     ensures { AnswersAreRight }
 {}

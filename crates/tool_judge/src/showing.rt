@@ -18,9 +18,10 @@ const NOT_INCREASING: &[u8] =
 /// A statement about all orders of a report's calls, not only about the order in that report.
 #[derive(Drop)]
 pub enum Claim {
-    /// No order ends with the report's final keys, because these keys are not in increasing order.
+    /// No order ends with the report's final keys, because the final keys are not in increasing order.
     NotIncreasing,
-    /// No order explains the call with this number, because no set can return the reply that the call has.
+    /// No order explains a call, because no set can return the reply that the call has. Contains the call's number, the
+    /// call and the reply.
     NoSuchReply(u32, Call, Reply),
     /// No order explains the calls and ends with the final keys. Contains the reason and, if found, two contradicting
     /// calls.
@@ -135,7 +136,7 @@ fn claim_text(alloc: Global, picture: &Picture) -> Result<Vec<u8>, AllocError> {
 ///
 /// If the order is refused and the picture is text, an empty line and a statement follow the picture: whether some
 /// other order explains the report and ends with its final keys. If no order does, the lines of `judge` follow. For a
-/// report with `ceiling` or `full`, this can be unknown.
+/// report with `ceiling` or `full`, it can be unknown whether another order explains the calls.
 ///
 /// The command fails as `Show::picture` does, with `Bad(From)` if the range of moments begins after everything in the
 /// picture, and with `Memory` if an allocation fails.

@@ -8,7 +8,7 @@ use std::collections::{BTreeMap, BTreeSet};
 use std::io::Read;
 use tool_base::{Answer, READ_SIZE, Trouble};
 
-/// The end of a pending call. This value is greater than every end in a recording.
+/// The end of a pending call: a value that is greater than every end in a recording.
 const NEVER: u64 = u64::MAX;
 
 /// Counts of the calls of one operation.

@@ -97,14 +97,14 @@ impl Task for Expanding<'_> {
 
 /// Expands a draft into a schedule by inserting each missing number of steps. Allocates.
 ///
-/// `draft` must be within the limits, as every draft from `read_draft` is. A line without a count gets the smallest number of
-/// steps, at least 1, that ends the thread's call or brings the thread to the named row. All other lines stay unchanged. The
-/// schedule has version 1 if it has no opening keys and no `ceiling`, otherwise version 2.
+/// `draft` must be within the limits, as every draft from `read_draft` is. A line without a count gets the smallest
+/// number of steps, at least 1, that ends the thread's call or brings the thread to the named row. All lines with a
+/// count stay unchanged. The schedule has version 1 if it has no opening keys and no `ceiling`, otherwise version 2.
 ///
 /// # Errors
 ///
 /// Returns `Line` with the number of the first line that cannot be expanded:
-/// - `TooMany`: with this line, the schedule would exceed 1,000,000 events;
+/// - `TooMany`: with the line, the schedule would exceed 1,000,000 events;
 /// - `NoThread`, `Busy`, `Idle`: an event is not enabled;
 /// - `Waits`: within 10,000 steps, or within the remaining events, the call does not end or the row is not reached.
 ///

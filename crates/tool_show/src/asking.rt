@@ -11,7 +11,7 @@ const DEFAULT_WIDTH: u32 = 100;
 /// The format of a picture.
 #[derive(Clone, Copy)]
 pub enum Form {
-    /// Text in rows of at most this many characters.
+    /// Text, with the maximum number of characters in a row.
     Text(u32),
     /// An SVG image.
     Svg,

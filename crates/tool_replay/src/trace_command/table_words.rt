@@ -1,11 +1,12 @@
 //! Names the shared words of a list: three words of the list itself, and three words for each node.
 use crate::trace_command::chunks::{Chunk, put, put_number};
 
-/// The value of the key word of the tail (the last node, which has no key). It is larger than the key word of every
-/// other node.
+/// The value of the key word of the tail (the last node, which has no key). The tail's value is larger than the key
+/// word of every other node.
 const ABOVE_ALL_KEYS: u64 = 4_294_967_297;
 
-/// A shared word of a list: one of the list's own three words, or one of the three words of the node with this number.
+/// A shared word of a list: one of the list's own three words, or one of the three words of a node, with the node's
+/// number.
 #[derive(Clone, Copy)]
 pub(crate) enum TableWord {
     ListLock,
