@@ -43,16 +43,17 @@ import java.util.stream.Stream;
  *
  * <pre>{@code @Test void isLinearizable() { System.out.println(Judge.judge(MySet::new)); }}</pre>
  *
- * <p>MySet is a {@code Set<Integer>}; any other set is called through three method references. Threads call new sets,
- * and the start and the end of each call are recorded. {@code listset judge FILE} decides whether some order of the
- * calls explains their replies.
+ * <p>MySet is a {@code Set<Integer>}; a set of any other type is called through three method references. Threads call
+ * new sets. The start and the end of each call are recorded. {@code listset judge FILE} decides whether some order of
+ * the calls explains their replies.
  *
- * <p>The environment variable LISTSET names this program; if it is not set, {@code listset} in PATH is used. LISTSET
+ * <p>The environment variable LISTSET names the program {@code listset}; if LISTSET is not set, {@code listset} in PATH
+ * is used. LISTSET
  * can also name a listset.js, which is run with node. If LISTSET is {@code skip}, the test is skipped the way JUnit or
  * TestNG does it.
  *
- * <p>The sets are called in a separate JVM if the method references can be sent there and a set can be created there.
- * If a set ends that JVM or hangs, the calls made so far are judged.
+ * <p>The sets are called in a separate JVM, if the method references can be sent to it and a set can be created in it.
+ * If a set ends the separate JVM or hangs, the calls made so far are judged.
  */
 public final class Judge {
     private static final String[] WORDS = {"add", "remove", "contains"};
@@ -67,7 +68,7 @@ public final class Judge {
     private record Shape(String name, int threads, int sets, int calls, int keys, int times, boolean meetsOnce) {
         Shape(String name, int threads, int sets, int calls, int keys, int times) { this(name, threads, sets, calls, keys, times, false); }
 
-        /** Returns these sizes with the keys 0, 1, 2 .. */
+        /** Returns the same sizes, but with the keys 0, 1, 2 .. */
         Shape withNumbers() { return new Shape(name, threads, sets, calls, keys, 1, meetsOnce); }
 
         /** Returns the sizes of a run with LONGER times as many calls. A run of several sets gets more sets. */
@@ -145,8 +146,8 @@ public final class Judge {
 
         /**
          * Sets the number of calls of each thread: at least 1, and at most 1,000,000,000 for all threads together. 0
-         * selects the preset's number. After every 20,000 calls of all threads together, the threads wait until these
-         * calls are written to the file.
+         * selects the preset's number. After every 20,000 calls of all threads together, the threads wait until the
+         * calls are written to the recording's file.
          */
         public Options withCalls(int it) { return with(made -> made.calls = it); }
 
@@ -158,7 +159,7 @@ public final class Judge {
 
         /**
          * Sets how often a thread pauses before a call, in percent: 0 to 100. A pause lasts at most a few microseconds.
-         * Unless this is 0, threads in the set's own JVM are also interrupted during calls.
+         * Unless {@code it} is 0, threads in the set's own JVM are also interrupted during calls.
          */
         public Options withPauses(int it) { return with(made -> made.pauses = it); }
 
@@ -172,17 +173,16 @@ public final class Judge {
         public Options withSeed(long it) { return with(made -> made.seed = it); }
 
         /**
-         * Sets the time limit for a run that hangs, in seconds: 1 to 3,600. If no call begins or ends for this time, the
-         * run is cut short.
+         * Sets after how many seconds in which no call begins or ends a run is cut short: 1 to 3,600.
          */
         public Options withSeconds(int it) { return with(made -> made.seconds = it); }
 
-        /** Sets the time limit for the test, in seconds: 1 to 604,800. No run starts after this time. */
+        /** Sets the time limit for the test, in seconds: 1 to 604,800. No run starts after the limit. */
         public Options withWithin(int it) { return with(made -> made.within = it); }
 
         /**
-         * Sets the percentage of calls that must overlap a call that adds or removes the same key. If fewer calls do,
-         * the test fails with {@link TooFew}.
+         * Sets the least percentage of calls that must overlap a call that adds or removes the same key. If fewer calls
+         * do, the test fails with {@link TooFew}.
          */
         public Options withAtLeast(int it) { return with(made -> made.atLeast = it); }
 
@@ -192,8 +192,8 @@ public final class Judge {
         }
 
         /**
-         * Sets whether sets are called in a separate JVM. If not, sets are called in this JVM, which crashes or hangs
-         * with them. This is useful for debuggers and coverage.
+         * Sets whether sets are called in a separate JVM. If not, sets are called in the test's JVM, which then crashes
+         * or hangs if a set does. Useful for debuggers and coverage.
          */
         public Options withOwnProcess(boolean it) { return with(made -> made.ownProcess = it); }
 
@@ -226,7 +226,7 @@ public final class Judge {
             }
         }
 
-        /** Returns the preset for a seed, modified by these options. */
+        /** Returns the preset that belongs to {@code seed}, modified by the options. */
         private Shape shapeOf(long seed) {
             Shape it = PRESETS[(int) Math.floorMod(seed - 1, (long) PRESETS.length)];
             int ofSet = calls > 0 ? calls : opensWithKeys ? it.sets * it.calls : it.calls;
@@ -252,9 +252,9 @@ public final class Judge {
         private static boolean isSet(String variable) { return !System.getenv().getOrDefault(variable, "").isEmpty(); }
 
         /**
-         * Returns the sizes of a run with more overlapping calls: more threads (possibly more than processors), fewer keys
-         * and twice as many calls in total, unless these options set the numbers. The threads wait for each other only at
-         * the beginning, because on a busy machine a waiting thread is not interrupted during a call.
+         * Returns the sizes of a run with more overlapping calls: more threads (possibly more than processors), fewer
+         * keys and twice as many calls in total, unless the options set the numbers. The threads wait for each other
+         * only at the beginning, because on a busy machine a waiting thread is not interrupted during a call.
          */
         private Shape harder(Shape it) {
             int wanted = Math.max(2 * it.threads, Runtime.getRuntime().availableProcessors() + 2), more = threads > 0 ? it.threads : Math.min(wanted, 64);
@@ -266,7 +266,7 @@ public final class Judge {
     /**
      * The result of a successful test: some order explains each run. {@code overlapped} is the number of calls that
      * overlapped a call that added or removed the same key, as counted by the judge. {@code judge} is the judge's name,
-     * and what the judge states about its own proof. {@code toString} formats the result.
+     * and whether the judge states that it is proved. {@code toString} formats the result.
      */
     public record Verdict(long calls, long overlapped, String judge) {
         @Override public String toString() {
@@ -321,7 +321,7 @@ public final class Judge {
         NoVerdict(String why, Throwable cause) { super(why + cause, cause); }
     }
 
-    /** Thrown by a call whose outcome is unknown, for example after a timeout. */
+    /** Thrown by a call to a set if the call's outcome is unknown, for example after a timeout. */
     public static final class NotKnown extends RuntimeException {
         private static final long serialVersionUID = 1;
     }
@@ -335,7 +335,7 @@ public final class Judge {
     /** Converts a number to a key. Different numbers must have different keys. */
     public interface Keys<K> extends IntFunction<K>, Serializable { }
 
-    /** Calls one operation of a set with a key. */
+    /** One operation of a set: makes a call with a key and returns the reply. */
     public interface Call<S, K> extends BiPredicate<S, K>, Serializable { }
 
     public static Verdict judge(Make<? extends Set<Integer>> make) { return judge(make, new Options()); }
@@ -380,7 +380,7 @@ public final class Judge {
             try {
                 throw (RuntimeException) Class.forName(name).getConstructor(String.class).newInstance(SKIPPED);
             } catch (ReflectiveOperationException another) {
-                // (this framework does not run the tests)
+                // The current framework does not run the tests: try the next one.
             }
         }
         System.err.println(SKIPPED);
@@ -420,7 +420,8 @@ public final class Judge {
 
         private static boolean isWithin(long since, int seconds) { return System.nanoTime() - since < seconds * SECOND; }
 
-        /** Performs a run and adds its numbers of calls to `sums`. Returns whether few of its calls overlapped. */
+        /** Performs a run and adds its numbers of calls to {@code sums}. Returns whether few of the run's calls
+         * overlapped. */
         private boolean areFew(long[] sums, long seed, Shape shape) throws IOException {
             long overlapped = judged(seed, shape);
             sums[0] += shape.allCalls();
@@ -428,7 +429,8 @@ public final class Judge {
             return isFew(overlapped, shape.allCalls());
         }
 
-        /** Performs a run and judges it. Returns the number of calls that overlapped a call that changed the same key. */
+        /** Performs a run and judges its recording. Returns the number of calls that overlapped a call that changed the
+         * same key. */
         private long judged(long seed, Shape given) throws IOException {
             Shape shape = calls.keys == null ? given : given.withNumbers();
             Outcome first = outcome(seed, shape, Long.MAX_VALUE);
@@ -442,8 +444,8 @@ public final class Judge {
         }
 
         /**
-         * Performs a run and judges it. Does not close the recording of a failed run. In a child JVM, the run is cut short
-         * after {@code most} nanoseconds.
+         * Performs a run and judges its recording. Leaves the recording of a failed run open. In a child JVM, cuts the
+         * run short after {@code most} nanoseconds.
          */
         private Outcome outcome(long seed, Shape shape, long most) throws IOException {
             Recording recording = new Recording(seed, how.record);
@@ -461,9 +463,9 @@ public final class Judge {
         }
 
         /**
-         * Performs longer runs like a refused run, with later seeds of the same preset, until one cannot be completed.
+         * Performs longer runs with the preset of a refused run and later seeds, until a run cannot be completed.
          * Returns the run whose refusal states the most contradictions, and appends the part of the message that counts
-         * the refused runs.
+         * the refused runs to {@code refusedOf}.
          */
         private Outcome clearest(Outcome first, Shape shape, StringBuilder refusedOf) {
             if (caller.process == null || how.isReplay()) return first;
@@ -496,14 +498,16 @@ public final class Judge {
             }
         }
 
-        /** Returns the complete message about a failed run. {@code notes} is the part of the message about other runs. */
+        /** Returns the complete message about a failed run. {@code notes} is the part of the message about earlier and
+         * further runs. */
         private String message(Outcome its, Shape shape, String notes) throws IOException {
             Path file = its.recording.file;
             String named = its.key == null ? "" : keyLine(Integer.parseInt(its.key), shape), alone = its.key == null ? "" : alone(file, its.key);
             return FAILED_RUN.formatted(its.said, its.seed, shape.name, shape.threads, madeHarder(its.seed, shape) + notes + named, file, alone, program);
         }
 
-        /** Returns the part of the message that says whether a run has other sizes than its preset. */
+        /** Returns the part of the message that states that a run has more overlapping calls than its preset, or an
+         * empty string. */
         private String madeHarder(long seed, Shape it) {
             Shape first = how.shapeOf(seed);
             return it.threads == first.threads && it.calls == first.calls && it.keys == first.keys ? "" : MADE_HARDER;
@@ -530,8 +534,8 @@ public final class Judge {
         }
 
         /**
-         * Describes the key that has this number in the recording and, if the run has several sets, the key's set. Returns
-         * an empty string if the number itself is the key, and the run has a single set.
+         * Describes the key whose number in the recording is {@code number} and, if the run has several sets, the key's
+         * set. Returns an empty string if the key is the number and the run has a single set.
          */
         private String keyLine(int number, Shape shape) {
             if (shape.sets == 1 && calls.keys == null) return "";
@@ -589,9 +593,9 @@ public final class Judge {
     private record Area(Options how, ByteBuffer memory) {
         private static final VarHandle INT = MethodHandles.byteBufferViewVarHandle(int[].class, ByteOrder.nativeOrder());
         // Offsets in the memory. IS_HERE: whether the child JVM has started. SAVES: two records about the last save,
-        // each with the length of the file as a long and the value of TICKETS then; the file contains all calls that
-        // had begun by then. SAVE: the index of the valid record. SHAPE: the six numbers of a Shape. WHY and FILE:
-        // texts.
+        // each with the length of the file as a long, and the value of TICKETS at the save; the file contains all calls
+        // that had begun by the last save. SAVE: the index of the valid record. SHAPE: the six numbers of a Shape. WHY
+        // and FILE: texts.
         private static final int TICKETS = 0, THERE = 4, DONE = 8, BEGUN = 12, AT = 16, STOPPING = 20, IS_HERE = 24, IS_BUSY = 28, SEED = 32, SAVE = 40,
             SAVES = 48, SAVED = 16, MOMENT = 8, SHAPE = SAVES + 2 * SAVED, WHY = SHAPE + 24, FILE = WHY + 4 + 1000, SLOTS = FILE + 4 + 1024;
         private static final int BEGIN = 0, END = 4, CALL = 8, KEY = 12, REPLY = 16, THREAD = 20, SLOT = 24; // offsets in a call; the calls of one thread are adjacent in the memory
@@ -612,7 +616,8 @@ public final class Judge {
             return new Shape("", get(SHAPE), get(SHAPE + 4), get(SHAPE + 8), get(SHAPE + 12), get(SHAPE + 16), get(SHAPE + 20) == 1);
         }
 
-        /** Prepares the memory for the run with this seed, and starts the run. The run writes its calls to the file. */
+        /** Prepares the memory for the run with the seed {@code seed}, and starts the run, which writes its calls to
+         * {@code file}. */
         void begin(long seed, Shape of, Path file) {
             for (int at = 0; at < SIZE; at += 4) if (at != IS_HERE) memory.putInt(at, 0);
             memory.putLong(SEED, seed);
@@ -640,7 +645,8 @@ public final class Judge {
             return rows.stream().map(it -> it.line(times)).collect(Collectors.joining());
         }
 
-        /** Ends the recording of a run that was cut short by adding the calls in memory. Returns the pending calls. */
+        /** Completes the recording of a run that was cut short: appends the calls that are still in memory, then {@code
+         * cut}. Returns the pending calls. */
         List<Row> cut() throws IOException {
             List<Row> rows = rows();
             write(lines(rows) + "cut\n");
@@ -660,7 +666,8 @@ public final class Judge {
             }
         }
 
-        /** Appends lines to the file and marks all calls so far as saved. No thread is in a call meanwhile. */
+        /** Appends {@code lines} to the file and marks all calls so far as saved. No call is pending while {@code save}
+         * runs. */
         void save(String lines) throws IOException {
             int other = 1 - get(SAVE);
             memory.putLong(SAVES + other * SAVED, write(lines)).putInt(SAVES + other * SAVED + MOMENT, get(TICKETS));
@@ -668,9 +675,8 @@ public final class Judge {
         }
 
         /**
-         * Returns the calls that have not been saved, ordered by start. Threads can begin and end calls meanwhile: a call
-         * that begins after the start of this method is left out, and a call that ends after the start of this method is
-         * pending.
+         * Returns the calls that have not been saved, ordered by start. Threads can begin and end calls while {@code
+         * rows} runs: a call that begins meanwhile is left out, and a call that ends meanwhile is pending.
          */
         private List<Row> rows() {
             List<Row> found = new ArrayList<>();
@@ -684,7 +690,7 @@ public final class Judge {
             return found;
         }
 
-        /** Creates the sets of a run and calls them. */
+        /** Creates the sets of a run, and makes the calls of all threads to them. */
         <S, K> void callAll(Calls<S, K> calls, boolean isOwn) {
             new Play<>(this, calls, shape(), new AtomicReference<>()).all(isOwn && how.pauses > 0);
             INT.compareAndSet(memory, AT, GOING, OVER);
@@ -693,8 +699,8 @@ public final class Judge {
 
     /** The threads of a run, and the set that they call. */
     private record Play<S, K>(Area area, Calls<S, K> calls, Shape of, AtomicReference<S> set) {
-        // For the opening and the final keys, contains is called at most this often for a key, as long as its outcome
-        // is unknown.
+        // The most calls of contains that try to find out whether a key is an opening or final key. A call is repeated
+        // while its outcome is unknown.
         private static final int MOST_ASKED = 100;
 
         void all(boolean interrupts) {
@@ -727,7 +733,7 @@ public final class Judge {
             void run() throws Exception;
         }
 
-        /** Runs an action and stores the error that it throws, if any. Only the first error is kept. */
+        /** Runs an action and stores the error that it throws, if any. Only the run's first error is kept. */
         private void tried(int as, Doing does) {
             try {
                 does.run();
@@ -758,8 +764,8 @@ public final class Judge {
         }
 
         /**
-         * Waits until all threads have called this method, so that they continue at the same time. Polls without sleeping
-         * if there is a processor for each thread, unless an earlier wait of this kind lasted too long.
+         * Waits until all threads have called {@code meets}, so that they continue at the same time. Polls without
+         * sleeping if there is a processor for each thread, unless an earlier call of {@code meets} lasted too long.
          */
         private boolean meets() {
             boolean isAwake = of.threads <= Runtime.getRuntime().availableProcessors() && area.get(Area.IS_BUSY) == 0;
@@ -771,8 +777,8 @@ public final class Judge {
         }
 
         /**
-         * Creates the sets one after another. The threads call each set in parts (a part is the calls between two saves).
-         * After each part, saves its calls in the file.
+         * Creates the sets one after another. The threads call each set in parts, and after each part, {@code lead}
+         * saves the part's calls in the file.
          */
         private void lead() throws IOException {
             List<String> left = new ArrayList<>();
@@ -801,8 +807,8 @@ public final class Judge {
         }
 
         /**
-         * Calls contains for each key, and retries if the outcome is unknown. Returns a line for each key found, or
-         * null if an outcome stays unknown.
+         * Calls contains for each key, and calls it again if the outcome is unknown. Returns a line for each key found,
+         * or null if an outcome stays unknown.
          */
         private String linesOfKeys(String word, int round) {
             StringBuilder lines = new StringBuilder();
@@ -816,7 +822,7 @@ public final class Judge {
             return lines.toString();
         }
 
-        /** Executes the calls of one thread, one part (the calls between two saves) after another. */
+        /** Makes the calls of one thread to the sets, part by part. A part consists of the calls between two saves. */
         private void callInRounds(int thread) {
             SplittableRandom draw = new SplittableRandom(area.memory.getLong(Area.SEED) * 64 + thread);
             int number = thread;
@@ -850,8 +856,8 @@ public final class Judge {
     }
 
     /**
-     * Performs runs one after another: in a child JVM, which ends when its input ends, or in this JVM if {@code process} is
-     * null.
+     * Performs runs one after another: in a child JVM, which ends when its input ends, or in the test's JVM if {@code
+     * process} is null.
      */
     private record Caller<S, K>(Calls<S, K> calls, Options how, Area area, Process process) implements AutoCloseable {
         static <S, K> Caller<S, K> of(Calls<S, K> calls, Options how) {
@@ -859,7 +865,7 @@ public final class Judge {
                 Caller<S, K> child = how.ownProcess ? inChild(calls, how) : null;
                 if (child != null) return child;
             } catch (IOException | ClassNotFoundException | URISyntaxException | RuntimeException | LinkageError cannot) {
-                // (the calls cannot be sent)
+                // The calls cannot be sent to a child JVM.
             }
             return new Caller<>(calls, how, new Area(how, ByteBuffer.allocateDirect(Area.SIZE)), null);
         }
@@ -892,9 +898,9 @@ public final class Judge {
         }
 
         /**
-         * Returns whether options and calls are unchanged after they have been written and read back. The javac of Java
-         * 17 identifies a method reference by the method that implements it: if A and B inherit {@code contains},
-         * {@code B::contains} is read back as {@code A::contains}.
+         * Returns whether options and calls are unchanged after they have been serialized and read back. The javac of
+         * Java 17 identifies a method reference by the method that implements it. So if A and B inherit {@code
+         * contains}, {@code B::contains} is read back as {@code A::contains}.
          */
         private static boolean isReadBackUnchanged(byte[] given) throws IOException, ClassNotFoundException {
             try (ObjectInputStream in = new ObjectInputStream(new ByteArrayInputStream(given))) {
@@ -903,8 +909,8 @@ public final class Judge {
         }
 
         /**
-         * Performs the run with this seed. Returns the reason if the run was cut short, otherwise null. After {@code most}
-         * nanoseconds, the run is cut short.
+         * Performs the run with the seed {@code seed}, and cuts the run short after {@code most} nanoseconds. Returns
+         * the reason if the run was cut short, otherwise null.
          */
         String made(long seed, Shape of, Path file, long most) {
             area.begin(seed, of, file);
@@ -918,9 +924,9 @@ public final class Judge {
         }
 
         /**
-         * Waits until the run has ended. Returns true after {@code most} nanoseconds, or if the run hangs, that is, if no
-         * call begins or ends for too long. The time between two polls counts as at most five milliseconds, so that a run
-         * that gets no processor for a long time does not count as hung.
+         * Waits until the run has ended. Returns true after {@code most} nanoseconds, or if the run hangs, that is, if
+         * no call begins or ends for too long. The time between two polls counts as at most five milliseconds, so that
+         * a run that gets no processor for a long time is not considered hung.
          */
         private boolean isHung(long most) {
             long began = System.nanoTime(), last = began, waited = 0;
@@ -935,7 +941,7 @@ public final class Judge {
             return false;
         }
 
-        /** Ends the child JVM. Threads of this JVM that hang keep running. */
+        /** Ends the child JVM. Threads of the test's JVM that hang keep running. */
         @Override public void close() {
             if (process == null) area.next(Area.STOPPING);
             else process.destroyForcibly().onExit().join();
@@ -985,7 +991,7 @@ public final class Judge {
             try {
                 while (System.in.read() >= 0) continue;
             } catch (IOException closed) {
-                // (treated as the end of the input)
+                // An error in the input is treated as the end of the input.
             }
             Runtime.getRuntime().halt(1);
         }
@@ -1007,7 +1013,7 @@ public final class Judge {
         }
     }
 
-    /** The recording file of a run. It grows during the run. */
+    /** The file with the recording of a run. The file grows during the run. */
     private static final class Recording implements AutoCloseable {
         private final Path file;
         private boolean isKept;
@@ -1032,15 +1038,15 @@ public final class Judge {
     }
 
     /**
-     * The outcome of a run. If the run failed, {@code said} is the judge's output (preceded by the reason if the run was cut
-     * short), otherwise null. {@code key} is the key that the judge names, or null.
+     * The outcome of a run. {@code said} is the judge's output if the run failed (preceded by the reason if the run was
+     * cut short), otherwise null. {@code key} is the key that the judge names, or null.
      */
     private record Outcome(long seed, long overlapped, String said, String key, boolean isCutShort, Recording recording) {
         private static final Pattern CONTRADICTIONS = Pattern.compile("([0-9]{1,18}) (?:contradiction|of its )");
 
         boolean isFailed() { return said != null; }
 
-        /** Returns how many contradictions the refusal states, or 0 if it states no number. */
+        /** Returns how many contradictions the judge's output states, or 0 if the output states no number. */
         long contradictions() {
             Matcher found = CONTRADICTIONS.matcher(said);
             return found.find() ? Long.parseLong(found.group(1)) : 0;
@@ -1062,8 +1068,8 @@ public final class Judge {
     private record Answer(String said, int status) { }
 
     /**
-     * The program that judges: its name, the command with its first arguments, and what the program states about its
-     * own proof. {@code toString} returns the name and this statement.
+     * The program that judges: its name, the command with its first arguments, and the line in which the program states
+     * whether it is proved. {@code toString} returns the name and the line.
      */
     private record Program(String name, List<String> command, String proof) {
         private static final Pattern OVERLAPPED = Pattern.compile("ok [0-9]+ calls\n([0-9]+) of them");

@@ -3,15 +3,15 @@
     def test_is_linearizable():
         print(listset_judge.judge(MySet))
 
-MySet() has `add` and `remove`, which return True or False, and `contains` or `in`. Threads call new sets, and the start
-and the end of each call are recorded. A judge decides whether some order of the calls explains their replies.
+MySet() has `add` and `remove`, which return True or False, and `contains` or `in`. Threads call new sets. The start and
+the end of each call are recorded. A judge decides whether some order of the calls explains their replies.
 
 The judge is the module `listset` if it can be imported. Otherwise it is the program named by the environment variable
 LISTSET or, if that is not set, `listset` in PATH. LISTSET can also name a listset.js, which is run with node. If
 LISTSET is `skip`, the test is skipped.
 
-If this process has only one thread and can be forked, each run gets its own process. If a set crashes or hangs there,
-the calls made so far are judged.
+If the test's process has only one thread and can be forked, each run gets its own process. If a set crashes or hangs in
+a run's own process, the calls made so far are judged.
 """
 
 from __future__ import annotations
@@ -44,8 +44,8 @@ __tracebackhide__ = True  # (pytest then shows only the line of the test)
 
 GOING, ENDED, UNMADE = range(3)
 MOST_SHOWN = 16  # the maximum number of pending calls in a message
-# The maximum number of calls of `contains` for one opening or final key. The call is repeated while its outcome is
-# unknown.
+# The most calls of `contains` that try to find out whether a key is an opening or final key. A call is repeated while
+# its outcome is unknown.
 MOST_ASKED = 100
 WORDS = ADD, REMOVE, CONTAINS = "add", "remove", "contains"
 NO, YES, UNKNOWN = range(3)
@@ -126,8 +126,8 @@ NUMBER = "the variable %s is %s, but must be a number from %s to %s"
 @dataclasses.dataclass(frozen=True)
 class Verdict:
     """The result of a successful test: some order explains each run. `overlapped` is the number of calls that
-    overlapped a call that added or removed the same key, as counted by the judge. `judge` is the judge's name, and what
-    the judge states about its own proof. str() formats the result.
+    overlapped a call that added or removed the same key, as counted by the judge. `judge` is the judge's name, and
+    whether the judge states that it is proved. str() formats the result.
     """
 
     calls: int
@@ -201,7 +201,7 @@ class Options(collections.namedtuple("Options", "threads calls keys key pauses r
         return bool(os.environ.get("LISTSET_SEED")) or self.seed != 1 and not os.environ.get("LISTSET_SECONDS")
 
     def shape_of(self, seed: int) -> Shape:
-        """Returns the preset for a seed, modified by these options."""
+        """Returns the preset that belongs to `seed`, modified by the options."""
         it = PRESETS[(seed - 1) % len(PRESETS)]
         if it.sets == 1:
             it = it._replace(calls=it.calls // (SLOW if it.keys <= 2 * HOT else 2))
@@ -215,8 +215,8 @@ class Options(collections.namedtuple("Options", "threads calls keys key pauses r
         return it
 
     def harder(self, it: Shape) -> Shape:
-        """Returns the sizes of a run with more overlapping calls: more threads (possibly more than processors) and fewer
-        keys, unless these options set the numbers. The total number of calls does not grow.
+        """Returns the sizes of a run with more overlapping calls: more threads (possibly more than processors) and
+        fewer keys, unless the options set the numbers. The total number of calls does not grow.
         """
         threads = self.threads or min(max(2 * it.threads, (os.cpu_count() or 1) + 2), 64)
         return it._replace(threads=threads, calls=self.calls or max(it.calls * it.threads // threads, 1), keys=self.keys or max(it.keys // 2, 1))
@@ -248,7 +248,7 @@ def judge(make: Callable[[], Any], *, threads: int | None = None, calls: int | N
           at_least: int = 0, adds: int = 1, removes: int = 1, finds: int = 1, own_process: bool = True,
           opens_with_keys: bool = False, record: str | os.PathLike | None = None) -> Verdict:
     """Judges the sets that `make` creates and returns a Verdict. Raises NotLinearizable if no order explains a run, and
-    CutShort if the set crashes or hangs.
+    CutShort if a set crashes or hangs.
 
     threads -- the number of threads that call a set at the same time: 1 to 64; None selects the preset's number
     calls -- the number of calls of each thread: at least 1, and at most 1,000,000,000 for all threads together; None
@@ -321,7 +321,9 @@ class Tester:
         return Verdict(self.calls, self.overlapped, str(self.by))
 
     def judged_run(self, seed: int, shape: Shape) -> bool:
-        """Performs a run and judges it. Returns whether few of its calls overlapped. Raises if the run failed."""
+        """Performs a run and judges its recording. Returns whether few of the run's calls overlapped. Raises Failed if
+        the run failed.
+        """
         its = self.outcome(seed, shape)
         calls = shape.threads * shape.sets * shape.calls
         self.calls, self.overlapped = self.calls + calls, self.overlapped + its.overlapped
@@ -334,7 +336,9 @@ class Tester:
         return is_few(its.overlapped, calls)
 
     def outcome(self, seed: int, shape: Shape, until: float = math.inf) -> Outcome:
-        """Performs a run and judges it. Keeps the recording if the run failed. At the time `until`, the run is cut short."""
+        """Performs a run and judges its recording. Keeps the recording if the run failed. Cuts the run short at the
+        time `until`.
+        """
         self.how.check_keys(shape)
         file, is_failed = recording_of(seed, self.how.record), False
         try:
@@ -352,7 +356,7 @@ class Tester:
             file.unlink()
 
     def clearest(self, first: Outcome) -> tuple[Outcome, str]:
-        """Performs longer runs like a refused run, with later seeds of the same preset, until one cannot be completed.
+        """Performs longer runs with the preset of a refused run and later seeds, until a run cannot be completed.
         Returns the run whose refusal states the most contradictions, and the part of the message that counts the refused runs.
         """
         if self.how.is_replay() or not self.how.has_own_process():
@@ -391,8 +395,8 @@ class Tester:
         return PASSED_BEFORE % ", ".join(names) if names else ""
 
     def key_line(self, number: str, shape: Shape) -> str:
-        """Describes the key that has this number in the recording and, if the run has several sets, the key's set. Returns an
-        empty string if the number itself is the key, and the run has a single set.
+        """Describes the key whose number in the recording is `number` and, if the run has several sets, the key's set.
+        Returns an empty string if the key is the number and the run has a single set.
         """
         if not number or shape.sets == 1 and not self.how.key:
             return ""
@@ -400,7 +404,7 @@ class Tester:
         return KEY_IS % (number, key) + in_set
 
     def named(self, number: int, shape: Shape) -> tuple[str, str]:
-        """Returns the text of a key, and the part of the message that names its set if the run has several sets."""
+        """Returns a key as text and, if the run has several sets, the part of the message that names the key's set."""
         one, at = divmod(number, shape.keys)
         return repr(self.how.key_of(at, shape)), IN_SET % (one + 1) if shape.sets > 1 else ""
 
@@ -462,8 +466,8 @@ def contradictions_in(refused: str) -> int:
 
 
 class Run:
-    """A run. Its calls are recorded in memory that is shared with the set's own process, and are saved in the file while the
-    run continues.
+    """A run. The calls are recorded in memory that is shared with the set's own process, and are saved in the file
+    while the run continues.
     """
 
     # SLOT is the format of a call: begin, end (0 while it is pending), thread, key, operation, reply. COUNT is the
@@ -492,7 +496,7 @@ class Run:
         return self.SAVED.unpack_from(self.slots, self.at_saved)
 
     def fail(self, said, at=GOING):
-        """Stores an error and the progress `at`. Only the first error is kept."""
+        """Stores the error `said` and the progress `at`. Only the run's first error is kept."""
         if not self.slots[0]:
             said = said.encode()[: self.AT]
             self.slots[: len(said)] = said
@@ -501,8 +505,8 @@ class Run:
     # ---- in the process that watches the run
 
     def ended(self):
-        """Performs the run. Returns the reason if the run was cut short, and the pending calls. Both are empty if the run
-        was completed. If the run was cut short, writes the last calls to the file.
+        """Performs the run. If the run was cut short, writes the last calls to the file. Returns the reason why the run
+        was cut short, and the pending calls; both are empty if the run was completed.
         """
         trouble = self.made_in_child() if self.how.has_own_process() else self.made_here()
         why = self.slots[: self.AT].rstrip(b"\0").decode(errors="replace")
@@ -545,8 +549,8 @@ class Run:
         return ENDED_SO % ended if ended or self.slots[self.AT] == GOING and not self.slots[0] else ""
 
     def made_here(self):
-        """Performs the run in threads of this process. Threads that hang keep running. Returns the reason if the run was cut
-        short.
+        """Performs the run in threads of the test's process. Threads that hang keep running. Returns the reason if the
+        run was cut short.
         """
         leader = threading.Thread(target=self.make_all, daemon=True)
         leader.start()
@@ -556,9 +560,9 @@ class Run:
             self.there.abort()
 
     def comes_to_end(self, is_done):
-        """Waits until `is_done` returns true. Returns False at the time `until`, or if no call begins or ends for `seconds`
-        seconds. A wait counts as at most twice its length, so that a run that gets no processor for a long time does not
-        count as hung.
+        """Waits until `is_done` returns true. Returns False at the time `until`, or if no call begins or ends for
+        `seconds` seconds. A wait counts as at most twice its length, so that a run that gets no processor for a long
+        time is not considered hung.
         """
         seen, last, wait, waited = None, time.monotonic(), 0.0005, 0.0
         while not is_done():
@@ -580,7 +584,7 @@ class Run:
     # ---- the thread that creates the sets
 
     def make_all(self):
-        """Creates the sets of the run and calls them."""
+        """Creates the sets of the run, and makes the calls of all threads to them."""
         before = sys.getswitchinterval()
         started = [threading.Thread(target=self.call_in_rounds, args=(i,), daemon=True) for i in range(self.shape.threads)]
         try:
@@ -598,8 +602,8 @@ class Run:
         self.slots[self.AT] = self.slots[self.AT] or ENDED
 
     def lead(self):
-        """Creates the sets one after another. The threads call each set in parts (a part is the calls between two saves).
-        After each part, writes its calls to the file.
+        """Creates the sets one after another. The threads call each set in parts, and after each part, `lead` writes
+        the part's calls to the file.
         """
         left = []
         try:
@@ -619,7 +623,7 @@ class Run:
                     if self.there.broken:  # (the run was cut short)
                         return
                     self.save(file, map(line_of, rows), rows[-1].begin)
-                # (these lines are not marked as saved, because the run can still be cut short)
+                # The last lines are not marked as saved, because the run can still be cut short.
                 file.write("".join([*left, "end\n"] if None not in left else ["cut\n"]).encode())
         except threading.BrokenBarrierError:
             pass
@@ -630,7 +634,8 @@ class Run:
         """Appends lines to the file, and marks all calls that began at the moment `last` or earlier as saved."""
         text = "".join(lines).encode()
         file.write(text)
-        # (if the process ends before this statement, these calls count as not saved, and are read from memory)
+        # If the process ends before the next statement, the calls in `lines` count as not saved, and are read from
+        # memory.
         self.SAVED.pack_into(self.slots, self.at_saved, self.saved[0] + len(text), last)
 
     def opening(self, one):
@@ -659,8 +664,8 @@ class Run:
         self.replies_of = made.add, made.remove, made.contains if hasattr(made, CONTAINS) else made.__contains__
 
     def lines_of_keys(self, word, one):
-        """Calls `contains` for each key, and retries if the outcome is unknown. Returns a list with a line for each key
-        found, and None for each key whose outcome stays unknown.
+        """Calls `contains` for each key, and calls it again if the outcome is unknown. Returns a list with a line for
+        each key found, and None for each key whose outcome stays unknown.
         """
         first, lines = one // self.parts * self.shape.keys, []
         for number in range(self.shape.keys):
@@ -675,7 +680,7 @@ class Run:
     # ---- the threads that call the sets
 
     def call_in_rounds(self, thread):
-        """Executes the calls of one thread, one part (the calls between two saves) after another."""
+        """Makes the calls of one thread to the sets, part by part. A part consists of the calls between two saves."""
         draw, number = random.Random(self.seed * 64 + thread), thread
         try:
             for one in range(self.rounds):
@@ -691,8 +696,8 @@ class Run:
             self.there.abort()
 
     def call(self, places, of_set, thread, number, draw):
-        """Executes calls, and records them in the slots `places`. Returns the thread's number. After an unknown reply,
-        the thread gets a new number.
+        """Makes calls, and records them in the slots `places`. Returns the thread's number, which changes after a call
+        with an unknown reply.
         """
         before, keys, few = sys.gettrace(), self.shape.keys, min(HOT, self.shape.keys)
         drawn = [word for word, share in enumerate(self.how.shares) for _ in range(share)]
@@ -717,7 +722,7 @@ class Run:
 
 
 def described(why: BaseException) -> str:
-    """Returns the text of an exception, with the last place outside of this file at which it passed."""
+    """Returns the text of an exception, with the last line outside of this file that the exception passed."""
     places = [it for it in traceback.extract_tb(why.__traceback__) if it.filename != __file__]
     at = f" ({places[-1].filename}:{places[-1].lineno}, in {places[-1].name})" if places else ""
     return f"{type(why).__qualname__}: {why}{at}"
@@ -733,9 +738,9 @@ def line_of(it):
 
 
 def pausing(pauses, draw, before):
-    """Returns a trace function that lets other threads run before `pauses` percent of the lines of all code outside this
-    file. In one call of ten, it also does this before `pauses` percent of the bytecode instructions. The trace function also
-    calls `before`, the previous trace function.
+    """Returns a trace function that lets other threads run before `pauses` percent of the lines of all code outside of
+    this file and, in one call of ten, also before `pauses` percent of the bytecode instructions. The trace function
+    also calls `before`, the previous trace function.
     """
 
     def of_frame(inner):
@@ -760,7 +765,9 @@ def pausing(pauses, draw, before):
 
 
 class Judge:
-    """A judge: the library or a program. str() returns its name, and what it states about its own proof."""
+    """A judge: the library or a program. str() returns the judge's name, and whether the judge states that it is
+    proved.
+    """
 
     def __init__(self):
         try:
@@ -774,7 +781,8 @@ class Judge:
                 raise NoVerdict(NO_SCRIPT % (self.name, os.path.abspath(self.name))) from None
             words = ["node", self.name] if is_script else [self.name]
             self.words, self.answer = words, lambda file: said([*words, "judge", file], subprocess.PIPE)
-            # (the stderr of a program is not captured: ./listset first builds the judge and prints its progress there)
+            # The stderr of a program is not captured, because ./listset first builds the judge and prints its progress
+            # on stderr.
             version, status = said([*words, "--version", "--long"], subprocess.PIPE if is_script else None)
             if status == 127:
                 raise NoVerdict((IS_FOLDER if os.path.isdir(self.name) else NO_NODE if is_script else NO_JUDGE) % self.name) from None
@@ -786,8 +794,8 @@ class Judge:
         return f"{self.name}, {self.proof}"
 
     def judged(self, file: pathlib.Path) -> tuple[int, str]:
-        """Judges a recording. Returns the number of calls that overlapped a call that changed the same key, and the judge's
-        output if no order explains the calls.
+        """Judges a recording. Returns the number of calls that overlapped a call that changed the same key, and the
+        judge's output (empty if some order explains the calls).
         """
         text, status = self.answer(file)
         met = OVERLAPPED.match(text)
@@ -804,7 +812,7 @@ class Judge:
 
 
 def check_node(name: str) -> None:
-    """Raises if node is too old."""
+    """Raises NoVerdict if node is too old."""
     version = said(["node", "--version"])[0].strip()
     major = re.match("v([0-9]+)", version)
     if major and int(major[1]) < 18:

@@ -1,14 +1,15 @@
-"""Servers as sets for `listset_judge.judge`. A call sends a line to the server and reads a line back, with one connection
-per thread.
+"""Servers as sets for `listset_judge.judge`. A call sends a line to the server and reads one line back. Each thread has
+its own connection.
 
     def test_redis_is_linearizable():
         print(listset_judge.judge(lambda: listset_servers.Redis(6379), pauses=0))
 
-Use `pauses=0`: pauses are for sets in Python. In a client of a server, pauses hide most errors of a replica.
+Use `pauses=0`: pauses are meant for sets in Python. In a client of a server, pauses would hide most errors of a
+replica.
 
-If a reply does not arrive in time, or is lost with its connection, the outcome is unknown: the call returns None, and
-the thread opens a new connection for its next call. `listset_servers.Redis(6379, read_at=6380)` writes to one address
-and reads from another, like a client of a replica. For other servers, write a class like `Redis`.
+If a reply does not arrive in time, or is lost because the connection breaks, the outcome is unknown: the call returns
+None, and the thread opens a new connection for its next call. `listset_servers.Redis(6379, read_at=6380)` writes to one
+address and reads from another, like a client of a replica. For other servers, write a class like `Redis`.
 """
 
 import contextlib
@@ -21,7 +22,7 @@ OPENING = 30  # for how many seconds opening a connection is retried while the s
 
 
 class Connection:
-    """A connection to a port of this machine, or to a host and port."""
+    """A connection to a port of the local machine, or to a host and port."""
 
     socket = file = None
 
@@ -67,14 +68,14 @@ class Connection:
 
 
 class Server:
-    """A server at an address: a port of this machine, or a host and port."""
+    """A server at an address, which is a port of the local machine, or a host and port."""
 
     def __init__(self, address, read_at=None, seconds=10):
         self.address, self.read_at, self.seconds, self.mine = address, read_at or address, seconds, threading.local()
 
     def ask(self, line, replies, is_read=False):
-        """Sends a line and returns the value that `replies` has for the reply, or None if the outcome is unknown. Raises
-        ConnectionError for any other reply.
+        """Sends a line. Returns the value that `replies` has for the reply, or None if the outcome is unknown. Raises
+        ConnectionError if the reply is not in `replies`.
         """
         mine, address = vars(self.mine), self.read_at if is_read else self.address
         if address not in mine:
@@ -86,7 +87,7 @@ class Server:
 
 
 class Redis(Server):
-    """A set in Redis. Each set has a new name, so a late call on an earlier set has no effect on the new set."""
+    """A set in Redis. Each new set has a new name, so that a late call to an earlier set has no effect on it."""
 
     REPLIES, made = {":1": True, ":0": False}, 0
 

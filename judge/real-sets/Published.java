@@ -16,9 +16,9 @@ import scala.collection.concurrent.TrieMap;
 import static java.util.Collections.synchronizedSet;
 
 /**
- * Judges sets built on the libraries of Java, JCTools, H2, Scala and commons-collections. The first argument is the number
- * of tests for each set. An optional second argument is the name of the only set to judge. Prints a row of the table for
- * each set, and the shortest refusal on standard error.
+ * Judges sets built on the libraries of Java, JCTools, H2, Scala and commons-collections. The first argument is the
+ * number of tests for each set. An optional second argument is the name of the only set to judge. Prints a table row
+ * for each set, and each set's shortest refusal on standard error.
  */
 final class Published {
     private static int tests = 1;

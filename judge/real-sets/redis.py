@@ -1,5 +1,5 @@
-"""Judges a set in Redis, and also a set in Redis with a `contains` that reads from a replica: redis.py TESTS. TESTS is the
-number of tests for each of the two sets. Starts the servers on the loopback. Prints a row of the table for each, and the
+"""Judges a set in Redis, and a set in Redis whose `contains` reads from a replica: redis.py TESTS. TESTS is the number
+of tests for each of the two sets. Starts the servers on the loopback. Prints a table row for each set, and each set's
 shortest refusal on standard error.
 """
 

@@ -2,8 +2,8 @@
 #include "../cpp/listset_judge.hpp"
 #include <iostream>
 
-// `words` are the arguments: the number of tests and, optionally, the name of the only set to judge. Prints a row of the
-// table, and the shortest refusal on standard error.
+// `words` are the program's arguments: the number of tests and, optionally, the name of the only set to judge. Prints a
+// table row for the set, and the set's shortest refusal on standard error.
 template <class S> void judge(const char *name, char **words, void (*begins)() = nullptr) {
     const unsigned tests = words[1] ? unsigned(std::stoul(words[1])) : 1;
     if (words[1] && words[2] && words[2] != std::string(name)) return;

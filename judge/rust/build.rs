@@ -1,5 +1,5 @@
-//! Links the judge into the tests if liblistset.a is found: in the folder LISTSET_LIB, in `lib` of this crate, or in the
-//! `lib` of a release.
+//! Links the judge into the tests if `liblistset.a` is found in the folder `LISTSET_LIB`, in the crate's folder `lib`,
+//! or in the folder `lib` of a release.
 use std::path::{Path, PathBuf};
 use std::{env, fs};
 

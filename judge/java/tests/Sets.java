@@ -12,20 +12,21 @@ import java.util.concurrent.locks.LockSupport;
 import java.util.function.BooleanSupplier;
 
 /**
- * Judges the set that the variable SET names, with the options in HOW, such as "threads=4 runs=2". Judges it once, or as
- * often as TESTS states. Prints the result and its kind.
+ * Judges the set that the variable SET names, with the options in HOW, such as "threads=4 runs=2". Judges the set once,
+ * or TESTS times. Prints the result and its kind.
  */
 final class Sets {
     private Sets() { }
 
-    /** Returns the error that the variable SET names. `E later` is the error E if the file `judged` exists, else `finds all`. */
+    /** Returns the name of the set's bug in the variable SET. `E later` stands for the bug E if the file `judged`
+     * exists, otherwise for `finds all`. */
     private static String error() {
         String name = System.getenv("SET");
         if (!name.endsWith(" later")) return name;
         return Files.exists(Path.of("judged")) ? name.substring(0, name.length() - " later".length()) : "finds all";
     }
 
-    /** A correct set, except for the error that {@code error} names. */
+    /** A set that is correct except for the bug that {@code error} returns. */
     static final class Named extends ConcurrentSkipListSet<Integer> {
         private static final long serialVersionUID = 1;
         private final String is = error();
@@ -44,20 +45,20 @@ final class Sets {
             Runtime.getRuntime().halt(3);
         }
 
-        /** Returns the key that the set uses instead of {@code key}. With "collides", this is the remainder modulo 64, so
-         * some different keys are treated as one key. */
+        /** Returns the key that the set uses instead of {@code key}. With "collides", the set uses the remainder modulo
+         * 64, so some different keys are treated as one key. */
         private Integer place(Object key) { return is.equals("collides") ? (Integer) key % 64 : (Integer) key; }
 
-        /** Returns the set of a key. With the bug "first use", the first call with the key creates its set, and two
-         * calls can both create it. */
+        /** Returns the set that contains {@code key}. With the bug "first use", the first call with {@code key} creates
+         * a set for {@code key} alone, and two overlapping calls can both create one. */
         private Set<Integer> part(Object key) {
             Set<Integer> found = parts.get(key);
             if (found == null) parts.put(key, found = new ConcurrentSkipListSet<>());
             return found;
         }
 
-        /** Executes a call. With "not known" or "again", loses one reply in fifty: the outcome is then unknown, or the call is
-         * repeated. */
+        /** Makes a call. With "not known" or "again", loses one reply in fifty. With "not known" the outcome of the
+         * call is then unknown, with "again" the call is repeated. */
         private boolean called(BooleanSupplier call) {
             boolean reply = call.getAsBoolean();
             if (!is.equals("not known") && !is.equals("again") || calls.incrementAndGet() % 50 > 0) return reply;

@@ -1,5 +1,5 @@
-"""Judges the set that the variable SET names, with the options in HOW, such as "threads=4 runs=2". Judges it once, or as
-often as TESTS states. Prints the result and its kind.
+"""Judges the set that the variable SET names, with the options in HOW, such as "threads=4 runs=2". Judges the set once,
+or TESTS times. Prints the result and its kind.
 """
 
 import os
@@ -31,8 +31,8 @@ class Right:
 
 
 class Named(Right):
-    """A correct set, except for the error that its name states. `E later` is the error E if the file `judged` exists, else
-    `finds all`.
+    """A set that is correct except for the bug that is its name. `E later` stands for the bug E if the file `judged`
+    exists, otherwise for `finds all`.
     """
 
     def __init__(self, name):
@@ -48,13 +48,13 @@ class Named(Right):
             threading.Timer(random.random() * 0.04, os._exit, [3]).start()
 
     def __del__(self):
-        """Ends the process when the set is deleted, if the set's name requests this."""
+        """Ends the process when the set is deleted, if the set's name requests an exit."""
         if self.name == "ends when deleted":
             os._exit(3)
 
     def part(self, key):
-        """Returns the set of a key: the whole set or, with "first use", a set for this key alone. The first call with the key
-        creates this set. The bug: two calls can both create it.
+        """Returns the set that contains `key`: the whole set or, with "first use", a set for `key` alone. The first
+        call with `key` creates the set for `key`. The bug: two overlapping calls can both create one.
         """
         if self.name != "first use":
             return super()
@@ -63,14 +63,14 @@ class Named(Right):
         return self.parts[key]
 
     def place(self, key):
-        """Returns the key that the set uses instead of `key`. With "collides", this is the remainder modulo 64, so some
-        different keys are treated as one key.
+        """Returns the key that the set uses instead of `key`. With "collides", the set uses the remainder modulo 64, so
+        some different keys are treated as one key.
         """
         return key % 64 if self.name == "collides" else key
 
     def called(self, call, key):
-        """Executes a call. With "not known" or "again", loses one reply in fifty: the outcome is then unknown, or the
-        call is repeated.
+        """Makes a call. With "not known" or "again", loses one reply in fifty. With "not known" the outcome of the call
+        is then unknown, with "again" the call is repeated.
         """
         reply, is_lossy = call(self.place(key)), self.name in ("not known", "again")
         self.calls += is_lossy
@@ -79,7 +79,9 @@ class Named(Right):
         return call(key) if self.name == "again" else None
 
     def stop(self):
-        """Fails during a later `remove` while holding the lock. STOPS maps the name of a set to its way to fail."""
+        """Fails during a later `remove` while the lock is held. STOPS maps the name of a set to the way in which it
+        fails.
+        """
         self.calls += 1
         if self.calls >= (10_000 if self.name == "crashes late" else 30):  # (>= because two threads can count at the same time)
             with self.lock:

@@ -1,5 +1,5 @@
-"""Tests servers on the loopback: `listset serve` and, if it is installed, Redis. Includes a client that checks and then
-acts, a client that reads from a replica, and connections that pause or are lost.
+"""Tests servers on the loopback: `listset serve` and, if it is installed, Redis. Among the tests are a client that
+checks and then acts, a client that reads from a replica, and connections that pause or are lost.
 
 python3 -m unittest discover -s tests -t tests
 """
@@ -24,14 +24,14 @@ SECONDS = 30  # the maximum wait until a server listens or ends
 
 
 class CheckThenAct(listset_servers.Redis):
-    """A client with an `add` that sends two requests. A request of another client can arrive between the two."""
+    """A client whose `add` sends two requests. Requests of other clients can arrive between the two."""
 
     def add(self, key):
         return not self.contains(key) and (super().add(key) or True)
 
 
 class Again(listset_servers.Redis):
-    """A client that repeats an `add` if its outcome is unknown."""
+    """A client that repeats an `add` whose outcome is unknown."""
 
     def add(self, key):
         reply = super().add(key)

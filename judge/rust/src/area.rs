@@ -28,8 +28,8 @@ const FAILED: u32 = 3;
 const UNMADE: u32 = 4;
 
 /// The positions of a run's numbers in memory. `Tickets` is the counter of moments, `Phase` the progress, and `Save`
-/// the index of the valid record in `SAVES`. `Partners` uses `Alert`, the number plus 1 of a thread that polls, and `Ended`,
-/// how often a block of a set's calls has ended.
+/// the index of the valid record in `SAVES`. `Alert` and `Ended` are for `Partners`: `Alert` is the number plus 1 of a
+/// thread that polls, and `Ended` counts how often a thread has completed a block of calls.
 #[derive(Clone, Copy)]
 pub(crate) enum At {
     Tickets,
@@ -71,8 +71,8 @@ pub struct Area {
 pub struct Row([u32; SLOT]);
 
 impl Row {
-    /// Returns the call as it was at the moment `now`. Returns `None` if the call had not begun then, or was already saved at
-    /// the moment `saved`. (The slot of a pending call can still contain the end of an earlier call.)
+    /// Returns the call as it was at the moment `now`. Returns `None` if the call had not begun by `now`, or was
+    /// already saved at the moment `saved`. (The slot of a pending call can still contain the end of an earlier call.)
     fn as_of(mut self, now: u32, saved: u32) -> Option<Row> {
         let [end, begin, ..] = self.0;
         if end > now || end < begin {
@@ -89,12 +89,13 @@ impl Row {
         ["add", "remove", "contains"][self.0[3] as usize]
     }
 
-    /// Describes a pending call, with the name of its key.
+    /// Describes a pending call. `name` is the call's key as text.
     pub fn pending(&self, name: &str, note: &str) -> String {
         say(PENDING_CALL, &[&self.0[2], &self.word(), &name, &note, &self.0[1]])
     }
 
-    /// The key's number: the number of the set times the number of keys, plus the number of the key in the set.
+    /// Returns the number of the call's key in the recording: the number of the set times the number of keys per set,
+    /// plus the number of the key in the set.
     pub fn key(&self) -> u32 {
         self.0[4]
     }
@@ -135,7 +136,7 @@ impl Area {
         self.at(it).fetch_add(1, SeqCst) + 1
     }
 
-    /// Replaces the number `from` by `to`. Returns `false` if the number was another.
+    /// Replaces the number at `it` by `to` if it is `from`. Otherwise returns `false`.
     pub(crate) fn replace(&self, it: At, from: u32, to: u32) -> bool {
         self.at(it).compare_exchange(from, to, SeqCst, SeqCst).is_ok()
     }
@@ -168,7 +169,7 @@ impl Area {
         Ok(length + lines.len() as u64)
     }
 
-    /// Appends lines to the file and marks all calls so far as saved. No thread is in a call meanwhile.
+    /// Appends `lines` to the file and marks all calls so far as saved. No call is pending while `save` runs.
     fn save(&self, lines: &str) {
         let length = self.write(lines).expect(WRITABLE);
         let other = 1 - self.get(At::Save);
@@ -182,9 +183,9 @@ impl Area {
         std::array::from_fn(|it| self.memory[first + it].load(SeqCst))
     }
 
-    /// Returns the lines of the calls that have not been saved, ordered by start, and the pending calls. Threads
-    /// can begin and end calls meanwhile: a call that begins after the start of this function is left out, and a call that
-    /// ends after the start of this function is pending.
+    /// Returns the lines of the calls that have not been saved, ordered by start, and the pending calls. Threads can
+    /// begin and end calls while `lines` runs: a call that begins meanwhile is left out, and a call that ends meanwhile
+    /// is pending.
     pub fn lines(&self) -> (String, Vec<Row>) {
         let (now, [_, _, saved]) = (self.get(At::Tickets), self.saved());
         let slots = self.memory[SLOTS..].chunks(SLOT);
@@ -197,7 +198,7 @@ impl Area {
 
     // ---- for the process that watches a run
 
-    /// Prepares the memory for a run with these sizes, and then starts the run.
+    /// Prepares the memory for a run with the sizes `of`, and then starts the run.
     pub(crate) fn begin(&self, seed: u64, of: Shape, file: &Path) {
         let is_here = self.get(At::IsHere);
         self.memory.iter().for_each(|it| it.store(0, Relaxed));
@@ -221,8 +222,8 @@ impl Area {
         self.get(At::Tickets)
     }
 
-    /// Returns whether interrupted threads should sleep for longer. On a busy machine, a thread is seldom preempted during a
-    /// call: often it has finished all its calls before it is preempted.
+    /// Returns whether interrupted threads should sleep for longer. On a busy machine, a thread is seldom preempted
+    /// during a call, because it has often completed all its calls before the system preempts it.
     pub fn interrupts_longer(&self) -> bool {
         self.get(At::IsBusy) == 1 || self.get(At::MeetsOnce) == 1
     }
@@ -243,9 +244,9 @@ impl Area {
         }
     }
 
-    /// Waits until the run is over, its process has ended, no call has begun or ended for `seconds` seconds, or it is
-    /// `until`. Returns the error, if any. The time between two polls counts as at most five milliseconds, so that a run that
-    /// gets no processor for a long time does not count as hung.
+    /// Waits until the run is over, its process has ended, no call has begun or ended for `seconds` seconds, or the
+    /// time `until` has come. Returns the error, if any. The time between two polls counts as at most five
+    /// milliseconds, so that a run that gets no processor for a long time is not considered hung.
     fn end(&self, until: Option<Instant>, ended: &dyn Fn() -> Option<String>) -> Option<String> {
         let (mut seen, mut last, mut waited) = (self.get(At::Tickets), Instant::now(), Duration::ZERO);
         while self.get(At::Phase) < OVER {
@@ -278,14 +279,14 @@ impl Area {
         }
     }
 
-    /// Creates the sets of a run and calls them.
+    /// Creates the sets of a run, and makes the calls of all threads to them.
     pub(crate) fn call_all<S: Sync>(&self, source: &Source<S>) {
         let (of, mut left) = (self.shape(), Some(String::new()));
         self.tried(|| self.save("listset-calls 1\n"));
         for one in 0..of.sets {
             match catch_unwind(AssertUnwindSafe(source.make)) {
                 Err(why) => self.fail(UNMADE, why),
-                // (`move`, because dropping the set can panic too)
+                // The closure is `move`, because dropping the set can panic too.
                 Ok(set) => {
                     let left = &mut left;
                     self.tried(move || {
@@ -307,7 +308,7 @@ impl Area {
         catch_unwind(AssertUnwindSafe(does)).unwrap_or_else(|why| self.fail(FAILED, why));
     }
 
-    /// Stores why the run failed. Only the first failure is kept.
+    /// Stores why the run failed. Only the run's first failure is kept.
     fn fail(&self, phase: u32, panic: Box<dyn Any + Send>) {
         if self.at(At::IsStopping).swap(1, SeqCst) == 0 {
             let words =
@@ -334,11 +335,11 @@ impl Area {
     }
 }
 
-/// For the opening and the final keys, `contains` is called at most this often for a key, as long as its outcome is
-/// unknown.
+/// The most calls of `contains` that try to find out whether a key is an opening or final key. A call is repeated while
+/// its outcome is unknown.
 const MOST_ASKED: u32 = 100;
 
-/// The calls on one set.
+/// The calls to one set of a run.
 struct Play<'a, S> {
     area: &'a Area,
     set: &'a S,
@@ -361,8 +362,8 @@ impl<S: Sync> Play<'_, S> {
         left
     }
 
-    /// Starts each part of the calls (a part is the calls between two saves), waits until the part has ended, and saves it
-    /// in the file.
+    /// Lets the threads make their calls in parts, and saves the calls of each part in the file after the part has
+    /// ended.
     fn lead(&self) -> Option<String> {
         let area = self.area;
         if area.options.opens_with_keys {
@@ -389,8 +390,8 @@ impl<S: Sync> Play<'_, S> {
         left
     }
 
-    /// Calls `contains` for each key, and retries if the outcome is unknown. Returns a line for each key found, or `None`
-    /// if an outcome stays unknown.
+    /// Calls `contains` for each key, and calls it again if the outcome is unknown. Returns a line for each key found,
+    /// or `None` if an outcome stays unknown.
     fn lines_of_keys(&self, word: &str) -> Option<String> {
         let line = |key: u32| {
             self.area.next(At::Tickets);
@@ -400,7 +401,7 @@ impl<S: Sync> Play<'_, S> {
         (0..self.of.keys).map(line).collect()
     }
 
-    /// Executes the calls of one thread, one part (the calls between two saves) after another.
+    /// Makes the calls of one thread to the set, part by part. A part consists of the calls between two saves.
     fn call_in_parts(&self, thread: u32, is_stopped: bool) {
         let (area, of, rows) = (self.area, self.of, self.of.rows());
         let stops = if is_stopped { Stops::of_this_thread(area) } else { None };
@@ -437,8 +438,8 @@ impl<S: Sync> Play<'_, S> {
         }
     }
 
-    /// Waits until all threads have called this function, so that they continue at the same time. Polls without sleeping if
-    /// there is a processor for each thread, unless an earlier wait of this kind lasted too long.
+    /// Waits until all threads have called `meet`, so that they continue at the same time. Polls without sleeping if
+    /// there is a processor for each thread, unless an earlier call of `meet` lasted too long.
     fn meet(&self) -> bool {
         let processors = std::thread::available_parallelism().map_or(1, |it| it.get());
         let may_be_awake = self.of.threads as usize <= processors && self.area.get(At::IsBusy) == 0;
@@ -455,8 +456,8 @@ impl<S: Sync> Play<'_, S> {
         are_there
     }
 
-    /// Draws a call, and writes its thread number, operation and key to the slot. Returns the length of the pause before the
-    /// call.
+    /// Draws a random call, and writes the thread number, operation and key of the call to the slot. Returns the length
+    /// of the pause before the call.
     fn prepare(&self, slot: &[AtomicU32], number: u32, draws: &mut Draws, partners: &mut Partners) -> u32 {
         let keys = self.of.keys;
         let [adds, removes, finds] = self.area.options.shares;
@@ -475,7 +476,7 @@ impl<S: Sync> Play<'_, S> {
         }
     }
 
-    /// Starts the timer that stops the thread, before some of the calls.
+    /// Starts the timer that interrupts the thread, before some calls at random.
     fn may_stop(&self, stopping: &mut Draws, stops: Option<&Stops>) {
         let calls = STOPS_PER.min(self.of.sets * self.of.calls);
         let drawn = stopping.below(calls);
@@ -484,8 +485,8 @@ impl<S: Sync> Play<'_, S> {
         }
     }
 
-    /// Executes the call in a slot. Records when the call begins and ends. After an unknown outcome, the thread continues under
-    /// a new thread number.
+    /// Makes the call in a slot, and records when the call begins and ends. After a call with an unknown outcome, the
+    /// thread continues under a new thread number.
     fn call(&self, slot: &[AtomicU32], number: &mut u32, delay: impl FnOnce()) {
         let area = self.area;
         let [word, key] = [3, 4].map(|it: usize| slot[it].load(Relaxed));

@@ -1,5 +1,5 @@
-//! Performs runs: on Unix, in a separate process, which runs this test again up to this call of `judge`; on other systems,
-//! in this process.
+//! Performs runs: on Unix, in a separate process, which runs the test again up to its call to `judge`; on other
+//! systems, in the test's process.
 use std::cell::RefCell;
 use std::collections::HashMap;
 use std::fs::File;
@@ -27,16 +27,16 @@ impl Drop for Temporary {
     }
 }
 
-/// Performs runs in a child process or in this process.
+/// Performs runs in a child process or in the current process.
 pub struct Runner {
     pub area: Area,
     child: Option<RefCell<Child>>,
 }
 
 impl Runner {
-    /// Starts a child process, or prepares this process for the runs. If this is a child process that was started for this
-    /// call of `judge`, performs runs and never returns. If it was started for a different call of `judge`, returns
-    /// `None`.
+    /// Starts a child process, or prepares the current process for the runs. If the current process is a child process
+    /// that was started for this call to `judge`, performs runs and never returns. If it was started for a different
+    /// call to `judge`, returns `None`.
     pub(crate) fn started<S: Sync>(source: &Source<S>, options: &Options) -> Result<Option<Runner>, Failure> {
         let name = name_of_judge();
         if let Ok(mine) = std::env::var(MINE) {
@@ -51,7 +51,7 @@ impl Runner {
         }
     }
 
-    /// Starts a child process that runs the test again, and waits until the child process has reached this call of
+    /// Starts a child process that runs the test again, and waits until the child process has reached the same call to
     /// `judge`.
     fn in_child(name: &str, options: &Options) -> Result<Runner, Failure> {
         static FILES: AtomicU32 = AtomicU32::new(0);
@@ -75,8 +75,8 @@ impl Runner {
         self.child.is_some()
     }
 
-    /// Performs a run. Returns the reason if the run was cut short. In a child process, the run is cut short at the time
-    /// `until`.
+    /// Performs a run. In a child process, cuts the run short at the time `until`. Returns the reason if the run was
+    /// cut short.
     pub(crate) fn made<S: Sync>(
         &self,
         source: &Source<S>,
@@ -119,8 +119,8 @@ impl Drop for Runner {
     }
 }
 
-/// Returns the name of the test and the number of this call of `judge` in the test. Returns `None` if this thread has
-/// no name: then the test cannot be run again.
+/// Returns the name of the test, and the number of the current call to `judge` in the test. Returns `None` if the
+/// current thread has no name, because then the test cannot be run again.
 fn name_of_judge() -> Option<String> {
     static JUDGES: Mutex<Option<HashMap<String, u32>>> = Mutex::new(None);
     let test = std::thread::current().name()?.to_string();

@@ -7,11 +7,11 @@ use std::process::{Command, Stdio};
 use crate::words::*;
 use crate::{no_verdict, Failure};
 
-/// A judge. `proof` is what the judge states about its own proof.
+/// A judge. `proof` is the line in which the judge states whether it is proved.
 pub struct Judge {
     name: String,
     proof: String,
-    /// The command and its first arguments; empty if the judge is the library.
+    /// The command and its first arguments. Empty if the judge is the library.
     command: Vec<String>,
 }
 
@@ -45,7 +45,7 @@ impl Judge {
         if name.ends_with(".js") {
             return Judge::in_node(name);
         }
-        // (stderr is not captured: ./listset first builds the judge and prints its progress there)
+        // Stderr is not captured, because ./listset first builds the judge and prints its progress on stderr.
         match ran(Command::new(&name).args(["--version", "--long"]).stderr(Stdio::inherit())) {
             Ok((Some(127), _)) | Err(_) => no_verdict(say(NO_JUDGE, &[&name])),
             Ok((_, version)) => Ok(Judge { proof: proof_in(&version), command: vec![name.clone()], name }),
@@ -102,12 +102,13 @@ fn ran(command: &mut Command) -> io::Result<Answer> {
     Ok((ended.status.code(), String::from_utf8_lossy(&said).trim().to_string()))
 }
 
-/// Returns the number in the second line if the first line begins with `ok`.
+/// Returns the number of overlapping calls in the second line of the judge's output, if the first line begins with
+/// `ok`.
 fn overlapped_in(said: &str) -> Option<u64> {
     said.strip_prefix("ok ")?.lines().nth(1)?.split(" of them").next()?.parse().ok()
 }
 
-/// Returns the judge's line that states whether the judge is proved.
+/// Returns the line of output in which the judge states whether it is proved correct.
 fn proof_in(version: &str) -> String {
     version.lines().find(|it| it.starts_with("proof ")).unwrap_or("proof unknown").to_string()
 }
@@ -130,8 +131,8 @@ mod library {
 
     pub fn judge(recording: &std::path::Path) -> std::io::Result<super::Answer> {
         let (file, mut room, mut status) = (std::fs::File::open(recording)?, [0; 8192], 0);
-        // SAFETY: the pointers refer to a buffer of this size and to a status. Nothing else accesses the buffer or the
-        // status.
+        // SAFETY: the pointers refer to a buffer of `room.len()` bytes and to a status. Nothing else accesses the
+        // buffer or the status.
         let length = unsafe { listset_judge_from(file.as_raw_fd(), room.as_mut_ptr(), room.len(), &mut status) };
         Ok((Some(status.into()), String::from_utf8_lossy(&room[..length]).trim().to_string()))
     }

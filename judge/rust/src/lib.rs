@@ -8,15 +8,15 @@
 //! ```
 //!
 //! `MySet` has `new`, `add`, `remove` and `contains`; for any other set, pass closures to [`judge`]. Threads call new
-//! sets, and the start and the end of each call are recorded. A judge decides whether some order of the calls explains
+//! sets. The start and the end of each call are recorded. A judge decides whether some order of the calls explains
 //! their replies.
 //!
 //! The judge is `liblistset` if `build.rs` finds it. Otherwise it is the program named by the environment variable
 //! `LISTSET` or, if that is not set, `listset` in `PATH`. `LISTSET` can also name a `listset.js`, which is run with
 //! node. If `LISTSET` is `skip`, nothing is judged.
 //!
-//! On Unix, the sets are called in a separate process, which runs this test again up to this call of `judge`. If a set
-//! crashes or hangs in that process, its calls so far are judged.
+//! On Unix, the sets are called in a separate process, which runs the test again up to its call to `judge`. If a set
+//! crashes or hangs in the separate process, the calls made so far are judged.
 
 mod area;
 mod child;
@@ -46,14 +46,14 @@ pub struct Options {
     /// The number of threads that call a set at the same time: 1 to 64. 0 selects the preset's number.
     pub threads: u32,
     /// The number of calls of each thread: at least 1, and at most 1,000,000,000 for all threads together. 0 selects
-    /// the preset's number. After every 20,000 calls of all threads together, the threads wait until these calls are
-    /// written to the file.
+    /// the preset's number. After every 20,000 calls of all threads together, the threads wait until the calls are
+    /// written to the recording's file.
     pub calls: u32,
     /// The number of keys: 1 to 1,048,576. 0 selects the preset's number. With more than eight keys, half of the calls
     /// use the first four.
     pub keys: u32,
-    /// How often a thread pauses before a call, in percent: 0 to 100. A pause lasts at most a few microseconds. Unless this
-    /// is 0, the signal SIGURG also interrupts threads during calls, if the set has its own process.
+    /// How often a thread pauses before a call, in percent: 0 to 100. A pause lasts at most a few microseconds. If
+    /// `pauses` is not 0 and the set has its own process, the signal SIGURG also interrupts threads during calls.
     pub pauses: u32,
     /// The number of runs: 1 to 1,000,000. A run uses one set, or several new sets one after another. Run `i` uses the
     /// seed `seed + i`.
@@ -61,17 +61,17 @@ pub struct Options {
     /// The random seed for the calls, keys and pauses of the first run. If the first seed is not 1, no further runs follow a
     /// refusal.
     pub seed: u32,
-    /// If no call begins or ends for this many seconds, a run is considered hung and is cut short: 1 to 3,600.
+    /// A run is considered hung, and is cut short, if no call begins or ends for this many seconds: 1 to 3,600.
     pub seconds: u32,
-    /// After this many seconds, the test begins no new run: 1 to 604,800.
+    /// The time limit for the test in seconds: 1 to 604,800. No run starts after the limit.
     pub within: u32,
-    /// The test fails with `TooFew` if less than this percentage of the calls overlap a call that adds or removes the
-    /// same key.
+    /// The least percentage of calls that must overlap a call that adds or removes the same key. If fewer do, the test
+    /// fails with `TooFew`.
     pub at_least: u32,
     /// The relative frequencies of `add`, `remove` and `contains`.
     pub shares: [u32; 3],
-    /// If `false`, sets are called in this process, which crashes or hangs with them. Useful for debuggers, for
-    /// coverage, and for sets that need threads of this process.
+    /// If `false`, sets are called in the test's process, which then crashes or hangs if a set does. Useful for
+    /// debuggers, for coverage, and for sets that need threads of the test's process.
     pub own_process: bool,
     /// If `true`, the opening keys are recorded: before all other calls, `contains` is called for each key.
     pub opens_with_keys: bool,
@@ -157,7 +157,7 @@ impl Options {
         }
     }
 
-    /// Returns the preset for a seed, modified by these options.
+    /// Returns the preset that belongs to `seed`, modified by the options.
     fn shape_of(&self, seed: u64) -> Shape {
         let mut it = PRESETS[(seed as usize + PRESETS.len() - 1) % PRESETS.len()];
         if self.threads > 0 {
@@ -186,7 +186,8 @@ impl Options {
         }
     }
 
-    /// Returns the part of the message that says whether a run has other sizes than its preset.
+    /// Returns the part of the message that states that a run has more overlapping calls than its preset, or an empty
+    /// string.
     fn made_harder(&self, seed: u64, it: Shape) -> String {
         let first = self.shape_of(seed);
         let is_same = (it.threads, it.calls, it.keys) == (first.threads, first.calls, first.keys);
@@ -502,7 +503,7 @@ impl<'a, S: Sync> Tester<'a, S> {
         recording.judged(self.source, &self.runner.area, trouble)
     }
 
-    /// Performs longer runs like a refused run, with later seeds of the same preset, until one cannot be completed. Returns
+    /// Performs longer runs with the preset of a refused run and later seeds, until a run cannot be completed. Returns
     /// the run whose refusal states the most contradictions, and the part of the message that counts the refused runs.
     fn clearest(&self, first: Fault<'a>, seed: u64, shape: Shape) -> (Fault<'a>, String) {
         if self.options.is_replay() || !self.runner.has_own_process() {
