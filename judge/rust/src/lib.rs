@@ -217,9 +217,9 @@ impl Options {
         is_set("LISTSET_SEED") || self.seed != Options::default().seed && !is_set("LISTSET_SECONDS")
     }
 
-    /// Returns the sizes of a run with more overlapping calls: more threads (possibly more than processors), fewer keys and
-    /// twice as many calls in total, unless these options set the numbers. The threads wait for each other only at the
-    /// beginning, because on a busy machine a waiting thread is not interrupted during a call.
+    /// Returns the sizes of a run with more overlapping calls: more threads (possibly more than processors), fewer keys
+    /// and twice as many calls in total, unless the options set the numbers. The threads wait for each other only at
+    /// the beginning, because on a busy machine a waiting thread is not interrupted during a call.
     fn harder(&self, it: Shape) -> Shape {
         let processors = std::thread::available_parallelism().map_or(1, |it| it.get()) as u32;
         let threads = if self.threads == 0 { (2 * it.threads).max(processors + 2).min(64) } else { it.threads };
@@ -228,20 +228,20 @@ impl Options {
         Shape { threads, calls, keys, meets_once: true, ..it }
     }
 
-    /// Returns the shapes of all presets, modified by these options.
+    /// Returns the sizes of all presets, modified by the options.
     fn shapes(&self) -> impl Iterator<Item = Shape> + '_ {
         (1..=PRESETS.len() as u64).map(|it| self.shape_of(it))
     }
 }
 
-/// The result of a successful test: some order explains each run. `Display` formats it.
+/// The result of a successful test: some order explains each run. `Display` formats the result.
 #[derive(Clone, Debug)]
 #[non_exhaustive]
 pub struct Verdict {
     pub calls: u64,
     /// The number of calls that overlapped a call that added or removed the same key, as counted by the judge.
     pub overlapped: u64,
-    /// The name of the judge, and what the judge states about its own proof.
+    /// The name of the judge, and whether the judge states that it is proved.
     pub judge: String,
 }
 
@@ -273,16 +273,16 @@ pub struct Failed {
     pub seed: u64,
     /// The name of the run's preset.
     pub name: String,
-    /// The judge's output. If the run was cut short, the reason precedes this output.
+    /// The judge's output. If the run was cut short, the reason precedes the output.
     pub said: String,
-    /// The file with the recording.
+    /// The file with the run's recording.
     pub file: PathBuf,
     pub judge: String,
-    /// The complete message.
+    /// The complete message about the failed run.
     pub text: String,
 }
 
-/// Why a test failed. `Display` and `unwrap` print the complete message.
+/// The reason why a test failed. `Display` and `unwrap` print the complete message.
 #[non_exhaustive]
 pub enum Failure {
     /// No order explains the run.
@@ -329,8 +329,8 @@ impl Reply for Option<bool> {
     }
 }
 
-/// Judges a type with `new()`, `add(&self, u32) -> bool`, `remove` and `contains`. `make: FUNCTION` replaces `new`.
-/// `Options` can be added as the last argument.
+/// Judges a type that has `new()`, `add(&self, u32) -> bool`, `remove` and `contains`. With the argument `make:
+/// FUNCTION`, `FUNCTION` is called instead of `new`. The last argument can be `Options`.
 #[macro_export]
 macro_rules! judge {
     ($set:ty) => {
@@ -347,7 +347,8 @@ macro_rules! judge {
     };
 }
 
-/// How a test creates sets and calls them. `reply` calls a set with the number of a key; `shown` formats the key.
+/// How a test creates sets and calls them. `reply` makes a call with the key that belongs to a number; `shown` formats
+/// that key.
 struct Source<'a, S> {
     make: &'a dyn Fn() -> S,
     reply: Replies<'a, S>,
@@ -356,7 +357,7 @@ struct Source<'a, S> {
     has_keys: bool,
 }
 
-/// Calls `add`, `remove` or `contains` (0 to 2) with a key and returns the reply.
+/// A function that calls `add` (0), `remove` (1) or `contains` (2) with a key, and returns the reply.
 type Replies<'a, S> = &'a (dyn Fn(&S, u8, u32) -> Option<bool> + Sync);
 
 /// Judges the sets that `make` creates. Many threads call the three closures at the same time.
@@ -426,7 +427,7 @@ fn judged<S: Sync>(source: &Source<S>, options: &Options) -> Result<Verdict, Fai
         Some(it) => it,
         None => {
             return Ok(Verdict { calls: 0, overlapped: 0, judge: String::new() });
-            // (this is a child process that was started for a different call of `judge` in the test)
+            // The current process is a child process that was started for a different call to `judge` in the test.
         }
     };
     let judge = Judge::found()?;
@@ -481,7 +482,8 @@ impl<'a, S: Sync> Tester<'a, S> {
         Ok(verdict)
     }
 
-    /// Performs a run and judges it. Returns the number of calls that overlapped a call that changed the same key.
+    /// Performs a run and judges its recording. Returns the number of calls that overlapped a call that changed the
+    /// same key.
     fn judged_run(&self, seed: u64, shape: Shape) -> Result<u64, Failure> {
         let harder = self.options.made_harder(seed, shape);
         match self.outcome(seed, shape, None)? {

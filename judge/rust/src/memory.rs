@@ -4,7 +4,7 @@ use std::io;
 use std::ops::Deref;
 use std::sync::atomic::AtomicU32;
 
-/// Numbers in the memory of this process, or in a file that processes share.
+/// Numbers in the memory of the current process, or in a file that processes share.
 pub enum Memory {
     Own(Vec<AtomicU32>),
     #[cfg_attr(not(unix), allow(dead_code))]
@@ -21,7 +21,7 @@ impl Memory {
         use std::os::unix::io::AsRawFd;
         const READ_AND_WRITE: i32 = 3;
         const SHARED: i32 = 1;
-        // SAFETY: a new mapping touches no other memory.
+        // SAFETY: a new mapping does not overlap memory that is in use.
         let place = unsafe { system::mmap(std::ptr::null_mut(), 4 * size, READ_AND_WRITE, SHARED, file.as_raw_fd(), 0) };
         if place as isize == -1 {
             return Err(io::Error::last_os_error());

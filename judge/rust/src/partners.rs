@@ -1,7 +1,7 @@
 //! Lets two threads begin calls at the same time, for races that last only nanoseconds. On a busy machine, threads are
-//! seldom on two processors at once. So a thread polls for a partner before a call, and both continue only if the partner
-//! polls too. Half of the calls then use two neighboring keys, which change after every `MEET` calls. This happens in runs
-//! with an odd seed, unless `pauses` is 0.
+//! seldom on two processors at once. So a thread polls for a partner before a call, and both threads continue when the
+//! partner polls too. Half of the calls then use two neighboring keys, which change after every `MEET` calls. Only runs
+//! with an odd seed have partners, and only if `pauses` is not 0.
 use std::sync::atomic::{AtomicU32, Ordering};
 use std::time::{Duration, Instant};
 
@@ -9,7 +9,7 @@ use crate::area::{Area, At, Draws};
 use crate::words::{ALERT, LONGEST, NEAR, TRIES};
 use crate::Shape;
 
-/// What a thread needs to find partners for its calls on one set.
+/// What a thread needs to find partners for its calls to one set.
 pub struct Partners<'a> {
     area: &'a Area,
     of: Shape,
@@ -52,7 +52,7 @@ impl<'a> Partners<'a> {
         self.area.next(At::Ended);
     }
 
-    /// Returns whether all other threads have ended this block of calls.
+    /// Returns whether all other threads have completed the current block of calls.
     fn is_alone(&self) -> bool {
         self.area.get(At::Ended) >= (self.blocks + 1) * self.of.threads - 1
     }
@@ -65,7 +65,8 @@ impl<'a> Partners<'a> {
         }
     }
 
-    /// Polls for at most `ALERT` microseconds for a thread that polls at the same time. Never sleeps: a thread that sleeps would wake up too late.
+    /// Polls for at most `ALERT` microseconds, and returns whether a second thread polled at the same time. Never
+    /// sleeps, because a sleeping thread would wake up too late.
     fn polls(&self) -> bool {
         let (area, mine, other) = (self.area, self.thread + 1, self.area.get(At::Alert));
         if other != 0 || !area.replace(At::Alert, 0, mine) {
@@ -80,8 +81,8 @@ impl<'a> Partners<'a> {
         !area.replace(At::Alert, mine, 0)
     }
 
-    /// Waits for a partner. A limited number of waits end without one. Returns whether two threads can now begin their
-    /// calls.
+    /// Waits for a partner. A thread stops waiting for partners after some waits without one. Returns whether two
+    /// threads can now begin their calls.
     pub fn meet(&mut self) -> bool {
         self.near = if self.is_on { self.draws.below(NEAR) } else { 0 };
         while self.is_on && self.tries > 0 && !self.is_alone() && self.area.get(At::IsStopping) == 0 {
@@ -94,9 +95,10 @@ impl<'a> Partners<'a> {
         false
     }
 
-    /// Delays a call by up to some hundred nanoseconds, because one of two partners always continues a bit earlier.
+    /// Delays a call by up to some hundred nanoseconds, because of two partners the same one always continues a bit
+    /// earlier.
     pub fn delay(&self) {
-        // (a compiler keeps the operations of an atomic)
+        // `left` is atomic because a compiler does not remove operations on an atomic.
         let left = AtomicU32::new(self.near);
         while left.load(Ordering::Relaxed) > 0 {
             left.fetch_sub(1, Ordering::Relaxed);

@@ -9,7 +9,7 @@ use crate::judges::{Judge, Judged};
 use crate::words::*;
 use crate::{no_verdict, Failed, Failure, Options, Shape, Source};
 
-/// The recording file of a run. It grows during the run, and is deleted on drop unless it is kept.
+/// The file with the recording of a run. The file grows during the run, and is deleted on drop unless it is kept.
 pub struct Recording<'a> {
     judge: &'a Judge,
     options: &'a Options,
@@ -21,15 +21,14 @@ pub struct Recording<'a> {
 
 /// The outcome of a run.
 pub enum Outcome<'a> {
-    /// Some order explains the calls. The value is the number of calls that overlapped a call that changed the same
-    /// key.
+    /// Some order explains the calls. Contains the number of calls that overlapped a call that changed the same key.
     Passed(u64),
     Refused(Fault<'a>),
     CutShort(Fault<'a>),
 }
 
-/// A failed run: its recording, the judge's output (preceded by the reason if the run was cut short), and the key that
-/// the judge names. The recording is deleted on drop; `failed` keeps it.
+/// A failed run: its recording; the judge's output, preceded by the reason if the run was cut short; and the key that
+/// the judge names. The recording is deleted on drop, but kept by `failed`.
 pub struct Fault<'a> {
     recording: Recording<'a>,
     said: String,
@@ -37,7 +36,7 @@ pub struct Fault<'a> {
 }
 
 impl Fault<'_> {
-    /// Returns how many contradictions the refusal states, or 0 if it states no number.
+    /// Returns how many contradictions the judge's output states, or 0 if the output states no number.
     pub fn contradictions(&self) -> u64 {
         let words: Vec<&str> = self.said.split(' ').collect();
         let number = words.windows(3).find_map(|it| match it {
@@ -80,7 +79,7 @@ impl<'a> Recording<'a> {
         }
     }
 
-    /// Judges the recording. If the run was cut short, `trouble` is the reason.
+    /// Completes and judges the recording of a run. If the run was cut short, `trouble` is the reason.
     pub(crate) fn judged<S>(self, source: &Source<S>, area: &Area, trouble: Option<String>) -> Result<Outcome<'a>, Failure> {
         let (lines, under_way) = area.lines();
         if trouble.is_some() && area.write(&format!("{lines}cut\n")).is_err() {
@@ -100,8 +99,8 @@ impl<'a> Recording<'a> {
         })
     }
 
-    /// Describes the key that has this number in the recording and, if the run has several sets, the key's set. Returns
-    /// an empty string if the number itself is the key, and the run has a single set.
+    /// Describes the key whose number in the recording is `number` and, if the run has several sets, the key's set.
+    /// Returns an empty string if the key is the number and the run has a single set.
     fn key_line<S>(&self, number: u32, source: &Source<S>) -> String {
         let key = number / self.shape.times;
         if self.shape.sets == 1 && !source.has_keys {

@@ -1,6 +1,6 @@
-//! Interrupts a thread during its calls for at least a microsecond, with a timer that sends SIGURG to the thread. On a busy
-//! machine, the thread then sleeps repeatedly until other threads have executed calls, at most `PATIENT` times. A signal
-//! between two calls has no effect, and the timer is started again.
+//! Interrupts a thread during some calls, by a timer that sends the signal SIGURG. The interrupted thread sleeps for a
+//! microsecond. On a busy machine, it sleeps repeatedly, at most `PATIENT` times, until other threads have made calls.
+//! If the signal arrives between two calls, it has no effect, and the timer is started again.
 
 #[cfg(all(target_os = "linux", any(target_arch = "x86_64", target_arch = "aarch64")))]
 mod timer {
@@ -37,15 +37,15 @@ mod timer {
     }
 
     thread_local! {
-        /// The run for which this thread makes calls.
+        /// The run for which the current thread makes calls.
         static RUN: Cell<*const Area> = const { Cell::new(null()) };
-        /// Whether this thread is in a call of the set.
+        /// Whether the current thread is in a call to the set.
         static IS_IN_CALL: AtomicBool = const { AtomicBool::new(false) };
         /// Whether the last signal came between two calls.
         static IS_MISSED: AtomicBool = const { AtomicBool::new(false) };
     }
 
-    /// Executes a call of the set. Only here does a signal interrupt the thread.
+    /// Makes a call to the set. A signal interrupts the thread only during `in_call`.
     pub fn in_call<R>(call: impl FnOnce() -> R) -> R {
         IS_IN_CALL.with(|it| it.store(true, Relaxed));
         compiler_fence(SeqCst);
@@ -73,8 +73,8 @@ mod timer {
             Some(Stops(timer))
         }
 
-        /// Returns before how many of `calls` calls the timer must be started: before `STOPS`, and after a signal between
-        /// two calls before one in `AGAIN`.
+        /// Returns before how many of `calls` calls the timer must be started: `STOPS` or, after a signal that arrived
+        /// between two calls, one call in `AGAIN`.
         pub fn starts(&self, calls: u32) -> u32 {
             if IS_MISSED.with(|it| it.load(Relaxed)) {
                 STOPS.max(calls / AGAIN)
@@ -83,7 +83,7 @@ mod timer {
             }
         }
 
-        /// Interrupts this thread once after this many nanoseconds, whatever the thread is doing then.
+        /// Starts the timer, which sends a signal to the current thread after `nanoseconds` nanoseconds.
         pub fn after(&self, nanoseconds: u32) {
             IS_MISSED.with(|it| it.store(false, Relaxed));
             let once = [0i64, 0, 0, i64::from(nanoseconds)];
@@ -94,7 +94,7 @@ mod timer {
 
     impl Drop for Stops {
         fn drop(&mut self) {
-            // SAFETY: the timer belongs to this thread.
+            // SAFETY: the timer belongs to the current thread.
             unsafe { syscall(DELETE, self.0 as usize) };
             IS_IN_CALL.with(|it| it.store(false, Relaxed)); // (a call could have panicked)
             RUN.with(|run| run.set(null()));

@@ -1,5 +1,5 @@
-//! Judges the set that the variable SET names, with the options in HOW, such as "threads=4 runs=2". Judges it once, or as
-//! often as TESTS states. Prints the result and its kind.
+//! Judges the set that the variable SET names, with the options in HOW, such as "threads=4 runs=2". Judges the set
+//! once, or TESTS times. Prints the result and its kind.
 use std::collections::{BTreeMap, BTreeSet};
 use std::sync::atomic::{AtomicU32, Ordering::SeqCst};
 use std::sync::{Arc, Mutex};
@@ -25,7 +25,8 @@ impl<K: Ord + Clone> Right<K> {
     }
 }
 
-/// Returns the error that the variable SET names. `E later` is the error E if the file `judged` exists, else `finds all`.
+/// Returns the name of the set's bug in the variable SET. `E later` stands for the bug E if the file `judged` exists,
+/// otherwise for `finds all`.
 fn error() -> String {
     let name = std::env::var("SET").unwrap();
     match name.strip_suffix(" later") {
@@ -35,7 +36,7 @@ fn error() -> String {
     }
 }
 
-/// A correct set, except for the error that `error` names.
+/// A set that is correct except for the bug that `error` returns.
 struct Set {
     is: String,
     keys: Right<u32>,
@@ -58,8 +59,9 @@ impl Set {
         Set { is, keys: Right(Mutex::new(keys)), calls: AtomicU32::new(0), parts: Mutex::default() }
     }
 
-    /// Executes a call. With "first use", each key has its own set. The first call with the key creates this set; the bug is
-    /// that two calls can both create it. With "collides", keys with the same remainder are treated as one key.
+    /// Makes a call. With "first use", each key has its own set, which the first call with the key creates. The bug:
+    /// two overlapping calls can both create a set for the key. With "collides", keys with the same remainder modulo 64
+    /// are treated as one key.
     fn call(&self, call: fn(&Right<u32>, &u32) -> bool, key: u32) -> bool {
         if self.is != "first use" {
             return call(&self.keys, &if self.is == "collides" { key % 64 } else { key });
@@ -73,8 +75,8 @@ impl Set {
         call(&part, &key)
     }
 
-    /// Executes a call. With "not known" or "again", loses one reply in fifty: the outcome is then unknown, or the call
-    /// is repeated.
+    /// Makes a call. With "not known" or "again", loses one reply in fifty. With "not known" the outcome of the call is
+    /// then unknown, with "again" the call is repeated.
     fn called(&self, call: fn(&Right<u32>, &u32) -> bool, key: u32) -> Option<bool> {
         let reply = self.call(call, key);
         let is_lost = ["not known", "again"].contains(&&*self.is) && self.calls.fetch_add(1, SeqCst) % 50 == 49;
@@ -85,8 +87,8 @@ impl Set {
         }
     }
 
-    /// Misbehaves in a late `remove`, as the variable SET says: hangs, crashes, exits, panics or naps while holding the
-    /// lock. Panics without the lock, since other threads would also panic at a poisoned lock.
+    /// Hangs, crashes, exits, panics or naps in a late `remove`. The variable SET selects which. The lock is held
+    /// except in a panic, because a poisoned lock would make other threads panic too.
     fn stop(&self) {
         let _held = (self.is != "throws").then(|| self.keys.0.lock().unwrap());
         match (&*self.is, self.calls.fetch_add(1, SeqCst)) {
@@ -125,7 +127,7 @@ impl Set {
 }
 
 impl Drop for Set {
-    /// Ends the process when the set is dropped, if the variable SET requests this.
+    /// Ends the process when the set is dropped, if the variable SET requests an exit.
     fn drop(&mut self) {
         if self.is == "ends when deleted" {
             std::process::exit(3);
@@ -188,7 +190,7 @@ fn print() {
 
 static COUNTED: Mutex<u64> = Mutex::new(0);
 
-/// Judges a correct set with an `add` that needs a lock. Another test holds this lock nearly all the time.
+/// Judges a correct set whose `add` needs a lock that a second test holds nearly all the time.
 #[test]
 #[ignore = "the tests of listset_judge itself"]
 fn another_test_holds_a_lock() {
