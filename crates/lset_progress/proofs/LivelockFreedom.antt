@@ -60,8 +60,8 @@ module _ (T : Table) (law : Lawful T) (S : Shape) (most : Sizes → ℕ) (shows 
   abbrev Owes : ℕ → Local → Type 0
   Owes m l = (5 ≤ m) ⊎ LateBy S m l
 
-  -- Returns the maximum number of steps by which a single write can increase the steps that all threads together still
-  -- need.
+  -- Returns an upper bound on the number of steps that a single write can add to the steps that all threads together
+  -- still need.
   abbrev price : Sizes → ℕ
   price sz = sz.threads * most sz
 

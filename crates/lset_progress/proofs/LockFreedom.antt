@@ -41,7 +41,7 @@ abbrev Fits : Bool → Sizes → (ℕ → ℕ) → List ℕ → ℕ → Local �
 Fits reads sz key ws m l = (lock_free_steps sz ≤ m)
     ⊎ ((l.pc ≢ 0) × (counted reads l.call ≡ 1) × Timed (node_count sz) key ws m l)
 
--- Returns the maximum number of steps by which a single successful exchange can increase the steps that all threads
+-- Returns an upper bound on the number of steps that a single successful exchange can add to the steps that all threads
 -- together still need.
 abbrev price : Sizes → ℕ
 price sz = sz.threads * round (node_count sz)
