@@ -126,10 +126,11 @@ pub extern "C" fn listset_receipt_of(alloc: Global, seat: &mut CSeat, out: &mut 
 
 /// Passes the receipt `given` (a record of the calls that a seat has seen) to `seat` (one thread's access to the set).
 /// In the order of all calls, later calls of `seat` follow every call that the receipt covers. `given` is empty
-/// afterwards. The caller must ensure that a seat and a receipt with equal list and number belong to one set.
+/// afterwards. The caller must ensure that a seat and a receipt with the same kind of list and the same set number
+/// belong to the same set.
 ///
 /// Returns `DONE`. On an error, changes nothing and returns `NO_SEAT` if `seat` or `given` is empty, or `NO_GATHER` if
-/// `seat` and `given` are not a seat and a receipt with equal list and number. Does not block or allocate.
+/// `seat` and `given` differ in the kind of list or in the set number. Does not block or allocate.
 #[unsafe(no_mangle)]
 pub extern "C" fn listset_after(alloc: Global, seat: &mut CSeat, given: &mut CSeat) -> u8
     requires { GathersAt seat.old.full seat.old.held given.old.full given.old.held }
@@ -146,10 +147,11 @@ pub extern "C" fn listset_seats_within(alloc: Global, seat: &mut CSeat, all: &mu
 }
 
 /// Merges the seat `from` (one thread's access to the set), including all seats that it contains, into `into`. `from`
-/// is empty afterwards. The caller must ensure that two seats with equal list and number belong to one set.
+/// is empty afterwards. The caller must ensure that two seats with the same kind of list and the same set number belong
+/// to the same set.
 ///
 /// Returns `DONE`. On an error, changes nothing and returns `NO_SEAT` if `into` or `from` is empty, or `NO_GATHER` if
-/// `into` and `from` are not two seats with equal list and number. Does not block or allocate.
+/// `into` and `from` differ in the kind of list or in the set number. Does not block or allocate.
 #[unsafe(no_mangle)]
 pub extern "C" fn listset_gather(alloc: Global, into: &mut CSeat, from: &mut CSeat) -> u8
     requires { GathersAt into.old.full into.old.held from.old.full from.old.held }

@@ -128,9 +128,9 @@ pub record IsKept (call : StreamCall) (old new : Facts) : Type 0 where
   pub standing : until_of (other new.was) old ≤ call.begun
   pub better : old.was ≡ new.was → until_of (other new.was) old ≤ old.begun → ⊥
 
--- Holds if the call that the facts f store is at least as useful as `call` for finding two calls that contradict each
--- other. Suppose that all changes away from the state in which `call` left the key had ended when `call` started. Then
--- the stored call left the key in the same state, and all of these changes had also ended when the stored call started.
+-- Holds if the call stored in the facts `f` is at least as useful as `call` for finding two calls that contradict each
+-- other: if all changes to the state opposite to the one that `call` left had ended when `call` started, then the
+-- stored call left the key in the same state as `call`, and those changes had also ended when the stored call started.
 abbrev pub ServesAsWell : StreamCall → Facts → Type 0
 ServesAsWell call f = IfSome call.ended (λ (e : ℕ × Reply). is_plain call.call e.1 ≡ true) → (p : Presence) → leaves_if call.call call.ended ≡ Some p
     → until_of (other p) f ≤ call.begun → (f.was ≡ p) × (until_of (other p) f ≤ f.begun)

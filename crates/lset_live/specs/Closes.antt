@@ -25,8 +25,8 @@ pub record IsLast (c : LastWords) : Type 0 where
   pub run : IsRunOf machine opening events
   pub words : c.words ≡ (end_of machine opening events).words
 
--- [Content] of the words (memory cells): `keys` are the keys of the unmarked nodes that can be reached from the head,
--- in increasing order.
+-- Holds if `keys` are the keys of the unmarked nodes that can be reached from the head in the memory `c`, in increasing
+-- order (see [Content]).
 abbrev pub HasKeys : LastWords → List ℕ → Type 0
 HasKeys c keys = IsContent (view c.sizes c.words (λ t. 0)) keys
 
