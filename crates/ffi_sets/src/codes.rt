@@ -16,10 +16,10 @@ pub const BAD_KEYS: u8 = 12;
 /// An allocation failed.
 pub const OUT_OF_MEMORY: u8 = 13;
 
-/// No list has this number.
+/// No kind of list has the given number.
 pub const BAD_KIND: u8 = 14;
 
-/// A `CSeat` (a handle that C code keeps) that must be empty is not.
+/// A `CSeat` (a handle that C code keeps) that must be empty is not empty.
 pub const IS_SEAT: u8 = 15;
 
 /// The set cannot be closed: some of its seats (one for each thread) were split off and not merged back.
@@ -32,7 +32,7 @@ pub const NO_MORE: u8 = 17;
 /// the events that a seat, one thread's access to the set, has seen.)
 pub const NO_GATHER: u8 = 18;
 
-/// A `contains` on this list can block.
+/// On a coarse, fine or optimistic list, a `contains` can block.
 pub const MAY_BLOCK: u8 = 254;
 
 /// The given `CSeat` (a handle that C code keeps) owns no seat (one thread's access to the set).

@@ -1,4 +1,4 @@
-//! A handle that C code keeps. It owns a box, or is empty.
+//! A handle that C code keeps. A full handle owns a box, and an empty handle owns nothing.
 ghost use Rattle.std.specs.Prelude.{◌≡◌, true, false, MatchOption};
 ghost use Rattle.ffi_sets.specs.Owned.{seat_owns};
 ghost use Rattle.ffi_sets.specs.declared.held.Held.{Held};

@@ -27,7 +27,7 @@ abbrev pub open_records : ℕ → Option PendingCall → List CallRecord
 open_records u None = []
 open_records u (Some o) = record { thread = u; call = o.call; begun = o.begun; ended = None } ∷ []
 
--- Returns the completed calls and the pending call of thread u as the call records of a history.
+-- Converts the completed calls and the pending call of thread `u` to the call records of a history.
 abbrev pub thread_records : ℕ → List OwnCall → Option PendingCall → List CallRecord
 thread_records u done under_way = map (ended_record u) done ++ open_records u under_way
 

@@ -92,8 +92,8 @@ pub record StandsBefore (order : List Answered) (a b : Answered) : Type 0 where
   pub is : order ≡ first ++ a ∷ (between ++ b ∷ last)
 
 -- The law of receipts. A receipt contains the events `given`, and the last of these events is the end of call `c`.
--- Thread `u` receives the receipt and later starts call `d`. In each order that linearizes a run that includes the end
--- of `d`, call `c` precedes call `d`.
+-- Thread `u` receives the receipt and later starts call `d`. In each order that linearizes the events up to the end of
+-- `d`, or these events followed by more, call `c` precedes call `d`.
 abbrev pub ReceiptsKeepOrder : Type 0
 ReceiptsKeepOrder = (T : Table) (k : Opening) (t u : ℕ) (c d : Call) (r a : Reply) (old given taken after events : List Event)
     → IsAnswered T k t c r old given → StartsWith taken given → IsAnswered T k u d a taken after → StartsWith events after

@@ -11,17 +11,17 @@ use lset_rule::{OwnSlots, Pause, Rounds, TableSeat, Words, interpret_within};
 use lset_steps::Machine;
 use lset_words::{Call, Reply};
 
-/// A list that threads call on shared words. Its calls limit the rounds of each loop.
+/// A list that threads call on shared words. Each loop of a call makes a limited number of rounds.
 ///
-/// A list with a step table (`Machine`) can implement this trait without a body: `impl Bounded for MyList {}`. It then
-/// uses the interpreter (`lset_rule::interpret_within`). A list can also provide its own body under the same contract,
-/// as the five lists do.
+/// A list with a step table (`Machine`, the list's atomic steps) can implement this trait without a body: `impl Bounded
+/// for MyList {}`. The list then uses the interpreter (`lset_rule::interpret_within`). A list can also provide its own
+/// body under the same contract, as the five lists do.
 ///
-/// - Precondition `MayCall`: `place` is a seat on the words `table` without a pending call, and `slots` are the slots
-///   of its thread (nodes for its adds).
+/// - Precondition `MayCall`: `place` is a seat (per-thread handle) on the words `table` without a pending call, and
+///   `slots` are the slots of the seat's thread (nodes reserved for its adds).
 /// - Postcondition `HasCalled`: `place` is still the same seat, the returned slots are the slots of its thread, and
-///   exactly this call has been added to the seat's record. The call started after all events that the seat had seen,
-///   and has ended. If `None` is returned, nothing is ensured.
+///   exactly the executed call has been added to the seat's record. The call started after all events that the seat had
+///   seen, and has ended. If `None` is returned, nothing is ensured.
 pub trait Bounded: Machine {
     /// Executes a call of any kind, with at most `N::MOST` rounds in each loop. (A `contains` of LazyList and
     /// LockFreeList makes as many rounds as it needs.) `place` is an idle seat (per-thread handle) on the words

@@ -70,9 +70,10 @@ impl<M: Machine> LiveSet<M> {
     }
 
     /// Adds the events in `receipt` to the events that `seat` (a per-thread handle) has seen. `seat` and `receipt` must
-    /// belong to the set. The seat's later calls start after all events in the receipt. In each order that explains the
-    /// run, all calls that had ended in the receipt's events precede the seat's later calls (`receipts_keep_order`).
-    /// The seat's record and the seats that it holds do not change. Does not block or allocate.
+    /// belong to the set. The seat's later calls start after all events in the receipt. In each order that linearizes
+    /// the run, all calls that had ended in the receipt's events precede the seat's later calls
+    /// (`receipts_keep_order`). The seat's record and the seats that it holds do not change. Does not block or
+    /// allocate.
     pub fn after(&self, seat: &mut Seat<M>, receipt: Receipt<M>)
         requires seat { seat.old.set ≡ self.now }
         requires receipt { receipt.set ≡ self.now }
@@ -89,7 +90,7 @@ impl<M: Machine> LiveSet<M> {
 
 /// States the law of receipts, as the contract of an empty function. If a call has ended in the events of a receipt,
 /// the call precedes each later call of a seat (per-thread handle) that receives the receipt. The law is true in each
-/// order that linearizes a run that includes the end of the later call.
+/// order that linearizes the events up to the end of the later call, or these events followed by more.
 pub fn receipts_keep_order()
     ensures { ReceiptsKeepOrder }
 {}

@@ -1,4 +1,4 @@
-//! A running set: a list in memory that threads share, and its calls.
+//! A running set (a list in memory that threads share), and the calls of the set.
 ghost use Rattle.std.specs.Prelude.{◌≡◌, ◌≢◌, ◌+◌, ◌<◌, ◌≤◌, ℕ, List, [], ◌∷◌, length, vec_capacity, IfOk, IfErr, IfSome};
 ghost use Rattle.lset_words.specs.Words.{word_count, sizes};
 ghost use Rattle.lset_words.specs.declared.Call.TheVariants.{Add, Remove, Contains, Ceiling};

@@ -16,7 +16,7 @@ use std::sync::Wait;
 #[derive(Clone, Copy, Debug, PartialEq, Eq)]
 #[must_use]
 pub enum Added {
-    /// The key was absent and has been added. It counts against the thread's quota of adds. The reply is `True`.
+    /// The key was absent and has been added. The add counts against the thread's quota. The reply is `True`.
     New,
     /// The key was already present. Nothing changed. The reply is `False`.
     Already,
@@ -102,7 +102,7 @@ impl<M: Running> Seat<M> {
     }
 }
 
-/// Converts the reply of an `add` to its typed result.
+/// Converts the reply of an `add` to the result type `Added`.
 fn added_of(reply: Reply) -> Added
     requires { IsAddReply reply }
     ensures { reply_of_add result ≡ reply }
@@ -115,7 +115,7 @@ fn added_of(reply: Reply) -> Added
     }
 }
 
-/// Converts the reply of a `remove` or a `contains` to its typed result.
+/// Converts the reply of a `remove` or a `contains` to a Boolean.
 pub(crate) fn truth_of(reply: Reply) -> bool
     requires { IsTruth reply }
     ensures { reply_of result ≡ reply }
@@ -127,7 +127,7 @@ pub(crate) fn truth_of(reply: Reply) -> bool
     }
 }
 
-/// Converts the reply of a `ceiling` to its typed result.
+/// Converts the reply of a `ceiling` to the key in the reply, or to `None` if the reply is `Nothing`.
 fn key_of(reply: Reply) -> Option<Key>
     requires { IsCeilingReply reply }
     ensures { reply_of_ceiling result ≡ reply }

@@ -1,4 +1,4 @@
--- Lemmas about one step of a pending call: if a condition holds before the step, another holds after it.
+-- Lemmas about one step of a pending call: a condition before the step implies a condition after the step.
 use Rattle.std.proofs.Common.{◌≡◌, ◌≢◌, ℕ, ◌+◌, ◌<◌, ◌≤◌, List, ◌∷◌, Option, None, refl, sym, ap, ◌∙◌, subst, arith}
 use Rattle.atomic_table.specs.Seated.{TableId}
 use Rattle.lset_words.specs.declared.Call.{Call}

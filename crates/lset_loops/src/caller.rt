@@ -12,7 +12,7 @@ use lset_words::Call;
 use std::marker::Model;
 use std::snapshot::Snapshot;
 
-/// A pending call, and a copy of its seat (per-thread handle) made when the call started.
+/// A pending call, and a copy of its seat (per-thread handle) from the time when the call started.
 #[derive(Drop)]
 pub(crate) struct Origin {
     call: Call,

@@ -24,7 +24,7 @@ impl<'a, M: Machine, P: Pause> Caller<'a, M, P> {
         self.pause.moved(self.slots.thread);
     }
 
-    /// Loads a word. The call can end with this step. If the call continues, the loop must call `goes_on`.
+    /// Loads a word. The load can end the call. If the call continues, the loop must call `goes_on`.
     #[inline(always)]
     fn look_at(&self, place: &mut TableSeat, part: Part) -> u64
         requires { MayAnswer M.table self.now.origin (Load (index_of part)) place.old }
@@ -34,7 +34,7 @@ impl<'a, M: Machine, P: Pause> Caller<'a, M, P> {
         step_on::<M>(self.table, place, Action::Load(part.index()))
     }
 
-    /// Loads the key of a node. The call can end with this step. If the call continues, the loop must call `goes_on`.
+    /// Loads the key of a node. The load can end the call. If the call continues, the loop must call `goes_on`.
     #[inline(always)]
     pub fn look_at_key(&self, place: &mut TableSeat, node: Node) -> u64
         requires { MayAnswer M.table self.now.origin (Load (key_index node.number)) place.old }
@@ -44,7 +44,7 @@ impl<'a, M: Machine, P: Pause> Caller<'a, M, P> {
         self.look_at(place, Part::Key(node))
     }
 
-    /// Loads the link of a node. The call can end with this step. If the call continues, the loop must call `goes_on`.
+    /// Loads the link of a node. The load can end the call. If the call continues, the loop must call `goes_on`.
     #[inline(always)]
     pub fn look_at_link(&self, place: &mut TableSeat, node: Node) -> u64
         requires { MayAnswer M.table self.now.origin (Load (link_index node.number)) place.old }
@@ -105,7 +105,7 @@ impl<'a, M: Machine, P: Pause> Caller<'a, M, P> {
         self.store(place, Part::Link(node), link.word());
     }
 
-    /// Releases the lock of a node. The call continues.
+    /// Releases the lock of a node, as a step that does not end the call.
     pub fn unlock(&self, place: &mut TableSeat, node: Node)
         requires { MayStep M.table self.now.origin (Store (lock_index node.number) 0) place.old }
         ensures { HasStepped M.table self.now.origin place.old 0 place.new }
@@ -126,8 +126,8 @@ impl<'a, M: Machine, P: Pause> Caller<'a, M, P> {
     }
 
     /// Attempts to change the link of a node from `old` to `new` by a compare-and-exchange, and returns whether the
-    /// link was changed. The call can end with this step. If the link was changed and the call continues, the loop
-    /// must call `goes_on`.
+    /// link was changed. The exchange can end the call. If the link was changed and the call continues, the loop must
+    /// call `goes_on`.
     #[inline(always)]
     pub fn exchange(&self, place: &mut TableSeat, node: Node, old: Link, new: Link) -> bool
         requires { MayAnswer M.table self.now.origin (Exchange (link_index node.number) (word_of old) (word_of new)) place.old }
@@ -140,7 +140,8 @@ impl<'a, M: Machine, P: Pause> Caller<'a, M, P> {
         true
     }
 
-    /// Attempts to take the lock at index `word` until it succeeds. Returns `None` after `N::MOST` failed attempts.
+    /// Attempts repeatedly to take the lock at index `word`, until an attempt succeeds. Returns `None` after `N::MOST`
+    /// failed attempts.
     #[inline(never)]
     fn wait_for<N: Rounds>(&self, place: &mut TableSeat, word: u64) -> Option<()>
         requires { MayLock M.table self.now.origin word self.now.slots.thread place.old }

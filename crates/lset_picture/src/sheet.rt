@@ -2,7 +2,7 @@
 use crate::columns::Column;
 use std::alloc::AllocError;
 
-/// The CSS classes for the threads' colors. Eight threads have different colors, then the colors repeat.
+/// The CSS classes for the threads' colors. Up to eight threads have different colors; after that, the colors repeat.
 const THREADS: [&str; 8] = [
     "thread-0", "thread-1", "thread-2", "thread-3", "thread-4", "thread-5", "thread-6", "thread-7",
 ];

@@ -75,7 +75,7 @@ fn put_above(
     Ok(())
 }
 
-/// Adds the labels of the rows: `moment`, the threads and `set`.
+/// Adds the labels of the rows: `moment`, `thread 0` and so on, and `set`.
 fn put_labels(
     alloc: Global,
     out: &mut String,
@@ -130,7 +130,7 @@ fn put_bar(
     put_line(out, &class, Spot { x, y }, Spot { x: end, y })
 }
 
-/// Adds a call's operation and key above its start, if the start is drawn.
+/// Adds the operation and the key of a call above the call's start, if the start is drawn.
 fn put_begin(
     alloc: Global,
     out: &mut String,
@@ -148,7 +148,7 @@ fn put_begin(
     put_text(out, thread_class(made.thread), clash, Spot { x, y }, &call)
 }
 
-/// Adds a call's reply after its end, if the end is drawn.
+/// Adds the reply of a call after the call's end, if the end is drawn.
 fn put_end(
     alloc: Global,
     out: &mut String,
@@ -191,8 +191,8 @@ fn put_bars(
     Ok(())
 }
 
-/// Returns the position of an entry's linearization point, its thread, and whether the call changes the set. Returns
-/// `None` if the linearization point is unknown or not drawn.
+/// Returns the position of the linearization point of an entry, the thread of the entry's call, and whether the call
+/// changes the set. Returns `None` if the linearization point is unknown or not drawn.
 fn dot_of(standing: Standing, drawing: &Drawing) -> Option<(Spot, u32, bool)> {
     let (made, point) = (standing.made?, standing.point?);
     if point.moment < drawing.from || drawing.last < point.moment {

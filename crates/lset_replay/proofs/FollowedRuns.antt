@@ -32,8 +32,8 @@ shown T op events = record {
   counts = counts_of (views T op (event_at (only_events events)));
 }
 
--- What a replay assumes about a list: each run has an account (how each event changes the keys in the set), and all
--- keys in the set are below 2^32.
+-- What a replay assumes about a list: each run has an account (a description of how each event changes the keys in the
+-- set), and all keys in the set are below 2^32.
 pub record TellsKeys (T : Table) : Type 0 where
   pub account : HasAccount T
   pub listed : ListedContent T

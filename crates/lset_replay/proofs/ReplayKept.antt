@@ -30,7 +30,7 @@ use Rattle.lset_replay.proofs.KeyChanges.{Tells, changes_by, quiet_keys}
 pub record IsWatched (log : Log) (contents : Contents) (counts : Counts) (k t : ℕ) (o : OpenCall) : Type 0 where
   pub here : OpenNumber (calls_at log k) t o.number o.call o.begun
   pub since : o.begun ≤ k
-  -- Until the pending call changes the set, the call's thread adds no key.
+  -- From the start of the pending call until the call changes the set, the call's thread adds no key.
   pub steady : has_changed log t k ≡ false → (m : ℕ) → o.begun ≤ m → m ≤ k → counts m t ≡ counts k t
 
 -- Holds if `p` is the linearization point of a call. If the call changed the set, the point is the moment (event

@@ -1,4 +1,4 @@
-//! Finds the first moment (event number) during a call when its reply is correct.
+//! Finds the first moment (event number) during a call when the call's reply is correct.
 ghost use Rattle.std.specs.Prelude.{◌≡◌, ◌≢◌, ◌≤◌};
 ghost use Rattle.lset_words.specs.declared.Key.{Key};
 ghost use Rattle.lset_words.specs.declared.Call.TheVariants.{Ceiling};

@@ -1,4 +1,4 @@
-//! The interface for running a schedule on a list or on a broken list.
+//! The interface for running a schedule on a list or on a broken list (a list with one check removed).
 ghost use Rattle.std.specs.Prelude.{Result};
 ghost use Rattle.lset_text.specs.declared.causes.Cause.{Cause};
 ghost use Rattle.lset_steps.specs.declared.Event.{Event};
@@ -12,7 +12,8 @@ use std::alloc::AllocError;
 /// The world of a run: the shared words of a list or a broken list, and the private states of its threads. The events
 /// of the run are executed in the world.
 pub trait Steps {
-    /// Specifies the effect of an event. The default, which is used for broken lists, allows any effect.
+    /// Specifies the effect of an event. The default, which is used for broken lists (lists with one check removed),
+    /// allows any effect.
     ghost makes: { Self → Event → Result Told Cause → Self → Type 0 } = { λ world event made after. Unit {0} };
 
     /// Returns the private state of thread `t`, or `None` if there is no such thread.

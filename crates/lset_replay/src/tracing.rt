@@ -63,8 +63,8 @@ impl<W: Steps + Drop> TracedRun<W> {
         })
     }
 
-    /// Executes an event and returns its description for a trace. If the event is not enabled, the inner error is the
-    /// cause. Returns `AllocError` if an allocation fails.
+    /// Executes an event and returns its description for a trace. If the event is not enabled, the inner error states
+    /// the cause. Returns `AllocError` if an allocation fails.
     pub fn make(&mut self, next: LineEvent) -> Result<Result<TracedEvent, Cause>, AllocError> {
         let ahead = self.look(next.event);
         let thread = thread_of(next.event);

@@ -166,8 +166,8 @@ ends_later calls begun None = true
 ends_later calls begun (Some end) = nat_lt begun end.0 && not (is_taken calls end.0)
 
 -- Returns whether the call `x` can be appended to the calls of a history. The call must start after all previous calls
--- have started, and after all previous calls of its thread have ended. It must end after its start. No other call can
--- start or end at the moments (positions in the history) when `x` starts and ends.
+-- have started, and after all previous calls of its thread have ended. The end of the call, if any, must be after its
+-- start. No other call can start or end at the moments (positions in the history) when `x` starts and ends.
 abbrev pub may_follow : ℕ → List CallRecord → CallRecord → Bool
 may_follow threads calls x =
     nat_lt x.thread threads
@@ -266,7 +266,7 @@ no_lines version h = record {
 abbrev pub nothing_told : Version → HeaderTold → SoFar
 nothing_told version h = record { section = section.Opening; report = no_lines version h }
 
--- Returns version 2 if the first line is the title of version 2, otherwise version 1.
+-- Returns the format version of a report: version 2 if the first line is the title of version 2, otherwise version 1.
 abbrev pub version_told : List (List ℕ) → Version
 version_told parts = version_in (title Two) parts
 

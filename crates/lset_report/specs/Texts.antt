@@ -56,7 +56,7 @@ report_text r = text_of (report_lines r)
 
 -- ---- Reports that can be written in a version of the format
 
--- Holds if the call is pending, or the version has a word for its reply.
+-- Holds if the call is pending, or the format version has a word for the call's reply.
 abbrev pub HasEnd : Version → Option (ℕ × Reply) → Type 0
 HasEnd version None = Unit {0}
 HasEnd version (Some end) = HasReply version end.1

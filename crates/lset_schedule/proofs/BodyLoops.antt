@@ -1,5 +1,5 @@
--- Lemmas about the loop that reads the lines after the header. They determine which line an error names, and show that
--- no line causes the error `Memory` by its content.
+-- Lemmas about the loop that reads the lines after the header: which line an error names, and that the content of a
+-- line never causes the error `Memory`.
 use Rattle.std.proofs.Common.{arith, ◌≡◌, ℕ, ◌+◌, inl, inr, Bool, true, false, cond, ltb, List, [], ◌∷◌, length, Option, Some}
 use Rattle.std.proofs.Common.{None, Result, Err, refl, codes}
 use Rattle.std.specs.Prelude.{MatchOption}

@@ -10,7 +10,7 @@ use Rattle.lset_steps.specs.Steps.{State, local_of}
 abbrev pub HasOpenCall : State → ℕ → Type 0
 HasOpenCall s t = (local_of s t).pc ≢ 0
 
--- Holds if a turn for thread t has no event: the thread has no pending call, and no further call can begin.
+-- Holds if a turn for thread `t` has no event: the thread has no pending call, and no further call can begin.
 abbrev pub IsIdle : State → ℕ → ℕ → Type 0
 IsIdle s t left = ((local_of s t).pc ≡ 0) × (left ≡ 0)
 

@@ -76,8 +76,8 @@ impl<L: EventLine> Body<L> {
         }
     }
 
-    /// Returns the second field `K` if the line is `opening K` and an opening key (a key at the start) is allowed at
-    /// this position, otherwise `None`. Opening keys are allowed only in version 2, and only before all event lines.
+    /// Returns the second field `K` if the line is `opening K` and if opening keys (keys at the start) are still
+    /// allowed, otherwise `None`. Opening keys are allowed only in version 2, and only before all event lines.
     fn key_due<'a>(&self, version: Version, line: &'a [u8]) -> Option<&'a [u8]>
         ensures { MatchOption result
             (line_in version Cause.Event (kinds_after L.lines version self.now.lines.items) line.now

@@ -26,7 +26,7 @@ fn line_of(event: Event) -> Line
     }
 }
 
-/// Returns how many calls can still begin after `event`, if `left` calls could begin before it.
+/// Returns how many calls can still begin after `event`, if `left` calls could begin before `event`.
 fn left_by(left: u32, event: Event) -> u32
     ensures { result ≡ left_after left event }
 {

@@ -77,7 +77,7 @@ impl EventLine for Line {
     }
 }
 
-/// Returns the format version of a schedule. It depends only on the first line of the schedule's text.
+/// Returns the format version of a schedule, which the first line of its text determines.
 fn told_version(bytes: &[u8]) -> Version
     ensures { result ≡ version_told (cut_at 10 bytes.now) }
 {

@@ -54,8 +54,8 @@ pub record Heard (left : ℕ) (bytes : List ℕ) (o : Option EndReason) (left' :
 abbrev pub pending_of : Talk → List ℕ
 pending_of t = take t.len t.line
 
--- The invariant of a session that has not ended: the current line is short and has no newline, and the session can
--- answer at least one line.
+-- The invariant of a session that has not ended: the current line has at most `LONGEST_LINE` bytes and no newline, and
+-- the session can answer at least one line.
 pub record IsTalk (t : Talk) : Type 0 where
   pub room : length t.line ≡ LONGEST_LINE
   pub short : t.len ≤ LONGEST_LINE

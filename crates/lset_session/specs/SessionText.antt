@@ -81,7 +81,7 @@ end_of (t ∷ ts) = end_after t (end_of ts)
 
 -- ---- The answers to requests
 
--- A turn of a session with its answer: a call with its reply, or one of the answers BAD, BYE, LONG and LIMIT.
+-- A turn of a session with its answer: a call with its reply, or one of the answers `BAD`, `BYE`, `LONG` and `LIMIT`.
 pub data Exchange : Type 0 where
   made : CallMade → Exchange
   bad : Exchange

@@ -12,7 +12,7 @@ pub enum Request {
     Call(Call),
     /// `QUIT`, which ends the session.
     Quit,
-    /// Any other line. Its answer is `BAD`.
+    /// Any line that is not a valid request. The answer is `BAD`.
     Bad,
 }
 

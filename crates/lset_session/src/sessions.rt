@@ -1,4 +1,4 @@
-//! Sessions: a session reads lines from a reader, executes the call in each line on a set, and writes the answers to a
+//! Sessions: a session reads lines from a reader, executes the calls in the lines on a set, and writes the answers to a
 //! writer. A session makes all its calls through one seat (a per-thread handle) of the set.
 ghost use Rattle.std.specs.Prelude.{◌≡◌, ◌≤◌, ◌↔◌, ◌∷◌, [], Bool, true, false, IsTrue, if◌then◌else◌, length, None};
 ghost use Rattle.lset_words.specs.Records.{with_calls};
@@ -212,7 +212,7 @@ fn bytes_in<R: Wait, W: Sink, S: SetCalls>(
     None
 }
 
-/// Serves one client: reads lines from `reader`, executes the call in each line, and writes an answer to each line to
+/// Serves one client: reads lines from `reader`, executes the calls in the lines, and writes an answer to each line to
 /// `writer`. The calls are made through `seat` (a per-thread handle), which must belong to `set`. `reader` and `writer`
 /// must not have failed.
 ///

@@ -15,10 +15,10 @@ pub(crate) struct CallsSoFar {
     pub history: History,
     /// The moment (a position in the history, from 1) when the last call started, or 0 before the first call.
     pub last_begun: u32,
-    /// For each thread, the moment (a position in the history, from 1) when its last call ended. 0 if the thread has no
-    /// call yet or its last call is pending.
+    /// For each thread, the moment (a position in the history, from 1) when the thread's last call ended. 0 if the
+    /// thread has no call yet or if its last call is pending.
     pub last_ends: Vec<u32>,
-    /// For each thread, whether its last call is pending.
+    /// For each thread, whether the thread's last call is pending.
     pub busy: Vec<bool>,
     ghost within: { IsWithin (record { threads = history.opening.threads; quota = history.opening.quota; opening = 0 }) },
     ghost tracks: { Tracks history last_begun last_ends.items busy.items },
