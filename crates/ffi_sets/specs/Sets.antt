@@ -59,8 +59,8 @@ number_in (LazyReceipt o) = Some o.number
 number_in (LockFreeReceipt o) = Some o.number
 number_in h = None
 
--- The next two definitions return a part of the value of a C handle. `seat_in` returns the seat (one thread's access to
--- the set), or `None` if there is no seat. `spare_in` returns the seats that can be split off the seat.
+-- The next two definitions return a part of a C handle's value. `seat_in` returns the seat (one thread's access to the
+-- set), or `None` if there is no seat. `spare_in` returns the seats that can be split off the seat.
 abbrev pub seat_in : Held → Option SeatValue
 seat_in (Coarse o) = o.seat
 seat_in (Fine o) = o.seat

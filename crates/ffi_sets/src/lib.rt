@@ -167,9 +167,9 @@ pub fn contains_key_now(alloc: Global, seat: &mut CSeat, key: u32) -> u8
     }
 }
 
-/// Returns the maximum number of steps of a `contains` in any run of a lazy or lock-free list that was opened with
-/// `seats` seats (one for each thread), a quota of `quota` adds for each seat, and `opening` keys. Returns 0 if no set
-/// can be opened with these numbers. Does not block or allocate.
+/// Returns the maximum number of steps that a `contains` takes in any run of a lazy or lock-free list. The list is
+/// opened with `seats` seats (one for each thread), a quota of `quota` adds for each seat, and `opening` keys. Returns
+/// 0 if no set can be opened with these numbers. Does not block or allocate.
 pub fn most_reads(seats: u32, quota: u32, opening: u32) -> u64
     ensures { IsWithin (record { threads = seats; quota = quota; opening = opening })
         → result ≡ bound (record { threads = seats; quota = quota; opening = opening }) }

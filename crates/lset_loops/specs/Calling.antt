@@ -111,8 +111,8 @@ pub record MayAnswer (m : Table) (b : Begun) (a : Action) (s : TableSeat) : Type
   pub holds : Holds m b held s
   pub acts : a ≡ m.next held
 
--- Holds if call `b` has ended with the reply in `f` or, if `f` contains no reply, is still pending. `f` is the result of
--- the call's last step.
+-- Holds if call `b` has ended with the reply in `f` or, if `f` contains no reply, is still pending. `f` is the result
+-- of the last step of the call.
 abbrev pub StandsAfter : Table → Begun → Fed → TableSeat → Type 0
 StandsAfter m b f s = MatchOption f.answer (Holds m b f.local s) (λ r. Answered m b r f.local s)
 

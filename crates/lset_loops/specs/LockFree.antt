@@ -16,8 +16,8 @@ use Rattle.lset_loops.specs.Calling.{Holds, Rest, row, StandsAfter, HasAnswered}
 abbrev pub AtLink : Begun → OwnSlots → ℕ → ℕ → TableSeat → Type 0
 AtLink b own p x s = (j : Rest) × Holds lock_free b (row own b.call 2 None p x j) s
 
--- Holds if the walk has stopped at the two nodes in `f`, and the call has ended or continues at the row of the list's
--- step table (its numbered atomic steps) for its decision: to add or to remove.
+-- Holds if the walk has stopped at the two nodes in `f`. Either the call has ended, or it continues at the row of the
+-- list's step table (its numbered atomic steps) for its decision: to add or to remove.
 abbrev pub StopsAt : Begun → OwnSlots → Found → TableSeat → Type 0
 StopsAt b own f s = (j : Rest)
     × ((fed : Fed) → decision_of (decided_on targets f.word (row own b.call 4 None f.pred.number f.curr.number j)) ≡ fed →

@@ -9,7 +9,7 @@ use std::collections::BTreeSet;
 #[derive(Drop)]
 pub(crate) struct Reached {
     keys: BTreeSet<u32>,
-    /// The number of entries of the order that have been applied to the set.
+    /// The number of order entries that have been applied to the set.
     next: usize,
 }
 

@@ -31,7 +31,7 @@ pub use text::write_picture;
 /// The maximum number of columns in a picture.
 const MOST_COLUMNS: usize = 64;
 
-/// The maximum number of keys of a set that are printed. They are followed by the number of keys that were not printed.
+/// The maximum number of keys that are printed for a set. The number of omitted keys is printed after them.
 const MOST_KEYS_SHOWN: usize = 8;
 
 /// The maximum width of a column, in characters. In a linearizable history, no entry of a column is wider.

@@ -101,8 +101,8 @@ fn is_told(picture: &Picture, drawing: &Drawing, place: Placed) -> bool {
     }
 }
 
-/// The numbers of entries of the order that were not printed: entries before the drawn moments, entries after them, and
-/// entries whose call is not in the history.
+/// The numbers of omitted entries of the order: entries before the drawn moments, entries after them, and entries whose
+/// call is not in the history.
 struct LeftOut {
     before: usize,
     after: usize,

@@ -2,7 +2,7 @@ use crate::refusal::Refusal;
 use lset_history::History;
 use lset_words::{CallRecord, Kind, Placed, Point};
 
-/// The content of a picture of a run or a report: a history, an order of the history's calls, and the final keys.
+/// What a picture of a run or a report shows: a history, an order of the history's calls, and the final keys.
 ///
 /// The moments in `points` never decrease along the order. The points are drawn only if the order is not rejected and
 /// each entry of the order has a point.

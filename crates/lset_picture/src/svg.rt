@@ -191,8 +191,8 @@ fn put_bars(
     Ok(())
 }
 
-/// Returns the position of the linearization point of an entry, the thread of the entry's call, and whether the call
-/// changes the set. Returns `None` if the linearization point is unknown or not drawn.
+/// Returns the position of an entry's linearization point, the thread of the entry's call, and whether the call changes
+/// the set. Returns `None` if the linearization point is unknown or not drawn.
 fn dot_of(standing: Standing, drawing: &Drawing) -> Option<(Spot, u32, bool)> {
     let (made, point) = (standing.made?, standing.point?);
     if point.moment < drawing.from || drawing.last < point.moment {

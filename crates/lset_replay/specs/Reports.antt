@@ -56,7 +56,7 @@ IsRefusal T op events (fault.Busy line) = IsFirstRefused T op events line step.B
 IsRefusal T op events (fault.Idle line) = IsFirstRefused T op events line step.Idle
 IsRefusal T op events fault.Memory = Unit {0}
 
--- Holds if `r` is the correct report of a replay of the schedule `p` on the step table `T` (the atomic steps of a
+-- Holds if `r` is the correct report when the schedule `p` is replayed on the step table `T` (the atomic steps of a
 -- list).
 pub record IsReplay (T : Table) (p : Plan) (r : ReportValue) : Type 0 where
   pub version_is : r.version ≡ p.version
@@ -64,8 +64,8 @@ pub record IsReplay (T : Table) (p : Plan) (r : ReportValue) : Type 0 where
   pub opening_is : r.history.opening ≡ opening_in p
   pub report : IsReportOf T (opening_in p) (only_events (events_of p)) r.history.calls r.order r.keys
 
--- Holds if a replay on the step table `T` (the atomic steps of a list) can have the given result: the report of the
--- schedule, the error of the first event that is not enabled, or `Memory` for a failed allocation.
+-- Holds if a replay on the step table `T` (the atomic steps of a list) can have the given result. The result is the
+-- report of the schedule, the error of the first event that is not enabled, or `Memory` for a failed allocation.
 abbrev pub Replays : Table → Plan → Result Report ReplayFault → Type 0
 Replays T p (Ok r) = IsReplay T p (view r)
 Replays T p (Err refusal) = IsRefusal T (opening_in p) (events_of p) refusal

@@ -71,7 +71,7 @@ impl Recorder {
         })
     }
 
-    /// Returns the number of the pending call of a thread, or `None` if the thread has no pending call.
+    /// Returns the number of the thread's pending call, or `None` if the thread has no pending call.
     pub fn open_number(&self, thread: u32) -> Option<u32> {
         let open = (*self.under_way.get(thread as usize)?)?;
         Some(open.number)

@@ -19,7 +19,7 @@ pub struct RunCalls {
     pub history: History,
     /// The calls that take effect, with their replies, in the order of their linearization points.
     pub order: Vec<Placed>,
-    /// The linearization point of each entry of `order` (Herlihy and Wing).
+    /// The linearization point (Herlihy and Wing) of each entry in `order`.
     pub points: Vec<Point>,
     /// The final keys.
     pub keys: Vec<u32>,

@@ -29,7 +29,7 @@ use Rattle.lset_report.specs.Texts.{end_pieces}
 use Rattle.lset_report.specs.ReportReading.{call_told, call_form, IsEnd, IsCall, IsPlace, opening_kind, open_kind, ended_kind}
 use Rattle.lset_report.specs.ReportReading.{place_kind, from_calls, from_order, from_keys, kinds, section_after}
 
--- ---- Definitions of the fields of each line
+-- ---- The fields of each line
 
 abbrev pub pieces_of : Line → List (List ℕ)
 pieces_of (told.Opening k) = codes "opening" ∷ decimal k ∷ []

@@ -118,7 +118,7 @@ abbrev pub from_calls : List (LineKind ReportLine)
 from_calls = open_kind ∷ ended_kind ∷ from_order
 
 -- Returns the kinds of lines that are allowed in the section of opening keys (the keys at the start). Only version 2 of
--- the format has lines of opening keys.
+-- the format has lines for opening keys.
 abbrev pub from_opening : Version → List (LineKind ReportLine)
 from_opening One = from_calls
 from_opening Two = opening_kind ∷ from_calls
@@ -270,7 +270,7 @@ nothing_told version h = record { section = section.Opening; report = no_lines v
 abbrev pub version_told : List (List ℕ) → Version
 version_told parts = version_in (title Two) parts
 
--- The grammar of the whole text of a report of the given version: its title, the initial state, and its lines.
+-- The grammar of whole reports of the given version: the title, the initial state, and the lines.
 abbrev pub text : Version → TextGrammar SoFar
 text version = record { title = title version; start = nothing_told version; lines = grammar }
 

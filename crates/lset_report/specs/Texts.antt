@@ -22,8 +22,8 @@ title Two = codes "listset-report 2"
 abbrev pub header_in : ReportValue → Header
 header_in r = record { kind = r.kind; threads = r.history.opening.threads; quota = r.history.opening.quota }
 
--- Returns the text of the end of a call: the moment (a position in the history) and the reply, or `open` if the call is
--- pending.
+-- Returns the text for the end of a call: the moment (a position in the history) and the reply, or `open` if the call
+-- is pending.
 abbrev pub end_pieces : Option (ℕ × Reply) → List (List ℕ)
 end_pieces (Some end) = decimal end.0 ∷ reply_text end.1 ∷ []
 end_pieces None = codes "open" ∷ []

@@ -5,7 +5,7 @@ use lset_words::{Kind, Placed};
 /// The maximum number of calls in a report that can be written as text.
 pub const MOST_CALLS: usize = 1_000_000;
 
-/// The maximum number of entries of the order in a report that can be written as text.
+/// The maximum length of the order in a report that can be written as text.
 pub const MOST_PLACES: usize = 1_000_000;
 
 /// The maximum number of final keys in a report of version 1. In version 1, every set opens empty.

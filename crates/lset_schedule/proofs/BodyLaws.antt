@@ -106,7 +106,7 @@ module _ {L : Type 0} (text : EventLines L) (v : Version) (title : List ℕ) (pi
 
   -- ---- Lemmas about a single line
 
-  -- Holds if the content `t` can be written, and its text consists of the text of `s` and the additional line `x`.
+  -- Holds if the content `t` can be written, and its text is the text of `s` followed by the line `x`.
   abbrev Adds : BodyValue L → List ℕ → BodyValue L → Type 0
   Adds s x t = HasText text v Good t × (text_lines t ≡ text_lines s ++ x ∷ [])
 

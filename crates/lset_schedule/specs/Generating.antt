@@ -19,7 +19,7 @@ abbrev pub events_of_line : Line → List Event
 events_of_line (line.Begin t call) = event.Begin t call ∷ []
 events_of_line (line.Go t steps) = replicate steps (event.Go t)
 
--- Returns the events of a list of lines, in order.
+-- Returns the events of several lines, in order.
 abbrev pub events_of_lines : List Line → List Event
 events_of_lines lines = flat_map events_of_line lines
 
@@ -41,9 +41,9 @@ StartsWithBegin (l ∷ ls) = is_begin l ≡ true
 abbrev pub NoneOpenAfter : Table → ℕ → ℕ → List Event → ℕ → Type 0
 NoneOpenAfter T threads quota es t = (local_of (state_at T (empty threads quota) (event_at es) (length es)) t).pc ≡ 0
 
--- The properties of every list of lines that `generate` returns for the given arguments.
+-- The properties that every result of `generate` for the given arguments has.
 pub record IsGenerated (T : Table) (threads quota calls keys : ℕ) (lines : List Line) : Type 0 where
-  -- Each line is a single event of one of the threads.
+  -- Each line is a single event, and the event's thread is one of the schedule's threads.
   pub each : AllByRecursion (IsGeneratedLine threads keys) lines
   -- The events are a run of the list: each event is enabled when it happens.
   pub run : Run T (empty threads quota) (event_at (events_of_lines lines)) (length (events_of_lines lines))

@@ -14,8 +14,8 @@ HasOpenCall s t = (local_of s t).pc ≢ 0
 abbrev pub IsIdle : State → ℕ → ℕ → Type 0
 IsIdle s t left = ((local_of s t).pc ≡ 0) × (left ≡ 0)
 
--- Holds if `e` is a possible event of a turn of `generate` for thread `t`. The event is a step of the thread's pending
--- call. If the thread has no pending call and `left` is not 0, the event is the start of a call.
+-- Holds if `e` is a possible event when a turn of `generate` selects thread `t`. If the thread has a pending call, `e`
+-- is a step of that call. Otherwise, if `left` more calls can begin and `left` is not 0, `e` starts a call.
 abbrev pub IsNextEvent : State → ℕ → ℕ → ℕ → Event → Type 0
 IsNextEvent s t left keys (event.Begin u call) = (u ≡ t) × ((local_of s t).pc ≡ 0) × (0 < left) × ((key_of call).0 < keys)
     × HasCall One call

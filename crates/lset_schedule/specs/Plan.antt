@@ -44,7 +44,7 @@ abbrev pub header_in : Plan → Header
 header_in p = record { kind = p.kind; threads = p.threads; quota = p.quota }
 
 -- Returns the arguments that open the set of a schedule: the number of threads, the quota (the maximum number of
--- successful adds of a thread), and the opening keys (the keys at the start).
+-- successful adds per thread), and the opening keys (the keys at the start).
 abbrev pub opening_in : Plan → Opening
 opening_in p = record { threads = p.threads; quota = p.quota; keys = p.opening }
 

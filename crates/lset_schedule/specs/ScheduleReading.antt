@@ -73,7 +73,7 @@ with_line text version s line = line_in version Event (kinds_after text version 
 abbrev pub grammar : {L : Type 0} → EventLines L → Version → Grammar (BodyValue L)
 grammar text version = record { step = with_line text version; ends = Ok }
 
--- Returns the grammar of texts of the given version. The first line of such a text is `title`.
+-- Returns the grammar for texts of the given version. The first line of such a text is `title`.
 abbrev pub texts : {L : Type 0} → EventLines L → Version → List ℕ → TextGrammar (BodyValue L)
 texts text version title = record { title = title; start = no_lines; lines = grammar text version }
 

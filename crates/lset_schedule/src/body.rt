@@ -37,7 +37,7 @@ pub trait EventLine: Copy {
     /// The patterns of event lines, and the number of events that each line counts as.
     ghost lines: { EventLines Self };
 
-    /// Reads an event line of a text of format `version`, passed without its newline. Returns `Event` if the line
+    /// Reads an event line, passed without its newline, from a text of format `version`. Returns `Event` if the line
     /// matches no pattern, and `Number` if a number in the line is malformed or out of range.
     fn read(version: Version, line: &[u8]) -> Result<Self, Cause>
         ensures { result ≡ line_in version Cause.Event lines.kinds line.now };
@@ -140,7 +140,8 @@ impl<L: EventLine> Body<L> {
     }
 }
 
-/// Reads the lines after the header of a text of format `version`. Returns the content of the text, or the first error.
+/// Reads the lines after the header of a text. `version` is the version of the text's format. Returns the content of
+/// the text, or the first error.
 fn read_body<L: EventLine>(
     alloc: Global,
     version: Version,

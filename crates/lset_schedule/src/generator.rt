@@ -16,7 +16,7 @@ use rand_core::{Rng, SeedableRng};
 use rand_pcg::Pcg32;
 use std::alloc::{AllocError, Global};
 
-/// Returns the line of a schedule that consists of the given event.
+/// Returns the schedule line that consists of the given event.
 fn line_of(event: Event) -> Line
     ensures { result ≡ line_of_event event }
 {

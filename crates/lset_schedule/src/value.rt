@@ -15,7 +15,7 @@ pub enum Line {
 }
 
 impl Line {
-    /// Returns the number of events that the line counts as: 1, or the number of steps of a `Go`.
+    /// Returns the number of events that the line counts as: 1, or the number of steps in a `Go`.
     pub fn event_count(self) -> u32
         ensures { result ≡ event_count self }
     {
@@ -26,7 +26,7 @@ impl Line {
     }
 }
 
-/// Returns the title line, without the newline, of a schedule of the given version.
+/// Returns a schedule's title line in the given version, without the newline.
 pub(crate) fn title(version: Version) -> &'static str
     ensures { result.now ≡ title version }
 {
@@ -36,10 +36,10 @@ pub(crate) fn title(version: Version) -> &'static str
     }
 }
 
-/// A schedule of at most 1,000,000 events. It consists of the version of its format; the kind of list; the number of
-/// threads, 1 to 64; the quota (the maximum number of successful adds of a thread), 0 to 16,384; the opening keys (the
-/// keys at the start), at most 1,048,576 and in strictly increasing order; and the lines. A line's thread can be any
-/// `u32`. A schedule of version 1 can be written only if it has no opening keys and begins no `ceiling`.
+/// A schedule of at most 1,000,000 events. The number of threads is 1 to 64. The quota (the maximum number of
+/// successful adds per thread) is 0 to 16,384. There are at most 1,048,576 opening keys (the keys at the start), in
+/// strictly increasing order. A line's thread can be any `u32`. A schedule of version 1 can be written only if it has
+/// no opening keys and begins no `ceiling`.
 #[derive(Debug, Drop)]
 pub struct Schedule {
     pub version: Version,

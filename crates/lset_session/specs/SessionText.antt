@@ -23,7 +23,7 @@ use Rattle.lset_session.specs.declared.sessions.EndReason.TheVariants as why
 
 -- ---- The request in a line
 
--- Returns the pattern of a request line that consists of the name of a call and a key.
+-- Returns the pattern of a request line that consists of a call's name and a key.
 abbrev pub call_line : List ℕ → (Key → Call) → LineKind Request
 call_line name call = (word name ∷ any ∷ [], λ t. request.Call (call (record { 0 = t.1.0 })))
 

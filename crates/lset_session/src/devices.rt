@@ -24,7 +24,7 @@ pub trait Source {
         ensures failed { MatchOption result (has_failed self.new ≡ true) (λ n. has_failed self.new ≡ false) };
 }
 
-/// A writer of the answers of a session. `write` must not be called after a write has failed.
+/// A writer for the answers of a session. `write` must not be called after a write has failed.
 pub trait Sink {
     /// The bytes that have been written, if they are known.
     ghost written: { Self → Option (List ℕ) };

@@ -1,5 +1,5 @@
--- Proof of the contract of `into_box`, which returns the box with the given pointer. Assumes `Logic`, the program logic
--- of the toolchain.
+-- Proof that `into_box` satisfies its contract: it returns the box with the given pointer. Assumes `Logic`, the program
+-- logic of the toolchain.
 use contract.BorrowLft.{◌⊑◌}
 use denote.Triple.Clauses.{Lasts, lasts}
 use denote.Triple.Call.{calls_at_last}

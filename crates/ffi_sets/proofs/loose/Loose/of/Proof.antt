@@ -1,5 +1,5 @@
--- Proof of the contract of `of`, which splits a box into its pointer and its allocator. Assumes `Logic`, the program
--- logic of the toolchain.
+-- Proof that `of` satisfies its contract: it splits a box into the box's pointer and allocator. Assumes `Logic`, the
+-- program logic of the toolchain.
 use mir.Raw.{raw as bare}
 use base.Fml.{fsep}
 use types.Logic.{sem}

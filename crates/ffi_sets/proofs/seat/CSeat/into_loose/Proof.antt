@@ -1,5 +1,5 @@
--- Proof of the contract of `into_loose`, which moves the pointer of a full handle into a box. Assumes `Logic`, the
--- program logic of the toolchain.
+-- Proof that `into_loose` satisfies its contract: it moves the pointer of a full handle into a box. Assumes `Logic`,
+-- the program logic of the toolchain.
 use lib.Ieee.Bits.{is_true, is_false}
 use types.Match.{live}
 use denote.Signature.{type_at}

@@ -1,4 +1,5 @@
--- Proof of the contract of `none`, which returns an empty handle. Assumes `Logic`, the program logic of the toolchain.
+-- Proof that `none` satisfies its contract: it returns an empty handle. Assumes `Logic`, the program logic of the
+-- toolchain.
 use Rattle.ffi_sets.proofs.MachineValues.{◌≡◌, [], ◌∷◌, refl, false, Fn, Val, SProp, emp, ftrue, fact, fact_i, tables, ‵, raw, ◌⊛◌, ◌$◌, ◌∵◌, !, qed, by, move, drop, use0, split, fjoin, agg, lit, false_lit, no_more, and_then, returns, enter, alloc_all, pass_all, free_all, look_at, sets, null_ptr, nothing, alive, Stays, walk_of, proved_at, leaves, seat_val, seat_own, seat_made, seat_typed}
 use Rattle.ffi_sets.specs.declared.held.Held.TheVariants.{Nothing}
 use Rattle.ffi_sets.specs.contracts.seat.CSeat as seat

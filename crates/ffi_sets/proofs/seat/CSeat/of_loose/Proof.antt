@@ -1,4 +1,4 @@
--- Proof of the contract of `of_loose`, which moves the pointer of a box into a full handle. Assumes `Logic`, the
+-- Proof that `of_loose` satisfies its contract: it moves the pointer of a box into a full handle. Assumes `Logic`, the
 -- program logic of the toolchain.
 use Rattle.ffi_sets.proofs.MachineValues.{◌≡◌, List, [], ◌∷◌, ◌++◌, refl, true, Fn, Val, SProp, emp, ftrue, WpFn, fact, fact_i, tables, ‵, raw, ◌⊛◌, prop, ◌$◌, ◌∵◌, !, qed, by, move, drop, use0, split, regoal, fsplit, fjoin, whole, sub, agg, stop, fld, of_opd, true_lit, no_more, and_then, returns, enter, alloc_all, pass_all, free_all, look_at, get, get_in, sets, owns, types_at, nothing, alive, Stays, stay_dropped, walk_of, Goes-blank, proved_at, leaves, slot_at, ptr_typed, seat_val, seat_own, seat_made, seat_typed, freed_val, freed_told, freed_typed}
 use Rattle.ffi_sets.specs.contracts.seat.CSeat as seat
