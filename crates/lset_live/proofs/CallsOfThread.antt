@@ -35,7 +35,7 @@ module _ (m : ℕ) (ch : Option Change) (a : Option Reply) where
   abbrev on : ℕ → TracedCall → TracedCall
   on t x = if is_under_way t x then traced_on m ch a x else x
 
-  -- ---- A step of a thread does not change the calls of other threads
+  -- ---- Lemmas about a step of another thread
   step_other : (t u : ℕ) → t ≢ u → (xs : List TracedCall) → of_thread u (map record_of (map (on t) xs)) ≡ of_thread u
       (map record_of xs)
   step_other t u ne [] = refl
@@ -51,7 +51,7 @@ module _ (m : ℕ) (ch : Option Change) (a : Option Reply) where
           (of_thread u (map record_of (map (on t) xs)))) not
           ∙ (ih ∙ sym (ap (λ b. cond b (record_of x ∷ of_thread u (map record_of xs)) (of_thread u (map record_of xs))) not))
 
-  -- ---- A step of thread `u` changes or ends the pending call of `u`
+  -- ---- Lemmas about a step of thread `u`
   abbrev ends : CallRecord → CallRecord
   ends x = if is_none x.ended then record x { ended = ended_by m a } else x
 

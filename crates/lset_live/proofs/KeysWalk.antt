@@ -57,7 +57,7 @@ pub ends : (c : LastWords) (items : List ℕ) (curr : ℕ) → curr ≡ 1 → Wa
 ends c items curr e w = same_content c.sizes c.words w.laws.used (λ t. 0) items
     (walk_ends (view c.sizes c.words w.laws.used) w.laws.ordered items curr e w.walked)
 
--- ---- The loop ends within its bound, because no node occurs twice between the head and the tail
+-- ---- Lemmas about the number of rounds of the loop
 module _ (v : View) (ord : IsOrdered v) where
   abbrev Between : ℕ → ℕ → ℕ → Type 0
   Between low high q = v.published q × (low ≤ v.key q) × (v.key q < high)

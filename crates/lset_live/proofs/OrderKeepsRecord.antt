@@ -427,7 +427,7 @@ ended_records : (n v : ℕ) (ds : List OwnCall) → AllByRecursion (EndsBefore n
 ended_records n v [] a = tt
 ended_records n v (d ∷ ds) a = (a.0, ended_records n v ds a.1)
 
--- ---- The order agrees with the order of the calls in a seat's record
+-- ---- Lemmas about the order of the calls in a seat's record
 module _ (q : ℕ) (s : SetState) (H : List CallRecord) (P : List Placed) (L : Linearizes q s H P)
     (turns : (i j : ℕ) → i < j → j < length H → (call_numbered H i).thread ≡ (call_numbered H j).thread → Precedes (call_numbered H i) (call_numbered H j)) (D : ℕ → List OwnCall) where
   keeps_items : (r : Past) → Apart r → InOrder r → ((u : ℕ) → IsIn u r → of_thread u H ≡ map (ended_record u) (D u)) →

@@ -25,7 +25,7 @@ use Rattle.lset_rule.specs.Runs.{StartsWith, history_of}
 use Rattle.lset_rule.proofs.OneMoreEvent.{event_of_first}
 use Rattle.lset_live.specs.Explained.{IsAnswered, StandsBefore}
 
--- ---- A completed call stays in the history when the run gets longer
+-- ---- Lemmas about a completed call in a longer run
 module _ (m : ℕ) (y : CallRecord) (d : ℕ × Reply) (ended : y.ended ≡ Some d) where
   stays_before : (z : TracedCall) (xs : List TracedCall) (n : ℕ) → get_elem? (map record_of xs) n ≡ some y →
       get_elem? (map record_of (xs ++ z ∷ [])) n ≡ some y

@@ -152,7 +152,7 @@ module _ (T : Table) (law : Lawful T) (c : Call) (v : View) (r : Reply) (w : Vie
     })) m.before.1;
   }
 
--- ---- A call's change to its seat's view (what the seat knows) implies the contract of the call
+-- ---- Lemmas about the contract of a call
 abbrev pub seat_at : TableSeat → SeatValue
 seat_at s = record {
   set = record { table = s.table_id; shape = s.me.0.shape };

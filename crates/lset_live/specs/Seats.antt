@@ -67,7 +67,7 @@ reply_of true = True
 reply_of false = False
 
 -- Returns the record that results from merging the records in the list, one after another, into the record `r`. If `r`
--- is `None`, the others are merged into the first record of the list.
+-- is `None`, the remaining records are merged into the first record of the list.
 abbrev pub gather_onto : Option Record → List Record → Option Record
 gather_onto r [] = r
 gather_onto None (g ∷ gs) = gather_onto (Some g) gs

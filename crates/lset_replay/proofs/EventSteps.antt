@@ -124,7 +124,7 @@ module _ (T : Table) (op : Opening) (events : List LineEvent) (k : ℕ) (w : Wor
             account low k (omega arith) r (ap (λ (o : Opening). o.threads) h.opening_is) h.trace t _ _ (entered (Go t) i) in
             (may.0, subst (λ (z : Told). MayChange (moments_of r.changes) (suc k) z.change) (sym says) may.1)
 
--- ---- Lemmas for the loop that executes the events
+-- ---- Lemmas about the loop that executes the events
 
 -- Holds if all events before `rest` were executed and recorded.
 pub record IsOnWay (T : Table) (op : Opening) (events rest : List LineEvent) (w : WorldState) (r : Recorder) : Type 0 where

@@ -38,7 +38,7 @@ use Rattle.lset_replay.proofs.FollowedRuns.{TellsKeys, shown, account_then, low_
 use Rattle.lset_replay.proofs.EventLists.{as_many}
 use Rattle.lset_schedule.specs.Plan.{Plan, opening_in}
 
--- ---- Sorting the calls by linearization point yields the order that the definition [Placement] requires
+-- ---- Lemmas about sorting the calls by linearization point
 
 abbrev moment_of : Option Linearized → Option ℕ
 moment_of None = None
@@ -187,7 +187,7 @@ replay_is T accounts p w r order keys h o c =
       };
     }
 
--- ---- The order in a report explains the report's history
+-- ---- Lemmas about the order in a report
 module _ (T : Table) (headline : PlacementExplainsRuns T) (op : Opening) (events : List Event) (history : List CallRecord)
     (order : List Placed) (keys : List ℕ)
     (h : IsReportOf T op events history order keys) where

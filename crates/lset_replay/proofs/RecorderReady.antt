@@ -27,7 +27,7 @@ use Rattle.lset_replay.specs.Trace.{Trace, trace_at, trace_after, trace_of, MayS
 use Rattle.lset_replay.proofs.ReplayKept.{Follows, follows_beginning}
 use Rattle.lset_replay.proofs.StepKept.{follows_step}
 
--- ---- Before the first event, the set has the opening keys
+-- ---- Lemmas about the keys before the first event
 
 one_upto : (i : ℕ) → i < 1 → get_or (0 ∷ []) i 0 ≤ 0
 one_upto zero l = omega arith

@@ -35,7 +35,7 @@ use Rattle.lset_replay.specs.declared.events.LineEvent.{LineEvent}
 use Rattle.lset_replay.specs.Events.{events_of_line, events_from, events_of, only_events}
 use Rattle.lset_replay.specs.Reports.{IsReplay, IsExplained}
 
--- ---- The version has all calls that the schedule starts
+-- ---- Lemmas about the calls that the schedule starts
 
 abbrev BeginsIn : Version → Event → Type 0
 BeginsIn v (event.Begin t c) = HasCall v c
@@ -65,7 +65,7 @@ event_begins v [] k h = tt
 event_begins v (e ∷ es) zero h = h.0
 event_begins v (e ∷ es) (suc k) h = event_begins v es k h.1
 
--- ---- Each call in the history was started by the schedule
+-- ---- Lemmas about the calls in the history
 
 abbrev EntersIn : Version → Entry → Type 0
 EntersIn v (began t c) = HasCall v c
@@ -115,7 +115,7 @@ history_is_in v T op k es h =
     all_map record_of (IsRecordIn v) (calls_at (log_of T op at) k)
     (calls_are_in v (log_of T op at) k (λ j. entry_enters v T (state_at T op at j) (at j) (event_begins v es j h)))
 
--- ---- The sequential set returns only replies of version 1 for calls of version 1
+-- ---- Lemmas about the replies of the sequential set
 
 abbrev IsReplyIn : Placed → Type 0
 IsReplyIn p = HasReply One p.reply
@@ -147,7 +147,7 @@ order_is_in q calls s (p ∷ ps) legal h =
       order_is_in q calls (after_call s c.thread c.call p.reply) ps legal.1 h,
     )
 
--- ---- A completed call has equal replies in the history and in the order
+-- ---- Lemmas about the replies in the history and in the order
 
 end_is_in : (order : List Placed) (number : ℕ) (end : Option (ℕ × Reply)) → AllByRecursion IsReplyIn order
     → ((m : ℕ) (r : Reply) → end ≡ Some (m, r) → Contains order (record { call = number; reply = r })) → HasEnd One end
@@ -157,7 +157,7 @@ end_is_in order number (Some e) h there =
     let place : Contains order p = there e.0 e.1 refl in
     subst IsReplyIn (get_or_default order place.0 p _ place.1 ∙ place.2) (all_at IsReplyIn order p place.0 place.1 h)
 
--- ---- The version has all calls and replies in the report
+-- ---- Lemmas about the calls and replies in the report
 
 words_in : (v : Version) (q : ℕ) (s : SetState) (calls : List CallRecord) (order : List Placed) → Linearizes q s calls order
     → AllByRecursion (IsRecordIn v) calls → HasWordsIn v calls order

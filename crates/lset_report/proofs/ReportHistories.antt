@@ -23,7 +23,7 @@ use Rattle.lset_report.specs.ReportReading.{ends_at, is_entry, is_taken, begins_
 use Rattle.lset_report.specs.ReportReading.{may_follow}
 use Rattle.lset_report.specs.ReportCalls.{end_moment, is_open, is_last_end, Tracks}
 
--- ---- The Boolean test decides the proposition `MayFollow`
+-- ---- Lemmas about the Boolean test for the proposition `MayFollow`
 
 not_or : (a b : Bool) → not (a || b) ≡ (not a && not b)
 not_or true b = refl
@@ -118,7 +118,7 @@ pub history_more : (threads : ℕ) (calls : List CallRecord) (x : CallRecord) �
     → may_follow threads calls x ≡ true → IsHistory threads (calls ++ x ∷ [])
 history_more threads calls x h may = history_begun threads calls x h (may_ok threads calls x may)
 
--- ---- Appending a call preserves the invariant
+-- ---- Lemmas about the invariant after a call is appended
 
 begins_pushed : (calls : List CallRecord) (x : CallRecord) (last : ℕ) → ((m : ℕ) → begins_later calls m ≡ ltb last m)
     → begins_later calls x.begun ≡ true → (m : ℕ) → begins_later (calls ++ x ∷ []) m ≡ ltb x.begun m
@@ -198,7 +198,7 @@ idle_other calls x t m other =
     let apart : idle_at t m x ≡ true = or_left _ _ (not_from_false _ (ne_eqb x.thread t (λ same. other (sym same)))) in
     idle_step calls x t m ∙ ap (λ b. is_idle calls t m && b) apart ∙ and-true (is_idle calls t m)
 
--- ---- The invariant holds before the first call
+-- ---- Lemmas about the invariant before the first call
 
 none_at : (n m : ℕ) → 0 < m → is_last_end (replicate n 0) m ≡ false
 none_at zero m some = refl

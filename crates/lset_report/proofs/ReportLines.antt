@@ -60,7 +60,7 @@ Reaches section.Order r = r.keys ≡ []
 Reaches section.Keys r = Unit {0}
 Reaches section.Done r = Unit {0}
 
--- ---- Bytes that are read as a line are the text of that line
+-- ---- Lemmas about reading a line
 
 -- Holds if the line is well formed, and all later sections of the report are empty.
 abbrev pub IsNext : Version → ReportValue → Line → Type 0
@@ -128,7 +128,7 @@ kinds_known v section.Order r reached = order_known v r reached
 kinds_known v section.Keys r reached = keys_known v r
 kinds_known v section.Done r reached = tt
 
--- ---- The text of a line is read as that line
+-- ---- Lemmas about reading the text of a line
 
 abbrev pub IsTold : Version → List (LineKind Line) → Line → Type 0
 IsTold v ks l = IsMade v pieces_of ks l

@@ -101,7 +101,7 @@ more_lines r (told.Place p) next good = push_before (to_order r) (map key_line r
 more_lines r (told.Key k) next good = push_last (to_keys r) key_line r.keys k
 more_lines r told.End next good = refl
 
--- ---- An accepted report is within its limits
+-- ---- Lemmas about the limits of an accepted report
 
 is_report : (r : ReportValue) → Opens r.history.opening → HasOpening r.version r.history.opening.keys
     → IsHistory r.history.opening.threads r.history.calls
@@ -324,7 +324,7 @@ reads_text r is =
       again.1,
     )
 
--- ---- The two postconditions of `read_report` about the text of a report
+-- ---- Lemmas for two postconditions of `read_report`
 
 pub found_in : (bytes : List ℕ) (r : Result Report LineFault) → Gives view r bytes
     → IfOk r (λ s. IsReport (view s) × (bytes ≡ report_text (view s)))
@@ -337,7 +337,7 @@ only_in bytes (Ok s) gives q is text = ok_is (view s) q (sym gives ∙ ap readin
 only_in bytes (Err e) (inl bad) q is text = absurd (let read : reading bytes ≡ Ok q = ap reading text ∙ reads_text q is in cc)
 only_in bytes (Err e) (inr out) q is text = out.cause
 
--- ---- `write_report` accepts every report that was read
+-- ---- Lemmas for the precondition of `write_report`
 
 end_words : (v : Version) (o : Option (ℕ × Reply)) → IsEnd v o → HasEnd v o
 end_words v None h = tt

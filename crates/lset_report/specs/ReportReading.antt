@@ -131,7 +131,7 @@ kinds version section.Order = from_order
 kinds version section.Keys = from_keys
 kinds version section.Done = []
 
--- ---- Whether a line can follow the previous lines
+-- ---- The condition that a line can follow the previous lines
 
 -- Returns whether a call with the given end ended at `moment` (a position in the history). A pending call has the end
 -- `None`.
@@ -226,7 +226,7 @@ with_line r (told.Place p) = record r { order = r.order ++ p ∷ [] }
 with_line r (told.Key k) = record r { keys = r.keys ++ k ∷ [] }
 with_line r told.End = r
 
--- ---- Reading a text that was cut into lines
+-- ---- The result of reading a text that was cut into lines
 
 -- The state of a reader after some lines: its current section, and the report read so far.
 pub record SoFar : Type 0 where

@@ -40,7 +40,7 @@ not_due text One ls line not = first_as event One Event text.kinds (cut_at 32 li
 not_due text Two [] line not = absurd (not refl refl)
 not_due text Two (l ∷ ls) line not = first_as event Two Event text.kinds (cut_at 32 line)
 
--- ---- The checks of a line never return `Memory`
+-- ---- Lemmas about the checks of a line, which never return `Memory`
 
 either_fails : {A : Type 0} (b : Bool) (r s : Result A Cause) → (r ≡ Err Memory → ⊥) → (s ≡ Err Memory → ⊥)
     → cond b r s ≡ Err Memory → ⊥

@@ -22,7 +22,7 @@ use Rattle.lset_steps.proofs.MoreEvents.{RunsTo, runs_to_opening, runs_to_more}
 use Rattle.lset_schedule.specs.Drawing.{line_of_event, left_after, IsOver}
 use Rattle.lset_schedule.specs.GeneratorTurns.{IsIdle, IsNextEvent}
 
--- ---- No call is pending when the set is opened
+-- ---- Lemmas about a set that was just opened
 
 idle_rests : (q t : ℕ) (xs : List ℕ) → (slice_index_or (map (idle q) xs) t (idle 0 0)).pc ≡ 0
 idle_rests q t [] = refl
@@ -183,7 +183,7 @@ draft_along T n q calls keys turns left left' lines lines' w w' e f h d =
     subst (λ l. IsDraft T n q calls keys turns l lines' w') (sym e)
     (rw f (subst (λ v. IsDraft T n q calls keys turns left lines v) (sym h) d))
 
--- ---- Each line that `generate` draws is allowed in a schedule
+-- ---- Lemmas about the lines that `generate` draws
 
 lines_fit : (n keys : ℕ) (lines : List Line) → n ≤ MOST_THREADS → keys < 2 ^ 32
     → AllByRecursion (IsGeneratedLine n keys) lines → AllByRecursion (IsLine One) lines

@@ -26,7 +26,7 @@ use Rattle.lset_schedule.specs.declared.value.Line.TheVariants.{Begin, Go}
 use Rattle.lset_schedule.specs.declared.content.Body.{Body as TextBody}
 use Rattle.lset_schedule.specs.Plan.{Plan, planned, IsSchedule, title, schedule_text, event_count}
 
--- ---- Reading the lines after the header: opening keys, then event lines
+-- ---- Reading the opening keys and the event lines
 
 -- A kind of text with event lines: the patterns of the event lines, and the number of events that each line counts as.
 pub record EventLines (L : Type 0) : Type 0 where

@@ -38,8 +38,8 @@ fn put_lines(out: &mut String, lines: &[Line]) -> Result<(), AllocError>
     Ok(())
 }
 
-/// Returns the text of a schedule. Different schedules have different texts. Returns `AllocError` if an allocation
-/// fails.
+/// Returns the text of a schedule. If the schedule is within the limits, reading the text yields the schedule. Returns
+/// `AllocError` if an allocation fails.
 ///
 /// The schedule must contain only calls that its version has. In version 1, it must have no opening keys (keys at the
 /// start). Schedules from `read_schedule` and `generate` satisfy these conditions.
