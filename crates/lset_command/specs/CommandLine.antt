@@ -54,7 +54,7 @@ app_in row = fold with_argument (new_app row.1) row.2
 abbrev pub with_command : App → TableRow → App
 with_command a row = with_subcommand a (app_in row).top
 
--- The table of the program's commands. The constant `COMMANDS` lists the same rows with help texts.
+-- The table of the program's commands: the rows of the constant `COMMANDS` without the help texts.
 abbrev pub table : List TableRow
 table = map (λ row. (row.0, row.1.now, map (λ argument. (argument.0.now, argument.1)) row.3.now)) COMMANDS.now
 
@@ -175,7 +175,7 @@ abbrev pub random : List Argument
 random = kind ∷ (codes "THREADS", Value) ∷ (codes "QUOTA", Value) ∷ (codes "CALLS", Value) ∷ (codes "KEYS", Value)
     ∷ (codes "SEED", Value) ∷ []
 
--- Holds if each command has the name and the arguments stated here, and each argument has the stated form.
+-- Holds if each command has the name, the arguments and the forms of arguments that the fields of the record state.
 pub record CommandsAreNamed : Type 0 where
   pub replay : IsNamed (codes "replay") Replay (file ∷ lacks ∷ [])
   pub judge : IsNamed (codes "judge") Judge (file ∷ (codes "brief", Flag) ∷ (codes "only", ValueOption) ∷ [])

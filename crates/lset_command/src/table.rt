@@ -5,7 +5,7 @@
 /// A command of the program.
 #[derive(Clone, Copy)]
 pub enum Command {
-    /// Replays a schedule. This is the default command.
+    /// Replays a schedule. `Replay` is the default command.
     Replay,
     /// Decides whether some order explains recorded calls.
     Judge,
@@ -15,15 +15,15 @@ pub enum Command {
     Check,
     /// Draws a schedule or a report.
     Show,
-    /// Prints a line for each step of a schedule.
+    /// Prints a line for each event of a schedule.
     Trace,
-    /// Turns a draft into a schedule.
+    /// Turns a draft (a schedule that can state where a thread stops) into a schedule.
     Draft,
     /// Prints an example schedule.
     Example,
     /// Generates a schedule.
     Gen,
-    /// Makes random calls in threads on one set.
+    /// Makes random calls on one set from several threads.
     Run,
     /// Serves one set to clients on the loopback interface.
     Serve,

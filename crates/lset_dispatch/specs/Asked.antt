@@ -40,7 +40,7 @@ asked_by command.Check values options = Some (Ok Check)
 asked_by command.Gen values options = Some (asked_gen (random_request_of values))
 asked_by other values options = None
 
--- Returns the job that a command line asks for. `None` if nothing is proved about the command.
+-- Returns the job that a command line asks for, or `None` if nothing is proved about the command.
 abbrev pub asked : Choice → Option Asked
 asked choice = asked_by choice.command choice.values choice.options
 

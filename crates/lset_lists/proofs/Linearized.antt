@@ -1,4 +1,4 @@
--- Proof that the calls of a run have exactly one order by linearization points, and that this order explains the run.
+-- Proof that the calls of a run have exactly one order by linearization points, and that the order explains the run.
 -- The proof assumes that the run has an account (a record of each event's effect on the set), and that some list
 -- contains exactly the run's final keys.
 use Rattle.std.proofs.Common.{ℕ, List, sym, subst, arith}

@@ -54,13 +54,13 @@ IsBalanced queue views =
     × ((h : ℕ → ℕ) → total (λ v. weigh h v.sent) views ≡ total (λ v. weigh h v.received) views + weigh h queue)
     × IdleIsEmpty views
 
--- Returns the numbers 0 to n - 1: the numbers of the first n connections.
+-- Returns the numbers 0 to n - 1, which are the numbers of the first n connections.
 abbrev pub numbers_below : ℕ → List ℕ
 numbers_below zero = []
 numbers_below (suc n) = numbers_below n ++ n ∷ []
 
 -- Holds if all passes of a channel (permissions to use it) were joined into one pass with tally v, the numbers 0 to n -
--- 1 were sent in order, and exactly these numbers were received, each once.
+-- 1 were sent in order, each of the sent numbers was received once, and no other number was received.
 pub record ReceivedOnce (n : ℕ) (v : Tally) : Type 0 where
   pub parts : v.parts ≡ PARTS
   pub sent : v.sent ≡ numbers_below n

@@ -1,5 +1,5 @@
--- Programs of calls, and the results of running programs in threads. Each program runs on a seat, a per-thread handle
--- to the set.
+-- Programs (lists of calls, one for each thread), and the results of running programs in threads. Each program runs on
+-- a seat, a per-thread handle to the set.
 use Rattle.std.specs.Prelude.{◌≡◌, ℕ, Bool, true, List, [], ◌∷◌, length, map, sum_by, Option, Some, None, IfSome, All}
 use Rattle.std.specs.Option.{option_map}
 use Rattle.lset_words.specs.declared.Call.{Call}

@@ -1,5 +1,5 @@
-//! Runs programs of calls on a running set at the same time, one program and one thread for each seat. A seat is one
-//! thread's handle to the set.
+//! Runs programs (lists of calls) on a set at the same time, with one program and one thread for each seat. A seat is
+//! one thread's handle to the set.
 #![tactic(auto)]
 
 mod gate;

@@ -1,4 +1,4 @@
-//! Runs programs of calls on the seats of a running set, all at the same time. A seat is one thread's handle to the
+//! Runs programs (lists of calls) on the seats of a set, all at the same time. A seat is one thread's handle to the
 //! set.
 ghost use Rattle.std.specs.Prelude.{◌≡◌, ◌<◌, ◌^◌, ◌↔◌, IfOk, IfErr, IsOk, MatchResult, All, map, length, true};
 ghost use Rattle.lset_live.specs.Explained.{IsOneLegalOrder};

@@ -1,4 +1,4 @@
-//! Operations on sets that many tests use. Each operation fails the test if the set does not behave as expected.
+//! Operations on sets, for use in many tests. Each operation fails the test if the set does not behave as expected.
 
 use crate::prelude::*;
 

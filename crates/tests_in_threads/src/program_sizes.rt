@@ -1,5 +1,5 @@
-//! Runs programs of many sizes in threads and compares their replies with a model. The sizes are random up to each
-//! limit, and each order of magnitude is equally likely.
+//! Runs programs (lists of calls, one for each thread) of many sizes in threads, and compares the replies with a model.
+//! The sizes are random up to each limit, and each order of magnitude is equally likely.
 //!
 //! Thread `t` of `n` uses only the keys with the remainder `t` modulo `n`. The model of a thread is a sequential set of
 //! the thread's keys. Therefore the thread's replies, except to `ceiling`, do not depend on the other threads.
@@ -247,7 +247,8 @@ pub fn runs_beside_models<M: Running + Send + Sync, R: Host>(
     outcome.keys
 }
 
-/// Sizes at each limit. Two of the cases, one with one thread and one with three threads, make more than 65,536 calls.
+/// Sizes that reach the limits. In two of the cases, one with one thread and one with three threads, more than 65,536
+/// calls are made.
 fn at_the_limits() -> [Sizes; 4] {
     [
         Sizes::new(MOST_THREADS, MOST_QUOTA, MOST_OPENING, 64, u32::MAX),

@@ -1,5 +1,5 @@
-//! Tests of programs in threads, and of the gates (callbacks) that can stop a program before a call. Each program runs
-//! on a seat, a per-thread handle to the set.
+//! Tests of programs (lists of calls) in threads, and of the gates (callbacks) that can stop a program before a call.
+//! Each program runs on a seat, a per-thread handle to the set.
 
 use crate::meeting::Meeting;
 use crate::opened::{last_of, make_calls, two_seats};

@@ -10,13 +10,13 @@ use Rattle.tool_base.specs.declared.trouble.ValueName.TheVariants as name
 use Rattle.tool_base.specs.declared.arguments.RandomRequest.{RandomRequest}
 use Rattle.tool_base.specs.declared.arguments.TheConstants.{MOST_CALLS_ASKED}
 
--- Returns the kind of list that argument `index` (counted from 0) names. `None` if the argument is missing or names no
--- kind.
+-- Returns the kind of list that argument `index` (counted from 0) names. Returns `None` if the argument is missing or
+-- names no kind.
 abbrev pub kind_at : List (List ℕ) → ℕ → Option Kind
 kind_at values index = option_and_then kind_of (slice_get values index)
 
--- Returns the number in argument `index` (counted from 0). `None` if the argument is missing or is no number from `low`
--- to `high`.
+-- Returns the number in argument `index` (counted from 0). Returns `None` if the argument is missing or is not a number
+-- from `low` to `high`.
 abbrev pub number_at : List (List ℕ) → ℕ → ℕ → ℕ → Option ℕ
 number_at values index low high = option_and_then (number_in low high) (slice_get values index)
 

@@ -1,4 +1,4 @@
--- An answer about a recording stays correct if lines are appended to its text.
+-- Proof that an answer about a recording stays correct if lines are appended to the answer's text.
 use Rattle.std.proofs.Common.{◌≡◌, ℕ, length, Bool, true, false, List, ◌++◌, Ok, ap, ◌∙◌, append_assoc}
 use Rattle.std.specs.Prelude.{if◌then◌else◌}
 use Rattle.lset_judge.specs.declared.set_judge.Verdict.{Verdict}

@@ -24,8 +24,8 @@ HasOrderIf false c = IsExplained (history_of c) c.keys
 abbrev pub HasOrder : Recording → Type 0
 HasOrder c = HasOrderIf c.cut_off c
 
--- Holds if the answer is correct. If some order explains the recording, the answer must begin with `ok N calls` and
--- have status 0. If no order does, the answer must begin with `not linearizable` and have status 1.
+-- Holds if some order explains the recording `c` and the answer begins with `ok N calls` and has status 0, or if no
+-- order does and the answer begins with `not linearizable` and has status 1.
 abbrev pub IsRight : Recording → AnswerValue → Type 0
 IsRight c answer = (HasOrder c × (answer.status ≡ 0) × Begins (ok_line (length c.calls)) answer.text)
     ⊎ ((HasOrder c → ⊥) × (answer.status ≡ 1) × Begins (codes "not linearizable\n") answer.text)

@@ -243,8 +243,7 @@ fn second_line(
     }
 }
 
-/// Returns the words for a call that does not exist: an `add` or `remove` that would bring the key into the state
-/// `need`.
+/// Returns the words for an absent call: there is no `add` or `remove` that would bring the key into the state `need`.
 fn no_change(alloc: Global, key: u32, need: Presence) -> Result<Vec<u8>, AllocError>
     ensures { IfOk result (λ text. text.items ≡ lines.no_change key need) }
 {

@@ -119,7 +119,7 @@ fn put_need(out: &mut String, count: &Count) -> Result<(), AllocError> {
     Ok(())
 }
 
-/// Writes the period that a call must overlap to change the key back.
+/// Writes the period that a call must overlap if it changes the key back.
 fn put_stretch(out: &mut String, count: &Count, is_one: bool) -> Result<(), AllocError> {
     let s = if is_one { "s" } else { "" };
     match (count.since, count.until) {

@@ -73,8 +73,8 @@ pub fn generate_for(alloc: Global, values: &[String]) -> Result<Answer, Trouble>
 /// `values` are the command's arguments, as `read_random_request` reads them. The schedule has at most 10,000 events,
 /// so it can begin fewer calls than requested. The exit status is 0 if the schedule was written. Otherwise an error
 /// message of one line is written to `faults`, if possible. If an argument is missing or wrong, the exit status is 2,
-/// and the message names the first such argument. The exit status is 3 if an allocation failed, and 1 for any other
-/// error. Allocates.
+/// and the message names the first missing or wrong argument. The exit status is 3 if an allocation failed, and 1 for
+/// any other error. Allocates.
 pub fn tool_gen<W: Write, F: Write>(
     alloc: Global,
     values: &[String],
