@@ -19,8 +19,8 @@ use std::alloc::Global;
 /// Opens a set of the list `kind`: 0 coarse, 1 fine, 2 optimistic, 3 lazy, 4 lock-free. The set has 1 to 64 `seats`
 /// (one for each thread), a `quota` of 0 to 16,384 successful adds for each seat, and at most 1,048,576 opening `keys`
 /// in strictly increasing order. Stores one seat in the handle `out`, which must be empty. All other seats can be split
-/// off the stored seat. No other open set may have the number `number`, because `listset_gather` uses it to compare the
-/// sets of two seats.
+/// off the stored seat. No other open set may have the number `number`, because `listset_gather` uses the number to
+/// compare the sets of two seats.
 ///
 /// Returns `DONE`. On an error, changes nothing and returns the error: `IS_SEAT` if `out` is not empty, `BAD_KIND`,
 /// `BAD_SEATS`, `BAD_QUOTA`, `BAD_KEYS`, or `OUT_OF_MEMORY` if an allocation failed. Does not block.

@@ -300,8 +300,8 @@ pub extern "C" fn listset_lacking(
     hand(run_broken(alloc, name, text, words), room, status)
 }
 
-/// Expands a draft and writes the schedule. If the text has an error, is too long, or has a line that cannot be
-/// expanded, writes the message about the first error.
+/// Expands a draft (a schedule that can state where a thread stops) and writes the resulting schedule. If the text has
+/// an error, is too long, or has a line that cannot be expanded, writes the message about the first error.
 #[unsafe(no_mangle)]
 pub extern "C" fn listset_draft(
     alloc: Global,

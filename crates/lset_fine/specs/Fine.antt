@@ -11,8 +11,8 @@ use Rattle.lset_steps.specs.declared.rows.Targets.{Targets}
 use Rattle.lset_steps.specs.Steps.{Table}
 use Rattle.lset_steps.specs.Rows.{own_slot, begun, decided_on}
 
--- The rows of the step table at which a call continues after its walk: to add its key (`adds`), to remove its key
--- (`removes`), or to end with its reply (`leaves`).
+-- The rows of the step table at which a call continues after its walk along the list: to add its key (`adds`), to
+-- remove its key (`removes`), or to end with its reply (`leaves`).
 abbrev pub targets : Targets
 targets = record { adds = 7; removes = 10; leaves = 12 }
 

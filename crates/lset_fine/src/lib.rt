@@ -18,8 +18,8 @@ use lset_words::{Call, HEAD, Key, Kind, Reply};
 #[derive(Clone, Copy)]
 pub struct FineList;
 
-/// The rows of the step table at which a call continues after its walk: to add its key (`adds`), to remove its key
-/// (`removes`), or to end with its reply (`leaves`).
+/// The rows of the step table at which a call continues after its walk along the list: to add its key (`adds`), to
+/// remove its key (`removes`), or to end with its reply (`leaves`).
 const TARGETS: Targets = Targets {
     adds: 7,
     removes: 10,

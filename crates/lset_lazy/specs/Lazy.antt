@@ -14,8 +14,8 @@ use Rattle.lset_steps.specs.Steps.{Table}
 use Rattle.lset_steps.specs.Rows.{own_slot, decided_on}
 use Rattle.lset_steps.specs.ReadRows.{begun_reading, read_action, read_fed, continued, leaves_with}
 
--- The rows of the step table at which a call continues after its walk: to add its key (`adds`), to remove its key
--- (`removes`), or to end with its reply (`leaves`).
+-- The rows of the step table at which a call continues after its walk along the list: to add its key (`adds`), to
+-- remove its key (`removes`), or to end with its reply (`leaves`).
 abbrev pub targets : Targets
 targets = record { adds = 8; removes = 11; leaves = 13 }
 

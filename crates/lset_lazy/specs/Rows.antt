@@ -42,7 +42,7 @@ answers_or_walks (Some r) l = leaves_with r l
 
 pub record LazyRows (T : Table) : Type 0 where
   pub reading : HasReading T
-  -- A walk starts with a load of the head's link.
+  -- A walk along the list starts with a load of the head's link.
   pub row_1 : Does T 1 (λ l. Load (link_index 0)) (λ l seen. continued (record l { pc = 2; pred = 0; curr = seen / 2 })) nothing
   -- The walk loads the key of `curr`. While the loaded key is smaller than the call's key, the walk continues.
   pub row_2 : Does T 2 (λ l. Load (key_index l.curr))
@@ -67,8 +67,8 @@ pub record LazyRows (T : Table) : Type 0 where
   pub row_7 : Does T 7 (λ l. Load (link_index l.curr))
       (λ l seen. if seen % 2 == 0 then decides l.call (record l { succ = seen / 2 }) else leaves None l)
       nothing
-  -- An `add` writes the key and the link of its own slot, a node that is not yet in the chain. Then the `add` links the
-  -- slot after `pred`, which adds the key to the set.
+  -- An `add` writes the key and the link of its own slot, a reserved node that is not yet in the chain. Then the `add`
+  -- links the slot after `pred`, which adds the key to the set.
   pub row_8 : Does T 8 (λ l. Store (key_index (own_slot l)) (target l.call)) (λ l seen. on_to 9 l) nothing
   pub row_9 : Does T 9 (λ l. Store (link_index (own_slot l)) (2 * l.curr)) (λ l seen. on_to 10 l) nothing
   pub row_10 : Does T 10 (λ l. Store (link_index l.pred) (2 * own_slot l))

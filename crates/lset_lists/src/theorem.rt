@@ -6,8 +6,9 @@ use lset_steps::Machine;
 use lset_steps::laws::{has_account, listed_content};
 
 /// Theorem: every run of every machine (a list algorithm as a table of steps) is linearizable. The run can have any
-/// length, and any number of threads and any quota within the limits. Some order of the calls linearizes the history of
-/// the run and leaves the same keys as the run. (Herlihy and Wing's linearizability, with completion of pending calls.)
+/// length, and any number of threads and any quota (successful adds per thread) within the limits. Some order of the
+/// calls linearizes the history of the run and leaves the same keys as the run. (Herlihy and Wing's linearizability,
+/// with completion of pending calls.)
 pub fn runs_are_linearizable<M: Machine>()
     ensures { RunsAreLinearizable M.table }
 {

@@ -13,8 +13,8 @@ use Rattle.lset_steps.specs.Steps.{Table}
 use Rattle.lset_steps.specs.Rows.{own_slot, decided_on}
 use Rattle.lset_steps.specs.ReadRows.{begun_reading, read_action, read_fed, continued, leaves_with}
 
--- The rows of the step table at which a call continues after its walk: to add its key (`adds`) or to remove its key
--- (`removes`). A call that changes nothing ends at once (`leaves`, row 0).
+-- The rows of the step table at which a call continues after its walk along the list: to add its key (`adds`) or to
+-- remove its key (`removes`). A call that changes nothing ends at once (`leaves`, row 0).
 abbrev pub targets : Targets
 targets = record { adds = 5; removes = 8; leaves = 0 }
 
@@ -38,8 +38,8 @@ abbrev pub at_link : ℕ → Local → Fed
 at_link seen l =
     if seen % 2 == 0 then continued (record l { pc = 4; succ = seen / 2 }) else continued (record l { pc = 3; succ = seen / 2 })
 
--- Returns the outcome of the final step of a walk. The call ends with its reply, or continues at the row of the step
--- table that adds or removes its key.
+-- Returns the outcome of the final step of a walk along the list. The call ends with its reply, or continues at the row
+-- of the step table that adds or removes its key.
 abbrev pub decision_of : Local → Fed
 decision_of l = record { local = l; answer = if l.pc == 0 then l.reply else None }
 

@@ -34,14 +34,15 @@ decides (Remove k) l seen = if seen == target (Remove k) then continued (goes_to
 decides (Contains k) l seen = if seen == target (Contains k) then answers True l else answers False l
 decides (Ceiling k) l seen = answers (ceiling_at seen) l
 
--- Returns the change of the set by a compare-and-exchange that expects the value `old`. If it finds `old`, it succeeds
--- and adds the call's key (if `put_in` is true) or removes the key. Otherwise it changes nothing.
+-- Returns the change of the set by a compare-and-exchange that expects the value `old`. If the word has the value
+-- `old`, the compare-and-exchange succeeds, and adds the call's key (if `put_in` is true) or removes the key. Otherwise
+-- the set does not change.
 abbrev pub tells_where : ℕ → Bool → Local → ℕ → Option (Key × Bool)
 tells_where old put_in l seen = if seen == old then Some (key_of l.call, put_in) else None
 
 pub record LockFreeRows (T : Table) : Type 0 where
   pub reading : HasReading T
-  -- A walk starts with a load of the head's link.
+  -- A walk along the list starts with a load of the head's link.
   pub row_1 : Does T 1 (λ l. Load (link_index 0)) (λ l seen. continued (record l { pc = 2; pred = 0; curr = seen / 2 })) nothing
   -- The walk loads the link of `curr`, which includes the mark of `curr`.
   pub row_2 : Does T 2 (λ l. Load (link_index l.curr))
@@ -59,10 +60,10 @@ pub record LockFreeRows (T : Table) : Type 0 where
       (λ l seen. if nat_lt seen (target l.call) then continued (record l { pc = 2; pred = l.curr; curr = l.succ })
       else decides l.call l seen)
       nothing
-  -- An `add` writes the key and the link of its own slot, a node that is not yet in the chain.
+  -- An `add` writes the key and the link of its own slot, a reserved node that is not yet in the chain.
   pub row_5 : Does T 5 (λ l. Store (key_index (own_slot l)) (target l.call)) (λ l seen. on_to 6 l) nothing
   pub row_6 : Does T 6 (λ l. Store (link_index (own_slot l)) (2 * l.curr)) (λ l seen. on_to 7 l) nothing
-  -- An `add` links its own slot, a new node, after `pred`. The link adds the key to the set and uses up the slot. If
+  -- An `add` links its own slot, a reserved node, after `pred`, which adds the key to the set and uses up the slot. If
   -- the compare-and-exchange fails, the call starts again.
   pub row_7 : Does T 7 (λ l. Exchange (link_index l.pred) (2 * l.curr) (2 * own_slot l))
       (λ l seen. if seen == 2 * l.curr then leaves_with True (record l { used = l.used + 1 }) else on_to 1 l)

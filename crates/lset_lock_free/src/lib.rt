@@ -23,8 +23,8 @@ use lset_words::{Call, HEAD, Key, Kind, Reply};
 #[derive(Clone, Copy)]
 pub struct LockFreeList;
 
-/// The rows of the step table at which a call continues after its walk: to add its key (`adds`) or to remove its key
-/// (`removes`). A call that changes nothing ends at once (`leaves`, row 0).
+/// The rows of the step table at which a call continues after its walk along the list: to add its key (`adds`) or to
+/// remove its key (`removes`). A call that changes nothing ends at once (`leaves`, row 0).
 const TARGETS: Targets = Targets {
     adds: 5,
     removes: 8,
@@ -79,8 +79,8 @@ fn at_link(local: &Local, seen: u64) -> Fed
     })
 }
 
-/// Returns the outcome of the final step of a walk. The call ends with its reply, or continues at the row of the step
-/// table that adds or removes its key.
+/// Returns the outcome of the final step of a walk along the list. The call ends with its reply, or continues at the
+/// row of the step table that adds or removes its key.
 #[inline(always)]
 fn decision_of(local: Local) -> Fed
     ensures { result ≡ decision_of local }

@@ -1,4 +1,5 @@
--- Proof that the second walks of OptimisticList are valid: each node that a second walk reaches was in the chain.
+-- Proof that the second walks of OptimisticList, which validate what the first walks found, are valid: each node that a
+-- second walk reaches was in the chain.
 use Rattle.std.specs.Prelude.{◌≡◌, ◌≢◌, ℕ, zero, suc, ◌+◌, ◌-◌, ◌/◌, ◌<◌, ◌≤◌, ◌⊎◌, Bool, true, false, None, if◌then◌else◌, ◌==◌}
 use Rattle.std.specs.Prelude.{nat_lt, slice_index_or, slice_set, length, refl}
 use Rattle.std.proofs.Common.{arith, inl, inr, sym, ◌∙◌, ap, subst, get_or-set_other, get_or-set_same}
@@ -96,7 +97,7 @@ module _ (q t : ℕ) (vs : ℕ → View) (first now : ℕ) (v : View) (done : Bo
     decides = λ from upto. absurd (omega arith);
   }
 
--- Holds if the second walk is at pred after a step, and the step does not change the thread's pred.
+-- Holds if, after a step, the second walk is at pred, and the step has not changed the thread's pred.
 abbrev Stays : Local → Local → Type 0
 Stays l m = HasArrived m × (m.pred ≡ l.pred)
 

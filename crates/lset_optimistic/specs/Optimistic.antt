@@ -12,8 +12,8 @@ use Rattle.lset_steps.specs.declared.rows.Targets.{Targets}
 use Rattle.lset_steps.specs.Steps.{Table}
 use Rattle.lset_steps.specs.Rows.{own_slot, begun, decided_on}
 
--- The rows of the step table at which a call continues after its walks: an `add` adds its key from row 9 on, a `remove`
--- removes its key from row 12 on, and a call that already has its reply continues at row 14.
+-- The rows of the step table at which a call continues after its walks along the list: an `add` adds its key from row 9
+-- on, a `remove` removes its key from row 12 on, and a call that already has its reply continues at row 14.
 abbrev pub targets : Targets
 targets = record { adds = 9; removes = 12; leaves = 14 }
 

@@ -34,8 +34,8 @@ use lset_words::{Call, HEAD, Key, Kind, Reply};
 #[derive(Clone, Copy)]
 pub struct OptimisticList;
 
-/// The rows of the step table at which a call continues after its walks: to add its key (`adds`), to remove its key
-/// (`removes`), or to end with its reply (`leaves`).
+/// The rows of the step table at which a call continues after its walks along the list: to add its key (`adds`), to
+/// remove its key (`removes`), or to end with its reply (`leaves`).
 const TARGETS: Targets = Targets {
     adds: 9,
     removes: 12,

@@ -27,8 +27,8 @@ use thiserror::Error;
 /// The cause of a `ServeFault`.
 #[derive(Clone, Copy, Debug, PartialEq, Eq, Error)]
 pub enum ServeCause {
-    /// Not all seats of the set were passed to `serve`. (A seat that was merged into a passed seat counts as passed.)
-    /// No connection was accepted.
+    /// Not all seats (per-thread handles to the set) were passed to `serve`. (A seat that was merged into a passed seat
+    /// counts as passed.) No connection was accepted.
     #[error("not all seats of the set were passed")]
     Seats,
     /// The system did not accept a connection.
@@ -218,7 +218,7 @@ fn serve_all<R: Threads + Wait + Clock + Sync, M: Running + Send + Sync>(
     )
 }
 
-/// Serves a set to `sessions` connections, with one worker thread for each of `seats`.
+/// Serves a set to `sessions` connections, with one worker thread for each of `seats` (per-thread handles to the set).
 ///
 /// `seats` must belong to `set`. Connections are numbered from 0. They wait in a channel that has room for one
 /// connection per seat. Each worker runs `buffered_session` on its seat, for one connection after another. A session
@@ -249,7 +249,8 @@ pub fn serve<R: Threads + Wait + Clock + Sync, M: Running + Send + Sync>(
     requires { All (λ s. s.set ≡ set) seats.items }
     // [Received once]: each connection was received by a worker exactly once.
     ensures received { IfOk result (λ s. (s.sessions ≡ sessions) × ReceivedOnce sessions (tally_of s)) }
-    // [Served]: some legal order of the seats' earlier calls and of `calls` further calls leaves the final keys.
+    // [Served]: some legal order leaves the final keys. The order consists of the calls made from `seats` before
+    // `serve` and of `calls` further calls.
     ensures served { IfOk result (λ s. IsServed set.shape (map (λ t. t.past) seats.items) s.calls s.keys.items) }
     ensures all { IsOk result → sum_by (λ s. s.held) seats.items ≡ set.shape.threads }
     ensures refused { IfErr result (λ f. f.cause ≡ ServeCause.Seats ↔ (sum_by (λ s. s.held) seats.items ≢ set.shape.threads)) }

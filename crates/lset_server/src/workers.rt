@@ -146,7 +146,8 @@ pub(crate) struct Pool<'s, R, M: Running> {
 }
 
 impl<'s, R: Threads + Wait + Clock + Sync, M: Running + Send + Sync> Pool<'s, R, M> {
-    /// Starts a worker thread on `seat`. Returns `None` if the system refuses to start the thread.
+    /// Starts a worker thread on `seat` (a per-thread handle to the set). Returns `None` if the system refuses to start
+    /// the thread.
     fn start<E>(
         &self,
         scope: &Scope<'s, E>,
@@ -174,8 +175,9 @@ impl<'s, R: Threads + Wait + Clock + Sync, M: Running + Send + Sync> Pool<'s, R,
             .ok()
     }
 
-    /// Starts a worker thread on each seat. Each worker has its own pass (permission to use the channel), which is
-    /// split off the sender's `pass`. The memory for all thread handles is allocated before the first thread starts.
+    /// Starts a worker thread on each seat (per-thread handle to the set). Each worker has its own pass (permission to
+    /// use the channel), which is split off the sender's `pass`. The memory for all thread handles is allocated before
+    /// the first thread starts.
     pub fn start_all<E>(
         &self,
         alloc: Global,

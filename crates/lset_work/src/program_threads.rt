@@ -106,7 +106,8 @@ pub(crate) struct Shared<'s, R, M: Running, G: Gate> {
 }
 
 impl<'s, R: Wait + Sync, M: Running + Send + Sync, G: Gate + Sync> Shared<'s, R, M, G> {
-    /// Starts a thread that runs `program` on `seat`. Returns `None` if the system refuses to start the thread.
+    /// Starts a thread that runs `program` (a list of calls) on `seat` (a per-thread handle to the set). Returns `None`
+    /// if the system refuses to start the thread.
     fn start_one<E>(
         &self,
         scope: &Scope<'s, E>,

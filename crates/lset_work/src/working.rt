@@ -119,7 +119,7 @@ pub fn work<R: Threads + Wait + Sync, M: Running + Send + Sync, G: Gate + Sync>(
     // learn from a receipt that a call has ended: a receipt contains the events that another seat had seen.)
     ensures in_time { IfOk result (λ o. IsWorkInTime M.table set.shape seats.items (worked
         (map (λ s. s.past) seats.items) (map (λ p. p.items) programs.items) (map (λ v. v.items) o.replies.items)) o.keys.items) }
-    // The cause is `Programs` if and only if the numbers of programs, seats and threads of the set do not match.
+    // The cause is `Programs` if and only if the numbers of programs, of seats and of the set's threads do not match.
     ensures fitting { IsOk result → Fit set seats.items (length programs.items) }
     ensures refused { IfErr result (λ f. f.cause ≡ WorkCause.Programs ↔ ¬ (Fit set seats.items (length programs.items))) }
     ensures back { IfErr result (λ f. GivesBack (set, seats) f.cause f.back) }

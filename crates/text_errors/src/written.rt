@@ -14,7 +14,7 @@ const MOST_MOMENT_OF_REPORT: u64 = 4_294_967_295;
 /// The maximum number of steps in one line of a schedule.
 const MOST_STEPS: u64 = 10_000;
 
-/// The largest row of a step table that a line of a draft can name.
+/// The largest row of a step table that a line of a draft (a schedule that can state where a thread stops) can name.
 const MOST_ROW: u64 = 255;
 
 /// A field that must be a number: its name in messages, its index in the line (counted from 0), and its range.

@@ -22,7 +22,7 @@ pub const MOST_SESSIONS_ASKED: u32 = 10_000;
 pub const MOST_PORT: u32 = 65_535;
 
 /// The arguments of the command `gen`, which are also the first six arguments of `run`: a kind of list, the numbers of
-/// threads, calls and keys, a quota, and a random seed.
+/// threads, calls and keys, a quota (successful adds per thread), and a random seed.
 #[derive(Clone, Copy)]
 pub struct RandomRequest {
     /// The kind of list.

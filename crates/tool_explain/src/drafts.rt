@@ -33,8 +33,8 @@ fn answer_on<T: Tool>(alloc: Global, tool: &T, text: &[u8]) -> Option<Vec<u8>> {
 }
 
 /// Expands the lines before the error, followed by `ending`, to a schedule. `ending` can contain lines that only a
-/// draft can have. Returns `None` if a line cannot be expanded, for example because its thread waits for a lock or has
-/// no pending call.
+/// draft (a schedule that can state where a thread stops) can have. Returns `None` if a line cannot be expanded, for
+/// example because its thread waits for a lock or has no pending call.
 fn schedule_up_to(
     alloc: Global,
     lines: &Lines<'_>,
@@ -93,8 +93,8 @@ fn held_lock<'a>(trace: &Lines<'a>) -> Option<(&'a str, &'a str)> {
     }
 }
 
-/// Explains why a thread does not reach the row of the step table that a line of a draft names: the thread waits for a
-/// lock, or the thread's call ends first.
+/// Explains why a thread does not reach the row of the step table that a line of a draft (a schedule that can state
+/// where a thread stops) names: the thread waits for a lock, or the thread's call ends first.
 pub(crate) fn put_lock(
     alloc: Global,
     out: &mut String,

@@ -1,4 +1,4 @@
-//! Explains errors in the events of a schedule or draft.
+//! Explains errors in the events of a schedule, or of a draft (a schedule that can state where a thread stops).
 
 use crate::drafts::{put_lock, put_waiting, steps_out};
 use lset_text::Cause;
@@ -76,7 +76,8 @@ fn put_form(out: &mut String, lines: &Lines<'_>, place: Place<'_>) -> Result<(),
     }
 }
 
-/// Explains that an event contains a wrong number, or that a schedule contains a line that only a draft can have.
+/// Explains that an event contains a wrong number, or that a schedule contains a line that only a draft (a schedule
+/// that can state where a thread stops) can have.
 fn put_event_number(out: &mut String, place: Place<'_>) -> Result<(), AllocError> {
     let (line, file) = (place.line, place.file);
     let is_stop = matches!(field_or_empty(line, 2), b"out" | b"to");

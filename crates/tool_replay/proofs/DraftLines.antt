@@ -1,4 +1,4 @@
--- Lemmas about the event lines of a draft.
+-- Lemmas about the event lines of a draft, a schedule that can state where a thread stops.
 use Rattle.std.proofs.Common.{◌≡◌, ℕ, List, arith, ◌<◌, length}
 use Rattle.lset_text.specs.declared.words.Version.{Version}
 use Rattle.lset_text.specs.declared.causes.Cause.TheVariants.{Event}

@@ -1,4 +1,4 @@
--- The event lines of a draft: the event lines of a schedule, and lines that state where a thread stops.
+-- The event lines of a draft. A draft is a schedule with one addition: a line can state where a thread stops.
 use Rattle.std.specs.Prelude.{◌≡◌, ℕ, false, List, [], ◌∷◌, map, codes, Result}
 use Rattle.lset_text.specs.declared.words.Version.{Version}
 use Rattle.lset_text.specs.declared.causes.Cause.{Cause}

@@ -4,9 +4,9 @@ use lset_schedule::{Body, Line};
 /// thread stops.)
 pub const MOST_ROW: u32 = 255;
 
-/// A line of a draft. `Plain` is a line of a schedule. `Out(thread)` steps a thread until its call has ended.
-/// `To(thread, row)` steps a thread until it is at row `row` (1 to 255) of its list's step table. `Out` and `To` take
-/// at least one step.
+/// A line of a draft (a schedule that can state where a thread stops). `Plain` is a line of a schedule. `Out(thread)`
+/// steps a thread until its call has ended. `To(thread, row)` steps a thread until it is at row `row` (1 to 255) of its
+/// list's step table. `Out` and `To` take at least one step.
 #[derive(Clone, Copy)]
 pub enum DraftLine {
     Plain(Line),

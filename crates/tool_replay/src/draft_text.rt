@@ -75,7 +75,7 @@ impl EventLine for DraftLine {
     }
 }
 
-/// Reads a draft. Allocates.
+/// Reads a draft (a schedule that can state where a thread stops). Allocates.
 ///
 /// # Errors
 ///

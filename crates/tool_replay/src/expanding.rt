@@ -47,7 +47,8 @@ fn make_line<M: Machine>(world: &mut World<M>, line: DraftLine, left: u32) -> Re
     }
 }
 
-/// Creates the world of a draft (shared words and private states), before the first event.
+/// Creates the state of a run of a draft (the shared words and the private states of the threads), before the first
+/// event.
 fn start_of<M: Machine>(alloc: Global, draft: &Draft) -> Result<World<M>, AllocError> {
     let keys = draft.opening.as_slice();
     let Ok(layout) = layout_opening(draft.header.threads, draft.header.quota, keys.len() as u32)
@@ -57,7 +58,7 @@ fn start_of<M: Machine>(alloc: Global, draft: &Draft) -> Result<World<M>, AllocE
     World::<M>::opened(alloc, layout, keys)
 }
 
-/// Expands the lines of a draft by running them on the list with step table `M`.
+/// Expands the lines of a draft (a schedule that can state where a thread stops) by running them on the list `M`.
 fn lines_on<M: Machine>(alloc: Global, draft: &Draft) -> Result<Vec<Line>, Trouble> {
     let mut world = start_of::<M>(alloc, draft)?;
     let mut number = draft.first_event_line();
@@ -75,8 +76,8 @@ fn lines_on<M: Machine>(alloc: Global, draft: &Draft) -> Result<Vec<Line>, Troub
     Ok(lines)
 }
 
-/// A task that replaces the lines of a draft by schedule lines. `on_list` runs the task on the list of the draft's
-/// kind.
+/// A task that replaces the lines of a draft (a schedule that can state where a thread stops) with lines of a schedule.
+/// `on_list` runs the task on the list of the draft's kind.
 #[derive(Clone, Copy)]
 struct Expanding<'a> {
     alloc: Global,
@@ -95,7 +96,8 @@ impl Task for Expanding<'_> {
     }
 }
 
-/// Expands a draft into a schedule by inserting each missing number of steps. Allocates.
+/// Expands a draft (a schedule that can state where a thread stops) into a schedule, by inserting each missing number
+/// of steps. Allocates.
 ///
 /// `draft` must be within the limits, as every draft from `read_draft` is. A line without a count gets the smallest
 /// number of steps, at least 1, that ends the thread's call or brings the thread to the named row. All lines with a
