@@ -59,8 +59,8 @@ abbrev pub numbers_below : ℕ → List ℕ
 numbers_below zero = []
 numbers_below (suc n) = numbers_below n ++ n ∷ []
 
--- Holds if all passes of a channel (permissions to use it) were joined into one pass with tally v, the numbers 0 to n -
--- 1 were sent in order, each of the sent numbers was received once, and no other number was received.
+-- Holds if all passes of a channel (permissions to use it) were joined into one pass with tally v, the n numbers from 0
+-- on were sent in order, each of them was received once, and no other number was received.
 pub record ReceivedOnce (n : ℕ) (v : Tally) : Type 0 where
   pub parts : v.parts ≡ PARTS
   pub sent : v.sent ≡ numbers_below n

@@ -23,8 +23,8 @@ fn first_key_line(lines: &Lines<'_>) -> usize {
     number
 }
 
-/// Returns the number and the cause of the first line that `serve` refuses. They equal the number and the cause in the
-/// error of `serve`.
+/// Returns the number and the cause of the first line that `serve` refuses. The error of `serve` has the same number
+/// and the same cause.
 pub fn wrong_key(lines: &Lines<'_>) -> Option<(usize, Cause)> {
     let mut before: Option<u32> = None;
     let last = lines.count();

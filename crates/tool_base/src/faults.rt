@@ -146,7 +146,7 @@ enum FaultLine {
 }
 
 impl FaultLine {
-    /// Classifies a line.
+    /// Returns the kind of a line of `FAULTS`.
     fn of(line: &[u8]) -> FaultLine {
         match line {
             [b' ', b' ', b' ', ..] => FaultLine::More,

@@ -1,6 +1,6 @@
 //! The code that all commands of the program share. A command computes an answer from its input or its arguments. The
 //! functions of this crate read the input, write the answer to an output or a one-line error message to stderr, and
-//! return the exit status. They work with any reader and writer.
+//! return the exit status. The functions work with any reader and writer.
 #![tactic(auto)]
 
 mod answer; // the result of a command, and error lines

@@ -70,7 +70,7 @@ fn put_shortening(out: &mut String, file: &str, kind: TextKind) -> Result<(), Al
     }
 }
 
-/// Explains a text that is not too long.
+/// Explains a text whose length is within the limit.
 fn put_text(alloc: Global, out: &mut String, file: &str, text: &[u8]) -> Result<(), Trouble> {
     let lines = Lines::of(alloc, text)?;
     let kind = TextKind::of(lines.line(1));

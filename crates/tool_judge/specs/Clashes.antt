@@ -147,8 +147,8 @@ lines_turned key was x y = turned_first key (need_of (is_change x.call x.ended) 
     ++ turned_there key (other was) x.begun (end_of y.begun y.ended)
     ++ turned_back (need_of (is_change x.call x.ended) was) y.begun (end_of x.begun x.ended)
 
--- Returns the lines of a contradiction about a key. If the two calls overlap, the lines describe both orders of these
--- two calls.
+-- Returns the lines of a contradiction about a key. If the two calls overlap, the lines describe both orders of the two
+-- calls.
 abbrev pub lines_of : ℕ → Presence → Option StreamCall → Option StreamCall → List ℕ
 lines_of key was (Some x) (Some y) = if overlap x.ended y.begun then lines_turned key was x y else lines_in_order key was (Some x) (Some y)
 lines_of key was first second = lines_in_order key was first second

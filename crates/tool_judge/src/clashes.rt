@@ -137,7 +137,7 @@ fn call_text(alloc: Global, made: StreamCall) -> Result<Vec<u8>, AllocError>
     Ok(text)
 }
 
-/// Returns the words that state in which state (present or absent) the first call leaves the key.
+/// Returns the words about the state (present or absent) in which the first call leaves the key.
 fn leaves_text(alloc: Global, key: u32, was: Presence) -> Result<Vec<u8>, AllocError>
     ensures { IfOk result (λ text. text.items ≡ lines.leaves_text key was) }
 {
@@ -153,7 +153,7 @@ fn leaves_text(alloc: Global, key: u32, was: Presence) -> Result<Vec<u8>, AllocE
     }
 }
 
-/// Returns the words that state in which state (present or absent) the second call needs the key.
+/// Returns the words about the state (present or absent) in which the second call needs the key to be.
 fn needs_text(alloc: Global, key: u32, need: Presence) -> Result<Vec<u8>, AllocError>
     ensures { IfOk result (λ text. text.items ≡ lines.needs_text key need) }
 {
@@ -222,7 +222,7 @@ fn first_line(
     }
 }
 
-/// Returns line 2 of 3: the second call, and the state in which it needs the key. If `second` is `None`, the line
+/// Returns line 2 of 3: the second call, and the state in which it needs the key to be. If `second` is `None`, the line
 /// states the key's final state instead.
 fn second_line(
     alloc: Global,

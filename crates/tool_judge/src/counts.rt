@@ -63,9 +63,9 @@ fn maker(count: &Count, state: Presence) -> Call {
     }
 }
 
-/// Writes the calls of a contradiction by counting: together, these calls need more changes of a key than other calls
-/// can make. If the key's first or final state is part of the contradiction, writes that state too. If there are more
-/// than `NAMED` calls, writes only the first and last ones, with the number of calls between them.
+/// Writes the calls of a contradiction by counting: the listed calls together need more changes of a key than other
+/// calls can make. If the key's first or final state is part of the contradiction, writes that state too. If there are
+/// more than `NAMED` calls, writes only the first and last ones, with the number of calls between them.
 fn put_calls(out: &mut String, count: &Count) -> Result<(), AllocError> {
     let (key, all) = (count.key.0, count.calls.len());
     let mut is_first = true;

@@ -117,7 +117,7 @@ fn no_such_reply_text(
     Ok(text.into_bytes())
 }
 
-/// Returns the lines below a picture. They state whether some order explains the picture's calls.
+/// Returns the lines below a picture, which state whether some order explains the picture's calls.
 fn claim_text(alloc: Global, picture: &Picture) -> Result<Vec<u8>, AllocError> {
     match claim_on(alloc, picture)? {
         Claim::NotIncreasing => Vec::from_slice(alloc, NOT_INCREASING),

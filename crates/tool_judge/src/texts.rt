@@ -62,7 +62,7 @@ pub(crate) fn ok_text(
     Ok(text)
 }
 
-/// Returns the line `not linearizable`, and the second line up to its key.
+/// Returns the line `not linearizable`, and the beginning of the second line up to the key.
 fn calls_of_key(alloc: Global, key: u32) -> Result<Vec<u8>, AllocError>
     ensures { IfOk result (λ text. text.items ≡ calls_of_key key) }
 {
@@ -117,8 +117,8 @@ fn refused_text(
     Ok(text)
 }
 
-/// Returns when the second call of a contradiction ended. Returns `None` if the second call is pending, if the
-/// contradiction is with the final state, or if there is no contradiction.
+/// Returns the moment (a time in the recording) at which the second call of a contradiction ended. Returns `None` if
+/// the second call is pending, if the contradiction is with the final state, or if there is no contradiction.
 fn end_of(clash: Option<Clash>) -> Option<u64> {
     let (end, _) = clash?.second?.ended?;
     Some(end)

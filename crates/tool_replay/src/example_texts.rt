@@ -1,4 +1,4 @@
-//! The texts of the examples. `tests/examples.py` checks that they equal the files in `examples/`.
+//! The texts of the examples. `tests/examples.py` checks that the texts equal the files in `examples/`.
 
 pub(crate) const FAILED_TRIES: &str = "\
 listset-schedule 1

@@ -1,8 +1,8 @@
 use crate::example_texts as texts;
 use lset_words::Kind;
 
-/// A well-known interleaving of calls on one of the five lists. It shows why the list needs a certain step or check.
-/// Most examples are from Herlihy and Shavit's chapter on linked lists, adapted to the step tables of this library.
+/// A well-known interleaving of calls on one of the five lists. An example shows why the list needs a certain step or
+/// check. Most examples are from Herlihy and Shavit's chapter on linked lists, adapted to the library's step tables.
 #[derive(Clone, Copy)]
 pub(crate) struct Example {
     /// The example's name, as typed in `example NAME`.

@@ -19,7 +19,7 @@ use traced_run::trace_into;
 /// `read_broken_schedule`. It fails with `Memory` if an allocation fails.
 #[derive(Clone, Copy)]
 pub struct Trace {
-    /// Whether to write the chain of nodes after each event that changed it.
+    /// Whether to write the chain of nodes after each event that changed the chain.
     pub chains: bool,
     /// The broken list (a list without one of its checks) that runs the schedule. A line `lacks NAME` in the trace's
     /// header names the broken list. `None` selects the list that the schedule names.

@@ -59,7 +59,7 @@ fn key_of_line(line: &[u8]) -> Result<u32, Cause> {
     number(piece, 0, u32::MAX).ok_or(Cause::Number)
 }
 
-/// Appends the key in a line `key K`. The key must be greater than the previous one.
+/// Appends the key in a line `key K`. The key must be greater than the previous key.
 fn add_key(keys: &mut Vec<u32>, line: &[u8]) -> Result<(), Cause> {
     let key = key_of_line(line)?;
     if keys.len() >= MOST_OPENING as usize {

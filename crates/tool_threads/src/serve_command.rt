@@ -26,7 +26,7 @@ fn served_text(alloc: Global, served: &Served) -> Result<Vec<u8>, AllocError> {
     Ok(out.into_bytes())
 }
 
-/// Writes the line `listening 127.0.0.1:PORT` and flushes it.
+/// Writes the line `listening 127.0.0.1:PORT` to `output` and flushes `output`.
 fn announce<W: Write>(alloc: Global, output: &mut W, port: u16) -> Result<(), Trouble> {
     let line = format!(in alloc; "listening 127.0.0.1:{port}\n")?;
     if put(output, line.as_bytes()) && output.flush().is_ok() {
