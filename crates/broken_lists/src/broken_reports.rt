@@ -44,8 +44,8 @@ fn run_calls(alloc: Global, broken: BrokenList, schedule: &Schedule) -> Result<R
 }
 
 /// Reads a schedule for a broken list (a list without one of its checks), runs it, and returns a report in version 2 of
-/// the format. The report contains the calls in an order: sorted by linearization point, as `lset_replay::calls_of`
-/// computes it. The order does not always explain the calls. Allocates.
+/// the format. In the report's order, the calls are sorted by linearization point, as computed by
+/// `lset_replay::calls_of`. The order does not always explain the calls. Allocates.
 ///
 /// # Errors
 ///

@@ -1,4 +1,4 @@
--- How the result of a command is written to a buffer of a caller that is written in another language.
+-- How the result of a command is written to the buffer of a caller in a foreign language.
 use Rattle.std.specs.Prelude.{◌≡◌, ◌≢◌, ℕ, ◌≤◌, ◌<◌, ◌⊎◌, List, ◌++◌, length, drop, Ok, Err}
 use Rattle.std.specs.Str.Lossy.{utf8_lossy}
 use Rattle.lset_text.specs.Parts.{cut_at}

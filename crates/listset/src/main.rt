@@ -9,8 +9,8 @@ use std::io::{self, ErrorKind, Write};
 use std::process::ExitCode;
 use tool_base::{Trouble, deliver, put};
 
-// The commit of the sources, and whether the sources are proved. A build that knows both overwrites the bytes in the
-// program (`build/version_stamp.py`), so the lengths are fixed.
+// The commit of the sources, and whether the sources are proved. A build that knows both overwrites the two lines in
+// the program (`build/version_stamp.py`), so the lengths of the lines are fixed.
 const BUILT: &str = "commit 0000000000000000000000000000000000000000\nproof unknown\n";
 
 // The message for an argument that std cannot return as a `String`. (std cannot open a file with such a name either.)

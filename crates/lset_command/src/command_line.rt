@@ -150,7 +150,7 @@ fn with_arguments<'a>(
     command
 }
 
-// Replaces the usage text that `clap` writes with `usage` if `usage` is not `None`.
+// Replaces clap's usage text by `usage`, unless `usage` is `None`.
 fn with_usage<'a>(command: clap::Command<'a>, usage: Option<&'a str>) -> clap::Command<'a>
     ensures { (a : App) → IsApp command.entry a → IsApp result a }
 {
@@ -160,7 +160,7 @@ fn with_usage<'a>(command: clap::Command<'a>, usage: Option<&'a str>) -> clap::C
     }
 }
 
-// Replaces the help text that `clap` writes if `name` is `faults`.
+// If `name` is `faults`, replaces clap's help text.
 fn with_help<'a>(command: clap::Command<'a>, name: &str, helps: Helps<'a>) -> clap::Command<'a>
     ensures { (a : App) → IsApp command.entry a → IsApp result a }
 {

@@ -1,4 +1,4 @@
--- Lemmas that derive how the program ends from how its job ended.
+-- Lemmas that derive how the program ends from how its job (a command with checked arguments) ended.
 use Rattle.std.proofs.Common.{◌≡◌, ℕ, List, Option, Some, None, Ok, Err, IfSome, refl, subst, sym, inl, inr}
 use Rattle.std.specs.Prelude.{◌≢◌}
 use Rattle.clap.specs.declared.error.kind.ErrorKind.{ErrorKind}

@@ -17,13 +17,13 @@ use Rattle.lset_dispatch.specs.declared.job.Job.TheVariants.{Replay, Judge, Verd
 abbrev pub Asked : Type 0
 Asked = Result Job ValueName
 
--- Returns the job of `replay` without `--lacks`. With `--lacks`, nothing is proved.
+-- Returns the job of `replay`, or `None` if `--lacks` is present, because nothing is proved about `replay --lacks`.
 abbrev pub asked_replay : Option Text → Option Asked
 asked_replay None = Some (Ok (Replay None))
 asked_replay (Some name) = None
 
--- Returns the job of `judge`: to print only the verdict with `--brief`, otherwise the verdict with all details. With
--- `--only`, nothing is proved.
+-- Returns the job of `judge`: to print only the verdict with `--brief`, otherwise the verdict with all details. Returns
+-- `None` if `--only` is present, because nothing is proved about `judge --only`.
 abbrev pub asked_judge : Option Text → Bool → Option Asked
 asked_judge None true = Some (Ok Verdict)
 asked_judge None false = Some (Ok Judge)

@@ -65,7 +65,7 @@ pub(crate) fn explained<H: Files>(
     }
 }
 
-/// If the answer refuses a recording, appends the advice to use a file. For recordings that were read from a pipe.
+/// If the answer refuses a recording that was read from a pipe, appends the advice to use a file.
 pub(crate) fn pointed(made: Result<Answer, Trouble>) -> Result<Answer, Trouble>
     ensures { (bytes : List ℕ) → Judges bytes (view made) → Judges bytes (view result) }
 {

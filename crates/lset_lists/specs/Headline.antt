@@ -27,7 +27,7 @@ history_of T op es k = history_at (log_of T op es) k
 pub record ExplainsRun (T : Table) (op : Opening) (es : ℕ → Event) (last : ℕ) (order : List Placed) : Type 0 where
   -- The calls of the run form a history.
   pub history : IsHistory op.threads (history_of T op es last)
-  -- The order linearizes the history of a set that opens with the opening keys.
+  -- The order linearizes the history of a set that initially contains the opening keys.
   pub linearizes : Linearizes op.quota (opening_set op) (history_of T op es last) order
   -- The keys of the set after the calls of the order are the final keys of the run, in increasing order.
   pub content : IsContent (views T op es last) (keys_left op (history_of T op es last) order)

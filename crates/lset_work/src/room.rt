@@ -7,7 +7,7 @@ use lset_live::Running;
 use lset_words::{Call, Reply};
 use std::alloc::Global;
 
-/// A program of calls, and a vector with enough capacity for the replies.
+/// A program (a list of calls), and a vector with enough capacity for the replies.
 #[derive(Drop)]
 pub(crate) struct Program {
     pub calls: Vec<Call>,

@@ -33,7 +33,7 @@ fn oracle_has(alloc: Global, oracle: &Oracle, calls: &mut Calls, keys: &[u32]) -
     check(found.as_slice() == keys)
 }
 
-/// Adds the keys 1 to 12. They do not fit into one node of the tree that stores the keys.
+/// Adds the keys 1 to 12, which do not fit into one node of the tree that stores the keys.
 fn fill(oracle: &mut Oracle, calls: &mut Calls) -> Result<()> {
     for key in 1..=12 {
         let add = Call::Add(Key(key));

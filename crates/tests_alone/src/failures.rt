@@ -39,7 +39,7 @@ const UNENDED: &str = "listset-calls 1\ncall 0 add 5 1 4 true\nkey 5\n";
 
 const DRAFT: &str = "listset-draft 2\nlist coarse\nthreads 1\nquota 4\nbegin 0 add 5\ngo 0 out\n";
 
-/// A schedule with one `contains`. It runs on the broken LazyList that ignores marks in `contains`.
+/// A schedule with one `contains`. The schedule runs on the broken LazyList whose `contains` ignores the mark.
 const LOOK: &str =
     "listset-schedule 2\nlist lazy\nthreads 1\nquota 0\nbegin 0 contains 5\ngo 0 2\n";
 

@@ -74,7 +74,8 @@ fn the_first_fault_of_a_call_is_named(rt: HostRuntime) -> Result<(), Fail> {
     Ok(())
 }
 
-/// The number of `contains` calls while a long `add` is pending. All of them return false, except the next-to-last.
+/// The number of `contains` calls while a long `add` is pending. Every `contains` returns false, except the
+/// next-to-last.
 const LOOKS: u64 = 102;
 
 #[test]

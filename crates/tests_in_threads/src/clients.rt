@@ -1,4 +1,4 @@
-//! Clients for tests of servers. They connect over the loopback interface.
+//! Clients for tests of servers. The clients connect over the loopback interface.
 
 use crate::meeting::reaches;
 use crate::prelude::*;

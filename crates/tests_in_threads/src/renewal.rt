@@ -52,8 +52,8 @@ fn the_smallest_and_the_largest_key_can_be_opening_keys(rt: HostRuntime) {
     at_each_list!(keeps_its_keys, rt);
 }
 
-/// A number of seats (per-thread handles to a set), a quota (successful adds per seat) and opening keys (keys at the
-/// start), and the error that `open_with` returns for this combination.
+/// Arguments of `open_with`, each with the error that `open_with` returns: a number of seats (per-thread handles to a
+/// set), a quota (successful adds per seat), and opening keys (keys at the start).
 const REFUSED: [(u32, u32, [u32; 2], OpenFault); 4] = [
     (0, 16_385, [5, 5], OpenFault::Seats),
     (1, 16_385, [5, 5], OpenFault::Quota),

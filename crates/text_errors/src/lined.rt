@@ -1,7 +1,7 @@
 use lset_text::{cut, long_number, number};
 use std::alloc::{AllocError, Global};
 
-/// The maximum number of bytes that are printed of a line.
+/// The maximum number of bytes of a line that are printed.
 const MOST_PRINTED: usize = 100;
 
 /// A text split into lines, which are counted from 1.
@@ -46,7 +46,7 @@ impl<'a> Lines<'a> {
         }
     }
 
-    /// Returns the number of the last line before line `number` that satisfies `is_meant`.
+    /// Among the lines before line `number`, returns the number of the last line that satisfies `is_meant`.
     pub fn last_before<F: Fn(&[u8]) -> bool + Drop>(
         &self,
         number: usize,

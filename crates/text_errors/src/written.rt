@@ -41,7 +41,7 @@ fn in_range(name: &'static str, index: usize, low: u64, high: u64) -> NumberFiel
     }
 }
 
-/// Explains that a line contains a wrong number. Checks the fields that must be numbers in a line of that kind.
+/// Explains that a line contains a wrong number. Checks each field of the line that must be a number.
 pub fn put_number(out: &mut String, place: Place<'_>) -> Result<(), AllocError> {
     let is_stop = matches!(field_or_empty(place.line, 2), b"out" | b"to");
     let thread = plain("THREAD", 1);

@@ -106,7 +106,8 @@ fn put_no_thread(out: &mut String, lines: &Lines<'_>, place: Place<'_>) -> Resul
     )
 }
 
-/// Returns the number of the last line before `place` that begins a call of the thread that `place` names.
+/// Among the lines before `place`, returns the number of the last line that begins a call of the thread that `place`
+/// names.
 fn begun_before(lines: &Lines<'_>, place: Place<'_>) -> Option<usize> {
     let thread = number_at(place.line, 1)?;
     lines.last_before(place.number, |line| {

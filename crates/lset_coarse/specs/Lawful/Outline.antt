@@ -36,7 +36,7 @@ LeavesHolder sz t ws used a ws' used' change = WordStep false sz t ws used a ws'
     × ((u : ℕ) → u ≢ t → slice_index ws 0 ≡ u + 1 → (ws' ≡ ws) × (used' ≡ used))
 
 -- Holds if the views v and w have the same keys, links, lock and numbers of used slots (nodes for adds). The lock's
--- holder relies on all of them being unchanged.
+-- holder relies on all four being unchanged.
 pub record Same (v w : View) : Type 0 where
   pub keys : w.key ≡ v.key
   pub links : w.link ≡ v.link
