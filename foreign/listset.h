@@ -1,13 +1,13 @@
 // listset.h: sorted-list sets that threads share, and the judge of their calls, for C99.
 //
 // THE JUDGE: each function reads a text, and returns a text and the exit status of the program `listset`. A recording
-// is the text of calls recorded from any set. A schedule is the text of calls on one of the lists, and of the order of
-// the threads' steps. A report is the result of a schedule, with an order that explains its replies. A draft is a
-// schedule that states where threads stop instead of numbers of steps.
+// has the recorded calls of any set. A schedule has calls to one of the lists, and the order of the threads' steps. A
+// report is the result of a schedule: the calls with their replies, and an order that explains the replies. A draft is
+// a schedule that states where threads stop instead of how many steps they make.
 //
 // A function writes the program's output, or the line about its error, to the start of `room`. It returns the length of
-// this text in bytes and sets `*status`. If the length is greater than `size`, nothing is written to `room`: call again
-// with a buffer of that length, or use `listset_said`, which does so.
+// the text in bytes and sets `*status`. If the length is greater than `size`, nothing is written to `room`. In that
+// case, repeat the call with a buffer of that length, or use `listset_said`, which repeats the call.
 //
 //     size_t length;
 //     uint8_t status;
@@ -23,10 +23,9 @@
 // Any number of threads may call at the same time. A call stores nothing for later calls. It does not block, except
 // that `listset_judge_from` waits for its input.
 //
-// THE SETS: each thread calls through its own seat. `listset_open` returns a seat that contains all others;
-// `listset_split` splits one of these seats off for another thread; `listset_gather` merges a seat into another seat of
-// the same set. Once one seat has gathered all others, `listset_close` closes the set and `listset_keys` returns its
-// final keys.
+// THE SETS: each thread calls through its own seat. `listset_open` stores a seat that contains all seats of the set;
+// `listset_split` splits a seat off for one more thread; `listset_gather` merges one seat of a set into another. Once a
+// seat has gathered all others, `listset_close` closes the set and `listset_keys` returns the final keys.
 //
 //     uint32_t none;
 //     listset_seat seat = LISTSET_NONE;
@@ -34,11 +33,12 @@
 //     if (fault != LISTSET_OK) puts(listset_fault_text(fault));
 //     if (listset_add(&seat, 7).is == LISTSET_TRUE) ..
 //
-// A seat has a quota of adds, which a remove does not restore. `listset_renew` closes the set and opens another one
-// with its keys.
+// A seat has a quota (the number of successful adds that it may make), which a remove does not restore. `listset_renew`
+// closes a set and opens a new set with the same keys.
 //
-// Compare the field `is` of a reply with LISTSET_TRUE: LISTSET_FULL and LISTSET_NO_SEAT are not 0 either. A reply by
-// itself does not compile as a condition. With -Wextra, gcc and clang warn if a reply or a fault is ignored.
+// Compare the field `is` of a reply with LISTSET_TRUE, because LISTSET_FULL and LISTSET_NO_SEAT are not 0 either. A
+// reply itself is a struct, and does not compile as a condition. With -Wextra, gcc and clang warn if a reply or a fault
+// is ignored.
 //
 // A refused call changes nothing and returns LISTSET_NO_SEAT or a fault. A call is refused in these cases:
 // - the seat for the call is empty, or the seat for a result is not empty;
@@ -48,13 +48,15 @@
 // - an allocation fails.
 //
 // The caller has three further duties, which no function checks:
-// - A seat is initialized with LISTSET_NONE, written only by these functions, passed by its address, and never copied.
-// - Only one thread at a time calls from a seat. A seat is passed to another thread by starting or joining that thread,
-//   or under a lock.
-// - Sets that are open at the same time have different numbers, and a new set does not have the number of any remaining
-//   receipt. If a function has two seats, or a seat and a receipt, as arguments, the caller passes two different ones.
+// - A seat is initialized with LISTSET_NONE, written only by the functions of listset.h, passed by its address, and
+//   never copied.
+// - Only one thread at a time calls from a seat. A seat passes from one thread to another when a thread is started or
+//   joined, or under a lock.
+// - Sets that are open at the same time have different numbers, and the number of a new set is not the number of a set
+//   with a remaining receipt. The two seats, or the seat and the receipt, that are passed to one function are different
+//   objects.
 //
-// If a call needs a lock that another thread holds, the call waits: it spins, and then yields the processor.
+// If a call needs a lock that another thread holds, the call spins at first, and then repeatedly yields the processor.
 #ifndef LISTSET_H
 #define LISTSET_H
 
@@ -72,15 +74,14 @@
 extern "C" {
 #endif
 
-/// The exit status of a function of the judge if the function failed. After success, the status is LISTSET_OK, which is
-/// 0.
+/// The status that a function of the judge sets if it fails. If it succeeds, the status is LISTSET_OK, which is 0.
 enum {
   LISTSET_WRONG_TEXT = 1,  ///< An error in the text, an order that is refused, or an event that is not enabled.
   LISTSET_WRONG_VALUE = 2, ///< A value, an option or a name that does not exist.
   LISTSET_NO_MEMORY = 3    ///< An allocation failed.
 };
 
-/// Returns four constant lines about this library: `listset` and the version; the version and the logic of the Rattle
+/// Returns four constant lines about the library: `listset` and the version; the version and the logic of the Rattle
 /// toolchain (the kit); `commit` and the commit of the sources (40 zeros if they were not committed); and `proof
 /// checked` if the library is proved, otherwise `proof missing`.
 const char *listset_version(void);
@@ -96,16 +97,17 @@ size_t listset_replay(const char *schedule, size_t length, char *room, size_t si
 /// order explains its calls. Otherwise returns `not linearizable`, calls that show why, and LISTSET_WRONG_TEXT.
 size_t listset_judge(const char *recording, size_t length, char *room, size_t size, uint8_t *status);
 
-/// Judges the recording that is read from the descriptor `file`. The recording can have any length. Reads to its end or
-/// to the first error, and blocks while reading. If `room` is too short, the answer is lost; 8,192 bytes are enough.
+/// Judges the recording in the file with the descriptor `file`. The recording can have any length. Reads to the
+/// recording's end or to the first error, and blocks while reading. If `room` is too short, the output is lost; 8,192
+/// bytes are enough.
 size_t listset_judge_from(int32_t file, char *room, size_t size, uint8_t *status);
 
-/// Diagnoses a recording that `listset_judge` refuses. Returns LISTSET_WRONG_TEXT and a text that names the calls that
-/// show the error, the operation that is wrong and how often, and a likely cause. Returns an empty text and LISTSET_OK if
+/// Diagnoses a recording that `listset_judge` refuses. Returns LISTSET_WRONG_TEXT and a text that names calls that show
+/// the error, the wrong operation, how often it is wrong, and a likely cause. Returns an empty text and LISTSET_OK if
 /// some order explains the recording, or if the text is not a recording. Tested, not proved.
 size_t listset_why(const char *recording, size_t length, char *room, size_t size, uint8_t *status);
 
-/// Returns `ok` if the order in a report explains its calls, otherwise the first error of the order.
+/// Returns `ok` if the order in a report explains the report's calls, otherwise the first error of the order.
 size_t listset_check(const char *report, size_t length, char *room, size_t size, uint8_t *status);
 
 /// Returns the trace of a schedule: a line for each event (a step, or the start of a call).
@@ -132,35 +134,35 @@ typedef struct {
 } listset_plan;
 
 /// Draws a schedule or a report as text. `options` contains the values of --from, --to and --width, separated by zero
-/// bytes. Each value is empty, or `=` and a number. `listset_draw` has a `listset_window` as its argument instead of
+/// bytes. Each value is empty, or `=` and a number. `listset_draw` has a `listset_window` as argument in place of
 /// `options`.
 size_t listset_show(const char *text, size_t length, const char *options, size_t options_length, char *room, size_t size,
                     uint8_t *status);
 
-/// Draws a schedule or a report as an SVG. `listset_show` documents `options`. `listset_draw_svg` has a `listset_window` as
-/// its argument instead of `options`.
+/// Draws a schedule or a report as an SVG. For `options`, see `listset_show`. `listset_draw_svg` has a `listset_window`
+/// as argument in place of `options`.
 size_t listset_show_svg(const char *text, size_t length, const char *options, size_t options_length, char *room, size_t size,
                         uint8_t *status);
 
-/// Generates a schedule. `values` are KIND THREADS QUOTA CALLS KEYS SEED, separated by zero bytes. `listset_generate` has a
-/// `listset_plan` as its argument instead of `values`.
+/// Generates a schedule. `values` are KIND THREADS QUOTA CALLS KEYS SEED, separated by zero bytes. `listset_generate`
+/// has a `listset_plan` as argument in place of `values`.
 size_t listset_gen(const char *values, size_t length, char *room, size_t size, uint8_t *status);
 
 /// Returns the names of all examples, each with its list and a description.
 size_t listset_examples(char *room, size_t size, uint8_t *status);
 
-/// Returns the schedule of the example with this name.
+/// Returns the schedule of the example called `name`.
 size_t listset_example(const char *name, size_t length, char *room, size_t size, uint8_t *status);
 
-/// Returns the broken report of the example with this name: the report of a run on a list without the check that the example
-/// is about.
+/// Returns the broken report of the example called `name`: the report of a run on a list without the check that the
+/// example is about.
 size_t listset_broken_example(const char *name, size_t length, char *room, size_t size, uint8_t *status);
 
 /// Returns a line about each error message, and a sentence about each cause.
 size_t listset_faults(char *room, size_t size, uint8_t *status);
 
-/// A seat of a set (one thread's access to the set), the keys of a closed set, or nothing. A call writes to its seat,
-/// so calls of two threads are faster if their seats are at least 128 bytes apart.
+/// A seat of a set (one thread's access to the set), the keys of a closed set, or nothing. Each call writes to the seat
+/// that it uses, so calls of two threads are faster if their seats are at least 128 bytes apart.
 typedef struct {
   bool full;
   void *at;
@@ -168,10 +170,10 @@ typedef struct {
 
 #define LISTSET_NONE {false, NULL}
 
-/// A receipt, or nothing. A seat issues a receipt for its calls so far. In the order of all calls, these calls precede
-/// the later calls of each seat that accepts the receipt. The receipt also covers the calls of the seats that had been
-/// merged into the issuing seat, and the calls covered by the receipts that it had accepted. A receipt is initialized
-/// with LISTSET_NONE, and can be passed to any thread.
+/// A receipt (proof of the calls that a seat has made so far), or nothing. In the order of all calls, the calls that a
+/// receipt covers precede the later calls of each seat that accepts the receipt. A receipt also covers the calls of the
+/// seats that had been merged into the issuing seat, and the calls covered by the receipts that the issuing seat had
+/// accepted. A receipt is initialized with LISTSET_NONE, and can be passed to any thread.
 typedef struct {
   bool full;
   void *at;
@@ -191,8 +193,8 @@ typedef enum LISTSET_BYTE listset_answer {
   LISTSET_NO_SEAT = 255    ///< The seat is empty or a closed set; or the call gave up after 2^64 - 1 rounds, and the seat is lost.
 } listset_answer;
 
-/// The reply of a call. Compare it like `reply.is == LISTSET_TRUE`. It is a struct, so code that uses it as a condition
-/// or as a fault does not compile.
+/// The reply of a call. Compare it like `reply.is == LISTSET_TRUE`. A reply is a struct, so code that uses one as a
+/// condition or as a fault does not compile.
 typedef struct listset_reply {
   listset_answer is;
 } listset_reply;
@@ -219,8 +221,8 @@ const char *listset_fault_text(listset_fault fault);
 
 /// Opens a set with `seats` seats (one for each thread) and with the `count` keys in `keys`, which must be in strictly
 /// increasing order. Each seat may add `quota` keys. Stores a seat in `out`, which must be empty. All other seats can
-/// be split off this seat. No other open set may have the same `number`, because `listset_gather` uses it to compare
-/// the sets of two seats.
+/// be split off the seat in `out`. No two open sets may have the same `number`, because `listset_gather` compares the
+/// numbers of the two seats' sets.
 LISTSET_USED listset_fault listset_open(listset_list kind, uint32_t seats, uint32_t quota, uint64_t number, const uint32_t *keys,
                                         size_t count, listset_seat *out);
 
@@ -228,8 +230,8 @@ LISTSET_USED listset_fault listset_open(listset_list kind, uint32_t seats, uint3
 /// LISTSET_NO_MORE if no seat can be split off: all have been split off, or a seat was merged into `seat`.
 LISTSET_USED listset_fault listset_split(listset_seat *seat, listset_seat *out);
 
-/// Adds a key. Replies LISTSET_TRUE if the key was absent, LISTSET_FALSE if it was present, and LISTSET_FULL if it is
-/// absent but the seat (one thread's access to the set) has used up its quota of adds.
+/// Adds a key. Replies LISTSET_TRUE if the key was absent, LISTSET_FALSE if the key was present, and LISTSET_FULL if
+/// the key is absent but the seat (one thread's access to the set) has used up its quota of adds.
 LISTSET_USED listset_reply listset_add(listset_seat *seat, uint32_t key);
 
 /// Removes a key. Replies LISTSET_TRUE if the key was present, otherwise LISTSET_FALSE.
@@ -239,7 +241,7 @@ LISTSET_USED listset_reply listset_remove(listset_seat *seat, uint32_t key);
 LISTSET_USED listset_reply listset_contains(listset_seat *seat, uint32_t key);
 
 /// Finds the smallest key of the set that is at least `key`. Replies LISTSET_AT and writes the key to `*at`, or replies
-/// LISTSET_NOTHING. On a lock-free list, the call can wait until another thread adds or removes a key.
+/// LISTSET_NOTHING if there is none. On a lock-free list, the call can wait until another thread adds or removes a key.
 LISTSET_USED listset_reply listset_ceiling(listset_seat *seat, uint32_t key, uint32_t *at);
 
 /// Replies like `listset_contains`, but waits for no lock and takes at most `listset_most_reads` steps, whatever other
@@ -247,30 +249,30 @@ LISTSET_USED listset_reply listset_ceiling(listset_seat *seat, uint32_t key, uin
 /// the list.
 LISTSET_USED listset_reply listset_contains_now(listset_seat *seat, uint32_t key);
 
-/// Returns the maximum number of steps of `listset_contains_now` on a list that opens for `seats` threads, with this
-/// quota and `opening` keys. Returns 0 if no set can be opened with these numbers.
+/// Returns the maximum number of steps of `listset_contains_now` on a list that is opened for `seats` threads, with the
+/// quota `quota` and with `opening` keys. Returns 0 if no set can be opened with these numbers.
 uint64_t listset_most_reads(uint32_t seats, uint32_t quota, uint32_t opening);
 
 /// Stores a receipt, a record of the calls of `seat` so far, in `out`, which must be empty. The receipt can be sent to
 /// another thread with any message.
 LISTSET_USED listset_fault listset_receipt_of(listset_seat *seat, listset_receipt *out);
 
-/// Passes a receipt of this set to `seat` (one thread's access to the set). In the order of all calls, later calls of
-/// `seat` follow every call that the receipt covers. `given` is empty afterwards.
+/// Passes the receipt `given` to `seat`, a seat (one thread's access) of the same set. In the order of all calls, later
+/// calls of `seat` follow every call that the receipt covers. `given` is empty afterwards.
 LISTSET_USED listset_fault listset_after(listset_seat *seat, listset_receipt *given);
 
-/// Returns how many seats (one for each thread) of its set `seat` contains, including itself. Writes the number of all
-/// seats of the set to `*all`. Both numbers are 0 if `seat` is empty or a closed set.
+/// Returns how many seats (one for each thread) `seat` contains, including itself. Writes the number of all seats of
+/// the set to `*all`. Both numbers are 0 if `seat` is empty or a closed set.
 uint64_t listset_seats_within(listset_seat *seat, uint32_t *all);
 
 /// Merges `from`, including all seats (one for each thread) that it contains, into `into`. `from` is empty afterwards.
 LISTSET_USED listset_fault listset_gather(listset_seat *into, listset_seat *from);
 
 /// Closes the set. All seats of the set (one for each thread) must be in `seat`: never split off, or merged back.
-/// Afterwards, `seat` contains the final keys. If the allocation of these keys fails, the set stays open.
+/// Afterwards, `seat` contains the final keys. If the allocation for the final keys fails, the set stays open.
 LISTSET_USED listset_fault listset_close(listset_seat *seat);
 
-/// Copies the keys of a closed set to `room` in strictly increasing order, if they fit in the `places` elements of
+/// Copies the keys of a closed set to `room` in strictly increasing order, if they fit into the `places` elements of
 /// `room`. Returns the number of keys, or SIZE_MAX if `closed` is not a closed set.
 size_t listset_keys(listset_seat *closed, uint32_t *room, size_t places);
 
@@ -281,22 +283,23 @@ LISTSET_USED listset_fault listset_close_all(listset_seat *seats, size_t places)
 
 /// Closes a set, and opens a set of the list `kind` with the same keys. The array `seats` must contain all seats of the
 /// old set (one for each thread). Afterwards the first `count` elements of the array (`count` is at most `places`)
-/// contain the seats of the new set, each with this quota. During the call, no other thread may use any of the seats.
+/// contain the seats of the new set, each with the quota `quota`. During the call, no other thread may use any of the
+/// seats.
 ///
-/// Returns the errors of `listset_open` and `listset_close_all`. After LISTSET_OUT_OF_MEMORY, and after LISTSET_BAD_KEYS
-/// because there are more than 1,048,576 final keys, nothing is lost: the array still contains the seats, or its first element
-/// is the closed set. The call can be repeated.
+/// Returns the errors of `listset_open` and `listset_close_all`. After LISTSET_OUT_OF_MEMORY, and after
+/// LISTSET_BAD_KEYS for more than 1,048,576 final keys, nothing is lost: the array still contains the seats, or its
+/// first element is the closed set. The call can then be repeated.
 LISTSET_USED listset_fault listset_renew(listset_seat *seats, size_t places, listset_list kind, uint32_t count, uint32_t quota,
                                          uint64_t number);
 
-/// Drops the contents of `seat`, which is empty afterwards. A set cannot be closed once one of its seats (one for each
-/// thread) has been dropped.
+/// Drops the contents of `seat`, which is empty afterwards. If a seat of a set (one for each thread) has been dropped,
+/// the set cannot be closed.
 void listset_drop(listset_seat *seat);
 
 /// Drops a receipt (a record of the calls that a seat has seen). `receipt` is empty afterwards.
 static inline void listset_drop_receipt(listset_receipt *receipt) { listset_drop((listset_seat *)receipt); }
 
-// The type of `listset_show` and `listset_show_svg`, and a function that calls either of them with a `listset_window`.
+// The type of `listset_show` and `listset_show_svg`, and a function that calls one of the two with a `listset_window`.
 typedef size_t listset_drawing(const char *, size_t, const char *, size_t, char *, size_t, uint8_t *);
 
 static inline size_t listset_drawn(listset_drawing *function, const char *text, size_t length, const listset_window *window, char *room,
@@ -332,9 +335,9 @@ static inline size_t listset_generate(const listset_plan *plan, char *room, size
 /// The type of the judge's functions that read one text and have no other input.
 typedef size_t listset_function(const char *text, size_t length, char *room, size_t size, uint8_t *status);
 
-/// Calls `function` with a text. Returns its output in a block with a zero byte at the end, which the caller must free,
-/// and writes the length without that byte to `*said_length`. Returns NULL with the status LISTSET_NO_MEMORY if malloc
-/// fails.
+/// Calls `function` with a text. Returns the output in a block that ends with a zero byte and that the caller must
+/// free. Writes the length without the zero byte to `*said_length`. Returns NULL with the status LISTSET_NO_MEMORY if
+/// malloc fails.
 static inline char *listset_said(listset_function *function, const char *text, size_t length, size_t *said_length,
                                  uint8_t *status) {
   for (size_t size = 4096;;) {

@@ -66,29 +66,29 @@ inline said of_text(listset_function *function, std::string_view given) {
 /// Runs a schedule (calls, and the order of the threads' steps) and returns its report (the calls with their replies,
 /// and an order that explains them).
 inline said replay(std::string_view schedule) { return of_text(listset_replay, schedule); }
-/// Judges a recording (calls of any set, with their replies and times). Returns `ok N calls` if some order explains its
-/// calls, otherwise calls that show that no order does.
+/// Judges a recording (calls of any set, with their replies and times). Returns `ok N calls` if some order explains the
+/// recorded calls, otherwise calls that show that no order does.
 inline said judge_text(std::string_view recording) { return of_text(listset_judge, recording); }
 /// Diagnoses a recording that `judge_text` refuses. The result has the status LISTSET_WRONG_TEXT and a text that names
-/// the calls that show the error, the operation that is wrong and how often, and a likely cause. The text is empty if
-/// some order explains the recording, or if the argument is not a recording.
+/// calls that show the error, the wrong operation, how often it is wrong, and a likely cause. The text is empty if some
+/// order explains the recording, or if the argument is not a recording.
 inline said why(std::string_view recording) { return of_text(listset_why, recording); }
-/// Returns `ok` if the order in a report explains its calls, otherwise the first error of the order.
+/// Returns `ok` if the order in a report explains the report's calls, otherwise the first error of the order.
 inline said check(std::string_view report) { return of_text(listset_check, report); }
 /// Expands a draft (a schedule that states where threads stop instead of numbers of steps) into a schedule.
 inline said draft(std::string_view draft) { return of_text(listset_draft, draft); }
-/// Returns the schedule of the example with this name.
+/// Returns the schedule of the example called `name`.
 inline said example(std::string_view name) { return of_text(listset_example, name); }
-/// Returns the broken report of the example with this name: the report of a run on a list without the check that the example
-/// is about.
+/// Returns the broken report of the example called `name`: the report of a run on a list without the check that the
+/// example is about.
 inline said broken_example(std::string_view name) { return of_text(listset_broken_example, name); }
 /// Returns the names of all examples, each with its list and a description.
 inline said examples() { return said_by(listset_examples); }
 /// Returns a line about each error message, and a sentence about each cause.
 inline said faults() { return said_by(listset_faults); }
 
-/// Returns the trace of a schedule: a line for each event (a step, or the start of a call). If `with_chains`, includes
-/// the chain of nodes after each event that changed it.
+/// Returns the trace of a schedule: a line for each event (a step, or the start of a call). If `with_chains`, the trace
+/// includes the chain of nodes after each event that changed the chain.
 inline said trace(std::string_view schedule, bool with_chains = false) {
   return of_text(with_chains ? listset_trace_with_chains : listset_trace, schedule);
 }
@@ -115,7 +115,7 @@ inline said gen(const std::string &kind, uint32_t threads, uint32_t quota, uint3
 enum class list : uint8_t { coarse, fine, optimistic, lazy, lock_free };
 
 /// The reply of `add`. `is_full` means that the key is absent but the seat (one thread's access to the set) has used up
-/// its quota of adds. A reply cannot be used as a condition; compare it.
+/// its quota of adds. A reply cannot be used as a condition: compare it with a value of `added`.
 enum class [[nodiscard]] added : uint8_t { is_false, is_true, is_full };
 
 /// Thrown if a call is refused; `code` is the reason. LISTSET_NONE_THERE means that the seat was moved from, dropped,
@@ -134,10 +134,10 @@ inline std::vector<uint32_t> keys_of(listset_seat &closed) {
   return keys;
 }
 
-/// A receipt, or nothing. A seat issues a receipt for its calls so far. In the order of all calls, these calls precede
-/// the later calls of each seat that accepts the receipt. The receipt also covers the calls of the seats that had been
-/// merged into the issuing seat, and the calls covered by the receipts that it had accepted. A receipt can be moved but
-/// not copied, and can be passed to any thread.
+/// A receipt (proof of the calls that a seat has made so far), or nothing. In the order of all calls, the calls that a
+/// receipt covers precede the later calls of each seat that accepts the receipt. A receipt also covers the calls of the
+/// seats that had been merged into the issuing seat, and the calls covered by the receipts that the issuing seat had
+/// accepted. A receipt can be moved but not copied, and can be passed to any thread.
 class receipt {
 public:
   receipt() = default;
@@ -153,13 +153,13 @@ private:
   friend class seat;
 };
 
-/// Returns the maximum number of steps of `seat::contains_now` on a list that opens for `seats` threads, with this
-/// quota and `opening` keys. Returns 0 if no set can be opened with these numbers.
+/// Returns the maximum number of steps of `seat::contains_now` on a list that is opened for `seats` threads, with the
+/// quota `quota` and with `opening` keys. Returns 0 if no set can be opened with these numbers.
 inline uint64_t most_reads(uint32_t seats, uint32_t quota, uint32_t opening) { return listset_most_reads(seats, quota, opening); }
 
-/// A thread's seat (its access to a set), or nothing. It can be moved but not copied, and only one thread at a time may
-/// use it. A call throws `fault` if another thread is in a call from the same seat. Seats are aligned to cache lines,
-/// since a call writes to its seat.
+/// A thread's seat (its access to a set), or nothing. A seat can be moved but not copied, and only one thread at a time
+/// may use it. A call throws `fault` if another thread is in a call from the same seat. Seats are aligned to cache
+/// lines, because each call writes to its seat.
 class alignas(128) seat {
 public:
   seat() = default;
@@ -171,7 +171,7 @@ public:
   }
   ~seat() { listset_drop(&raw); }
 
-  /// Splits a seat (one thread's access to the set) off this one for another thread.
+  /// Splits a seat (one thread's access to the set) off this seat, for one more thread.
   seat split() {
     use held(*this);
     seat made;
@@ -179,8 +179,8 @@ public:
     return made;
   }
 
-  /// Adds a key. Returns `is_true` if the key was absent, `is_false` if it was present, and `is_full` if it is absent
-  /// but the seat (one thread's access to the set) has used up its quota of adds.
+  /// Adds a key. Returns `is_true` if the key was absent, `is_false` if the key was present, and `is_full` if the key
+  /// is absent but the seat (one thread's access to the set) has used up its quota of adds.
   added add(uint32_t key) { return static_cast<added>(by(listset_add, key)); }
 
   /// Removes a key. Returns whether the key was present.
@@ -215,22 +215,22 @@ public:
   }
 
   /// Accepts a receipt (a record of another seat's calls). In the order of all calls, later calls of this seat follow
-  /// every call that the receipt covers. If this function throws, the seat and the receipt are unchanged.
+  /// every call that the receipt covers. If `after` throws, the seat and the receipt are unchanged.
   void after(listset::receipt &&given) {
     use held(*this);
     tell(listset_after(&raw, &given.raw));
   }
 
-  /// Merges another seat of the set (another thread's access to it) into this one. If this function throws, both seats
-  /// are unchanged.
+  /// Merges another seat (another thread's access to the set) into this seat. If `gather` throws, both seats are
+  /// unchanged.
   void gather(seat &&from) {
     if (&from == this) throw fault(LISTSET_NO_GATHER);
     use held(*this), other(from);
     tell(listset_gather(&raw, &from.raw));
   }
 
-  /// Closes the set and returns its final keys. All seats (one for each thread) must be in this one: never split off,
-  /// or merged back. If this function throws, nothing is lost, and the call can be repeated.
+  /// Closes the set and returns its final keys. All seats of the set (one for each thread) must be in this seat: never
+  /// split off, or merged back. If `close` throws, nothing is lost, and the call can be repeated.
   std::vector<uint32_t> close() {
     use held(*this);
     const listset_fault code = listset_close(&raw);
@@ -276,14 +276,14 @@ private:
   friend class renewed_set;
 };
 
-/// Returns a number that is unique among the sets of this program.
+/// Returns a number that no earlier set of the program has.
 inline uint64_t next_number() {
   static std::atomic<uint64_t> sets{0};
   return sets++;
 }
 
-/// Opens a set with keys in strictly increasing order. Returns a seat (one thread's access to the set). All other seats
-/// can be split off this seat.
+/// Opens a set with keys in strictly increasing order. Returns a seat (one thread's access to the set), off which all
+/// other seats can be split.
 inline seat open(list kind, uint32_t seats, uint32_t quota, const std::vector<uint32_t> &keys = {}) {
   seat made;
   uint32_t none = 0;
@@ -293,8 +293,8 @@ inline seat open(list kind, uint32_t seats, uint32_t quota, const std::vector<ui
 }
 
 /// Closes a set, and opens a set of the list `kind` with the same keys. `seats` must contain all seats (one for each
-/// thread) of the old set. Afterwards, `seats` contains the `count` seats of the new set, each with this quota. If this
-/// function throws, nothing is lost: `seats` contains all seats or the closed set, and the call can be repeated.
+/// thread) of the old set. Afterwards, `seats` contains the `count` seats of the new set, each with the quota `quota`.
+/// If `renew` throws, nothing is lost: `seats` contains all seats or the closed set, and the call can be repeated.
 inline void renew(std::vector<seat> &seats, list kind, uint32_t count, uint32_t quota) {
   if (count > 64) throw fault(LISTSET_BAD_SEATS);
   seats.resize(std::max<size_t>(seats.size(), count));
@@ -309,10 +309,10 @@ inline void renew(std::vector<seat> &seats, list kind, uint32_t count, uint32_t 
 /// A set that renews itself: when a seat (one thread's access to the set) has used up its quota of adds, the set is
 /// closed, and a new set is opened with the same keys.
 ///
-/// A thread gets its own seat from `split`; the seat's destructor returns it. Calls wait during a renewal. The renewal
-/// waits for pending calls, but not for threads that are between two calls. A call waits for another call for at most
-/// `patience`; after that it throws with LISTSET_TIMED_OUT and has no effect. docs/FOREIGN.md states the promises about the
-/// order of calls.
+/// A thread gets its own seat from `split`; the seat's destructor returns the seat to the set. Calls wait during a
+/// renewal. The renewal waits for pending calls, but not for threads that are between two calls. A call waits for other
+/// calls for at most `patience`. After that, the call throws with LISTSET_TIMED_OUT and has no effect. docs/FOREIGN.md
+/// states the promises about the order of calls.
 class renewed_set {
   // A place in the set: a seat with its lock, and whether a thread has the seat.
   struct alignas(128) place {
@@ -338,13 +338,13 @@ class renewed_set {
   static constexpr size_t MOST_OPENING = 1 << 20;
   static constexpr std::chrono::milliseconds LONG{5};
 
-  // Locks `lock`. On a lock-free list, the holder of `lock` can be in a `ceiling`, which can retry until another call unlinks
-  // a marked node. If the seat in `helper` has used up its quota of adds, the waiting thread therefore calls `add` with this
-  // seat: the `add` unlinks the node, but cannot add a key.
+  // Locks `lock`. On a lock-free list, the holder of `lock` can be in a `ceiling` that retries until another call
+  // unlinks a marked node. Therefore, if the seat in `helper` has used up its quota of adds, the waiting thread calls
+  // `add` with that seat: the `add` unlinks the node, but cannot add a key.
   //
   // `helper` is the caller's own place (its seat with the seat's lock) if the caller is locking all places, otherwise
-  // null. After a caller with a `helper` has waited for 5 ms, new calls of other threads wait too, unless one of these
-  // calls could be needed to unlink the node.
+  // null. After a caller with a `helper` has waited for 5 ms, new calls of other threads wait too, except calls that
+  // could be needed to unlink the node.
   held taken(std::mutex &lock, place *helper = nullptr) {
     held it(lock, std::try_to_lock);
     for (const clock::time_point begun = clock::now(); !it; it.try_lock()) {
@@ -353,7 +353,8 @@ class renewed_set {
       const bool is_full = helper && helper->adds == quota;
       if (kind == list::lock_free && is_full && now == stage::open) static_cast<void>(add_from(*helper, UINT32_MAX));
       if (helper && (kind != list::lock_free || is_full) && waited > LONG) is_wanted = true;
-      // (With a quota of 100, calls were 1.1 to 4 times slower if a thread yielded the processor before it slept.)
+      // The thread sleeps at once: with a quota of 100, calls were 1.1 to 4 times slower if it first yielded the
+      // processor.
       std::this_thread::sleep_for(std::chrono::microseconds(50));
     }
     return it;
@@ -429,8 +430,8 @@ class renewed_set {
   }
 
   // Adds a key with the seat in `mine` (the thread's access to the set), after an `add` returned full. Renews the set
-  // if an earlier renewal failed, or if `add` returns full again. Does not renew the set if that cannot help (the quota
-  // is 0, or the set has too many keys).
+  // if an earlier renewal failed, or if `add` returns full again. Does not renew the set if a renewal cannot help (the
+  // quota is 0, or the set has too many keys).
   added add_renewed(place &mine, uint32_t key) {
     all_taken all(*this, mine);
     if (now == stage::open) {
@@ -442,7 +443,8 @@ class renewed_set {
   }
 
 public:
-  /// A thread's seat in the set. Only one thread at a time may use it. The set must outlive the seat.
+  /// A thread's seat (its access to the set). Only one thread at a time may use the seat. The set must outlive the
+  /// seat.
   class own_seat {
     renewed_set *set;
     place *mine;
@@ -465,7 +467,7 @@ public:
     }
 
     /// Adds a key, and renews the set if the thread's seat has used up its quota of adds. Returns `is_full` only if the
-    /// quota is 0, or if the set has more than 1,048,576 keys: no set can be opened with so many keys.
+    /// quota is 0, or if the set has more than 1,048,576 keys, because no set can be opened with so many keys.
     added add(uint32_t key) {
       const auto call = [&](place &it) { return add_from(it, key); };
       added answer = by(call);
@@ -526,7 +528,8 @@ public:
     throw fault(LISTSET_NO_MORE);
   }
 
-  /// Renews the set and returns its keys at this moment. Throws with LISTSET_BAD_KEYS if there are more than 1,048,576.
+  /// Renews the set and returns the keys that it has during the renewal. Throws with LISTSET_BAD_KEYS if the set has
+  /// more than 1,048,576 keys.
   std::vector<uint32_t> keys() {
     all_taken all(*this, places.front());
     if (keys_now() > MOST_OPENING) throw fault(LISTSET_BAD_KEYS);
@@ -549,8 +552,8 @@ public:
 };
 
 /// A set that any number of threads may call, with a pool of seats (each serves one call at a time). A call uses a seat
-/// that no other call is using, or waits for a seat. Two calls of one thread can use different seats, so not even the
-/// order of a thread's own calls is guaranteed.
+/// that no other call is using, or waits until a seat is free. Two calls of one thread can use different seats, so not
+/// even the order of a thread's own calls is guaranteed.
 class shared {
   struct alignas(128) place {
     std::mutex lock;
@@ -588,7 +591,7 @@ public:
   }
 
   /// Adds a key. Returns `is_full` if the key is absent but every seat (one for each call at a time) has used up its
-  /// quota of adds.
+  /// quota of successful adds.
   added add(uint32_t key) {
     added answer = by([&](seat &it) { return it.add(key); });
     for (auto at = places.begin(); answer == added::is_full && at != places.end(); ++at) {
@@ -607,8 +610,8 @@ public:
   /// Returns the smallest key of the set that is at least `key`. Can block, like `seat::ceiling`.
   std::optional<uint32_t> ceiling(uint32_t key) { return by([&](seat &it) { return it.ceiling(key); }); }
 
-  /// Closes the set and returns its final keys. No later call may use the set. Throws if an allocation fails; `close` can
-  /// then be repeated.
+  /// Closes the set and returns its final keys. No later call may use the set. If an allocation fails, throws, and
+  /// `close` can be repeated.
   std::vector<uint32_t> close() {
     seat &all = first().mine;
     for (; places.size() > 1; places.pop_back()) all.gather(std::move(places.back().mine));

@@ -12,8 +12,7 @@ A text is str or bytes. If the program `listset` would not exit with status 0, a
 and the text that the program would print. Any number of threads may call at the same time, and run in parallel: a call
 releases Python's global interpreter lock.
 
-The sets are for tests and teaching. Each thread calls through its own seat, and
-only one thread at a time uses a seat:
+The sets are for tests and teaching. Each thread calls through its own seat, and only one thread at a time uses a seat:
 
     mine = listset.open("lazy", seats=2, quota=1000)
     other = mine.split()
@@ -25,10 +24,10 @@ Any thread can call a `Shared` set. A seat can add at most `quota` keys, but the
 of quota.
 
 Keys, numbers of seats and quotas are integers from 0 to 4294967295. An integer out of range raises ValueError, and
-anything else raises TypeError; the set is unchanged then.
+anything else raises TypeError. In both cases the set is unchanged.
 
-The library is loaded from the folder LISTSET_LIB if that is set, otherwise from the folder of this file, or from lib of an
-installation by foreign/build.
+The library is loaded from the folder named by LISTSET_LIB if that variable is set. Otherwise it is loaded from the
+folder of this file, or from lib of an installation by foreign/build.
 """
 
 import builtins
@@ -80,7 +79,7 @@ _LIBRARY = _library()
 
 def version():
     """Returns four lines about the library: its version; the version and the logic of the Rattle toolchain (the kit);
-    the commit of its sources; and "proof checked" if it is proved, otherwise "proof missing".
+    the commit of its sources; and "proof checked" if the library is proved, otherwise "proof missing".
     """
     function = _LIBRARY.listset_version
     function.restype = ctypes.c_char_p
@@ -88,7 +87,7 @@ def version():
 
 
 def said(name, *texts):
-    """Calls the function listset_NAME with these bytes. Returns the bytes that it writes, and the exit status."""
+    """Calls the C function listset_NAME with `texts`. Returns the bytes that the function writes, and the status."""
     function, status, size = getattr(_LIBRARY, f"listset_{name}"), ctypes.c_uint8(), FIRST_ROOM
     function.restype = ctypes.c_size_t
     given = [it for text in texts for it in (ctypes.c_char_p(text), ctypes.c_size_t(len(text)))]
@@ -129,7 +128,7 @@ def replay(schedule):
 
 def judge_text(recording):
     """Judges a recording (calls of any set, with their replies and times). Returns `ok N calls` if some order explains
-    its calls. Otherwise raises `Wrong` with calls that show that no order does.
+    the recorded calls. Otherwise raises `Wrong` with calls that show that no order does.
     """
     return _asked("judge", recording)
 
@@ -147,9 +146,9 @@ def judge_file(path):
 
 
 def why(recording):
-    """Returns a diagnosis of a recording that `judge_text` refuses: calls that show the error, which operation is wrong
-    and how often, and a likely cause. Returns an empty text if some order explains the recording or the text is not a
-    recording.
+    """Returns a diagnosis of a recording that `judge_text` refuses: calls that show the error, the wrong operation, how
+    often it is wrong, and a likely cause. Returns an empty text if some order explains the recording or the text is not
+    a recording.
     """
     diagnosis, status = said("why", _bytes(recording))
     if status > 1:
@@ -158,13 +157,14 @@ def why(recording):
 
 
 def check(report):
-    """Checks a report. Raises `Wrong` if its order does not explain its calls, or if the text is not a report."""
+    """Checks a report. Raises `Wrong` if the report's order does not explain the calls, or if the text is not a report.
+    """
     _asked("check", report)
 
 
 def trace(schedule, with_chains=False):
-    """Returns the trace of a schedule: a line for each event. `with_chains` adds the chain of nodes after each event that
-    changed it.
+    """Returns the trace of a schedule: a line for each event. If `with_chains`, the trace includes the chain of nodes
+    after each event that changed the chain.
     """
     return _asked("trace_with_chains" if with_chains else "trace", schedule)
 
@@ -193,8 +193,8 @@ def examples():
 
 
 def example(name, is_broken=False):
-    """Returns the schedule of the example `name`. If `is_broken`, returns instead the report of a run on a list without the
-    check that the example is about.
+    """Returns the schedule of the example called `name`. If `is_broken`, returns the report of a run on a list without
+    the check that the example is about.
     """
     return _asked("broken_example" if is_broken else "example", name)
 
@@ -230,7 +230,8 @@ class Full(Fault):
 
 
 class TimedOut(Fault, TimeoutError):
-    """Raised by a `RenewedSet` if a call had to wait too long for a call of another thread. The call has no effect."""
+    """Raised by a call to a `RenewedSet` that had to wait too long for calls of other threads. The call has no effect.
+    """
 
     def __init__(self):
         super().__init__(TIMED_OUT)
@@ -238,7 +239,7 @@ class TimedOut(Fault, TimeoutError):
 
 class Added(enum.Enum):
     """The reply of `try_add`. FULL means that the key is absent but the seat (one thread's access to the set) has used
-    up its quota of adds. A reply cannot be used as a condition; compare it.
+    up its quota of adds. A reply cannot be used as a condition: compare it with a value of `Added`.
     """
 
     FALSE, TRUE, FULL = 0, 1, 2
@@ -296,7 +297,7 @@ def _keys(keys):
 
 
 def _closed_keys(closed):
-    """Returns the keys of a closed set; None if `closed` is not a closed set."""
+    """Returns the keys of a closed set, or None if `closed` is not a closed set."""
     count = _KEYS(closed, _keys([]), 0)
     if count == _SIZE(-1).value:
         return None
@@ -306,24 +307,25 @@ def _closed_keys(closed):
 
 
 class Receipt:
-    """A receipt, issued by a seat for its calls so far. In the order of all calls, these calls precede the later calls
-    of each seat that accepts the receipt. The receipt also covers the calls of the seats that had been merged into the
-    issuing seat, and the calls covered by the receipts that it had accepted. A receipt can be passed to any thread.
+    """A receipt: proof of the calls that a seat has made so far. In the order of all calls, the calls that a receipt
+    covers precede the later calls of each seat that accepts the receipt. A receipt also covers the calls of the seats
+    that had been merged into the issuing seat, and the calls covered by the receipts that the issuing seat had
+    accepted. A receipt can be passed to any thread.
     """
 
     def __init__(self):
         self.raw = _Raw()
 
     def drop(self):
-        """Drops the receipt (a record of the calls that a seat has seen). It is empty afterwards."""
+        """Drops the receipt (proof of the calls that a seat has made), which is empty afterwards."""
         _DROP(self.raw)
 
     __del__ = drop
 
 
 class Seat:
-    """A thread's seat (its access to a set), or nothing after it was merged into another seat or closed. Only one
-    thread at a time may use it: a call raises `Fault` if another thread is in a call from the same seat.
+    """A thread's seat (its access to a set). After the seat was merged into another seat or closed, it is empty. Only
+    one thread at a time may use a seat: a call raises `Fault` if another thread is in a call from the same seat.
     """
 
     def __init__(self):
@@ -351,8 +353,8 @@ class Seat:
         return reply
 
     def split(self):
-        """Splits a seat (one thread's access to the set) off this one for another thread. No seat can be split off a
-        seat that another seat was merged into.
+        """Splits a seat (one thread's access to the set) off this seat, for one more thread. No seat can be split off a
+        seat into which another seat was merged.
         """
         made = Seat()
         with self._used():
@@ -369,8 +371,8 @@ class Seat:
         return bool(reply)
 
     def try_add(self, key):
-        """Adds a key. Returns `Added.TRUE` if the key was absent, `Added.FALSE` if it was present, and `Added.FULL` if it is
-        absent but the seat has used up its quota of adds.
+        """Adds a key. Returns `Added.TRUE` if the key was absent, `Added.FALSE` if the key was present, and
+        `Added.FULL` if the key is absent but the seat has used up its quota of adds.
         """
         return Added(self._reply(_ADD, key))
 
@@ -421,15 +423,15 @@ class Seat:
             _told(_AFTER(self.raw, receipt.raw))
 
     def gather(self, other):
-        """Merges another seat of the set (another thread's access to it) into this one. `other` is empty afterwards."""
+        """Merges `other`, another thread's seat of the same set, into this seat. `other` is empty afterwards."""
         if other is self:
             raise Fault(NO_GATHER)
         with self._used(), other._used():
             _told(_GATHER(self.raw, other.raw))
 
     def close(self):
-        """Closes the set and returns its final keys. All seats (one for each thread) must be in this one: never split
-        off, or merged back. If `close` raises, nothing is lost, and the call can be repeated.
+        """Closes the set and returns its final keys. All seats of the set (one for each thread) must be in this seat:
+        never split off, or merged back. If `close` raises, nothing is lost, and the call can be repeated.
         """
         with self._used():
             code = _CLOSE(self.raw)
@@ -440,8 +442,8 @@ class Seat:
         return keys
 
     def drop(self):
-        """Drops the contents of the seat. A set cannot be closed once one of its seats (one for each thread) has been
-        dropped.
+        """Drops the contents of the seat. If a seat of a set (one for each thread) has been dropped, the set cannot be
+        closed.
         """
         _DROP(self.raw)
 
@@ -449,15 +451,15 @@ class Seat:
 
 
 def most_reads(seats, quota, keys=0):
-    """Returns the maximum number of steps of `Seat.contains_now` on a list that opens for `seats` threads, with this
-    quota and this number of keys (`keys`). Returns 0 if no set can be opened with these numbers.
+    """Returns the maximum number of steps of `Seat.contains_now` on a list that is opened for `seats` threads, with the
+    quota `quota` and with `keys` keys. Returns 0 if no set can be opened with these numbers.
     """
     return _MOST_READS(_number(seats, "number of seats"), _number(quota, "quota"), _number(keys, "number of keys"))
 
 
 def open_set(kind, seats, quota, keys=()):
-    """Opens a set with keys in strictly increasing order. Returns a seat (one thread's access to the set). All other
-    seats can be split off this seat.
+    """Opens a set with keys in strictly increasing order. Returns a seat (one thread's access to the set), off which
+    all other seats can be split.
     """
     made, keys, index = Seat(), list(keys), LISTS.index(_list(kind))
     sizes = _number(seats, "number of seats"), _number(quota, "quota"), next(_NUMBERS)
@@ -469,7 +471,7 @@ open = open_set  # listset.open. It is not in __all__: `from listset import *` k
 
 
 def _of_all(seats, call):
-    """Calls `call` with an array of these seats (one for each thread)."""
+    """Calls `call` with an array of the seats in `seats` (one for each thread)."""
     raws = (_Raw * max(len(seats), 1))(*(it.raw for it in seats))
     code = call(raws)
     for seat, raw in zip(seats, raws):
@@ -483,10 +485,10 @@ def _renew(seats, kind, quota):
 
 def renew(seats, kind, count, quota):
     """Closes a set, and opens a set of the list `kind` with the same keys. `seats` must contain all seats of the old
-    set (one for each thread). Returns the `count` seats of the new set, each with this quota. During the call, no
-    thread may use a seat in `seats`. If `renew` raises, nothing is lost. Either the set is still open, and the given
-    seats contain all its seats (some can have been merged into others). Or the first seat is a closed set, and its
-    `close` returns the keys.
+    set (one for each thread). Returns the `count` seats of the new set, each with the quota `quota`. During the call,
+    no thread may use a seat in `seats`. If `renew` raises, nothing is lost. Either the set is still open, and `seats`
+    contains all its seats (some seats can have been merged into others), or the first seat in `seats` is a closed set,
+    whose `close` returns the keys.
     """
     given, many, kind = list(seats), _number(count, "number of seats"), _list(kind)
     places = given + [Seat() for _ in range(len(given), min(many, 64))]
@@ -500,8 +502,8 @@ def renew(seats, kind, count, quota):
 
 class Shared:
     """A set that any number of threads may call, with a pool of seats (each serves one call at a time). A call uses a
-    seat that no other call is using, or waits for a seat. Two calls of one thread can use different seats, so not even
-    the order of a thread's own calls is guaranteed.
+    seat that no other call is using, or waits until a seat is free. Two calls of one thread can use different seats, so
+    not even the order of a thread's own calls is guaranteed.
     """
 
     def __init__(self, kind, seats, quota, keys=()):
@@ -524,8 +526,8 @@ class Shared:
             self._locks[place].release()
 
     def try_add(self, key):
-        """Adds a key. Returns `Added.TRUE` if the key was absent, `Added.FALSE` if it was present, and `Added.FULL` if it is
-        absent but every seat has used up its quota of adds.
+        """Adds a key. Returns `Added.TRUE` if the key was absent, `Added.FALSE` if the key was present, and
+        `Added.FULL` if the key is absent but every seat has used up its quota of adds.
         """
         added = self._by(lambda it: it.try_add(key))
         for seat, lock in zip(self._seats, self._locks):
@@ -562,7 +564,9 @@ class Shared:
         return self._by(lambda it: it.ceiling(key))
 
     def close(self):
-        """Closes the set and returns its final keys. No later call may use the set. If `close` raises, it can be repeated."""
+        """Closes the set and returns its final keys. No later call may use the set. If `close` raises an error, it can
+        be repeated.
+        """
         if not self._seats:
             raise Fault(NO_SEAT)
         while len(self._seats) > 1:
@@ -589,10 +593,10 @@ class RenewedSet:
     """A set that renews itself: when a seat (one thread's access to the set) has used up its quota of adds, the set is
     closed, and a new set is opened with the same keys.
 
-    A thread gets its own seat from `split`, and returns it with `drop` or at the end of a `with` block. Calls wait during a
-    renewal. The renewal waits for pending calls, but not for threads that are between two calls. A call waits for another
-    call for at most `patience` seconds (forever if it is None); after that it raises `TimedOut` and has no effect.
-    docs/FOREIGN.md states the promises about the order of calls.
+    A thread gets its own seat from `split`, and returns it with `drop` or at the end of a `with` block. Calls wait
+    during a renewal. The renewal waits for pending calls, but not for threads that are between two calls. A call waits
+    for other calls for at most `patience` seconds (without limit if `patience` is None). After that, the call raises
+    `TimedOut` and has no effect. docs/FOREIGN.md states the promises about the order of calls.
     """
 
     def __init__(self, kind, seats, quota, keys=(), *, patience=None):
@@ -614,7 +618,9 @@ class RenewedSet:
         return OwnSeat(self, place)
 
     def keys(self):
-        """Renews the set and returns its keys at this moment. Raises `Fault` if there are more than 1,048,576."""
+        """Renews the set and returns the keys that it has during the renewal. Raises `Fault` if the set has more than
+        1,048,576 keys.
+        """
         with self._all_taken(self._places[0]):
             if self._keys_now() > MOST_OPENING:
                 raise Fault(BAD_KEYS)
@@ -633,13 +639,13 @@ class RenewedSet:
             return keys
 
     def _lock(self, lock, helper=None):
-        """Locks `lock`. On a lock-free list, the holder of `lock` can be in a `ceiling`, which can retry until another call
-        unlinks a marked node. If the seat in `helper` has used up its quota of adds, the waiting thread therefore calls
-        `add` with this seat: the `add` unlinks the node, but cannot add a key.
+        """Locks `lock`. On a lock-free list, the holder of `lock` can be in a `ceiling` that retries until another call
+        unlinks a marked node. Therefore, if the seat in `helper` has used up its quota of adds, the waiting thread
+        calls `add` with that seat: the `add` unlinks the node, but cannot add a key.
 
-        `helper` is the caller's own place (its seat with the seat's lock) if the caller is locking all places, otherwise
-        None. After a caller with a `helper` has waited for 5 ms, new calls of other threads wait too, unless one of these
-        calls could be needed to unlink the node.
+        `helper` is the caller's own place (its seat with the seat's lock) if the caller is locking all places,
+        otherwise None. After a caller with a `helper` has waited for 5 ms, new calls of other threads wait too, except
+        calls that could be needed to unlink the node.
         """
         if lock.acquire(blocking=False):
             return
@@ -670,7 +676,7 @@ class RenewedSet:
 
     @contextlib.contextmanager
     def _all_taken(self, mine):
-        """Locks all places (the seats of the set), the caller's place `mine` first."""
+        """Locks all places (the seats with their locks), starting with `mine`, the caller's own."""
         with contextlib.ExitStack() as all_taken:
 
             def take(lock, helper=None):
@@ -722,8 +728,8 @@ class RenewedSet:
 
     def _add_renewed(self, place, key):
         """Adds a key with the seat in `place` (the thread's access to the set), after an add returned FULL. Renews the
-        set if an earlier renewal failed, or if the add returns FULL again. Does not renew the set if that cannot help
-        (the quota is 0, or the set has too many keys).
+        set if an earlier renewal failed, or if the add returns FULL again. Does not renew the set if a renewal cannot
+        help (the quota is 0, or the set has too many keys).
         """
         with self._all_taken(place):
             if self._stage == "open":
@@ -735,8 +741,8 @@ class RenewedSet:
 
 
 class OwnSeat:
-    """A thread's seat in a `RenewedSet`, as returned by `RenewedSet.split`. An `add` renews the set if the seat has used up
-    its quota of adds. A call can raise `TimedOut` if the set has a `patience`.
+    """A thread's seat (its access to a `RenewedSet`), as returned by `RenewedSet.split`. An `add` renews the set if the
+    seat has used up its quota of adds. A call can raise `TimedOut` if the set has a `patience`.
     """
 
     def __init__(self, of, place):
@@ -749,7 +755,7 @@ class OwnSeat:
 
     def try_add(self, key):
         """Adds a key, and renews the set if the thread's seat has used up its quota of adds. Returns `Added.FULL` only
-        if the quota is 0, or if the set has more than 1,048,576 keys: no set can be opened with so many keys.
+        if the quota is 0, or if the set has more than 1,048,576 keys, because no set can be opened with so many keys.
         """
         added = self._by(lambda it: it.try_add(key))
         if added is Added.FULL:
@@ -760,7 +766,7 @@ class OwnSeat:
     def add(self, key):
         """Adds a key, and renews the set if the thread's seat has used up its quota of adds. Returns True if the key
         was absent, False if it was present. Raises `Full` only if the quota is 0, or if the set has more than 1,048,576
-        keys: no set can be opened with so many keys.
+        keys, because no set can be opened with so many keys.
         """
         added = self.try_add(key)
         if added is Added.FULL:

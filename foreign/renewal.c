@@ -1,5 +1,5 @@
-// Implements `listset_close_all` and `listset_renew` of listset.h with the proved functions. (No header is included,
-// because the toolchain's compiler has none. The types and numbers are copied from listset.h.)
+// Implements `listset_close_all` and `listset_renew` of listset.h with the proved functions. The toolchain's compiler
+// has no headers, so no header is included. The types and numbers are copied from listset.h.
 typedef __SIZE_TYPE__ size_t;
 typedef __UINT64_TYPE__ uint64_t;
 typedef __UINT32_TYPE__ uint32_t;
@@ -36,8 +36,8 @@ static size_t empty_places(const seat *seats, size_t places) {
   return first;
 }
 
-// Returns whether the array contains all seats (one for each thread) of a set. `first` is the index of its first
-// element that contains a seat.
+// Returns whether the array contains all seats (one for each thread) of a set. `first` is the index of the array's
+// first element that contains a seat.
 static int are_all(seat *seats, size_t first, size_t places) {
   uint32_t all, of_other;
   uint64_t within = listset_seats_within(&seats[first], &all);

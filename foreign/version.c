@@ -1,4 +1,5 @@
-// The library's version, and a sentence for each fault. foreign/build defines the macros TOLD (a text) and NUMBER.
+// The library's version, and a sentence for each fault. foreign/build defines the macros TOLD (the version text) and
+// NUMBER.
 const char *listset_version(void) { return TOLD; }
 
 unsigned listset_version_number(void) { return NUMBER; }

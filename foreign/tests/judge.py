@@ -1,5 +1,5 @@
-"""Tests the judge from Python: each example in four threads at the same time, as str and as bytes, and the errors of wrong
-texts.
+"""Tests the judge from Python: judges each example in four threads at the same time, as str and as bytes, and checks
+the errors of wrong texts.
 
     judge.py EXAMPLES     the folder of the examples; PYTHONPATH must contain the folder of listset.py
 """
@@ -15,7 +15,7 @@ THREADS = 4
 
 
 def pairs(folder):
-    """Yields the texts of each schedule and its report, except for schedules that must be refused."""
+    """Yields each schedule with its report, as texts, except the schedules that must be refused."""
     refused = {line.split(":")[0] for line in (folder / "refused-files.txt").read_text().splitlines()}
     for it in sorted(folder.glob("*.schedule")):
         if (report := it.with_suffix(".report")).exists() and it.name not in refused:

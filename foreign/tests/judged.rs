@@ -1,5 +1,5 @@
-//! Judges `Shared` sets of the five lists, with eight seats (one for each thread) each, in the way described in
-//! docs/YOUR-SET.md.
+//! Judges `Shared` sets of the five lists, as docs/YOUR-SET.md describes. Each set has eight seats (each serves one
+//! call at a time).
 use listset::{Added, List, Shared};
 use listset_judge::Options;
 

@@ -1,5 +1,5 @@
-// Makes each allocation of a call fail in turn. The call must report the failed allocation or work with less memory, and must
-// free every block. Link with --wrap for malloc, realloc and free.
+// Makes each allocation of a call fail in turn. The call must report the failed allocation or succeed with less memory,
+// and must free every block. Link with --wrap for malloc, realloc and free.
 //
 //     memory SCHEDULE REPORT DRAFT RECORDING
 #include "listset.h"
@@ -58,8 +58,8 @@ static size_t faults(const char *given, size_t count, char *to, size_t size, uin
 
 static int is_said(const char *want, size_t count, size_t found) { return found == count && memcmp(room, want, count) == 0; }
 
-// Executes the call once without a failed allocation, then repeatedly, with a different allocation failing each time. Returns
-// the number of failures that the call reported; 0 on an error.
+// Makes the call once without a failed allocation, then repeatedly, with a different allocation failing each time.
+// Returns the number of failures that the call reported, or 0 after an error.
 static size_t tried(const char *name, listset_function *function) {
   uint8_t due, status;
   size_t told = 0;
@@ -78,7 +78,7 @@ static size_t tried(const char *name, listset_function *function) {
   }
 }
 
-// Executes the call through `listset_said` repeatedly, with a different allocation failing each time. Returns how often
+// Makes the call through `listset_said` repeatedly, with a different allocation failing each time. Returns how often
 // `listset_said` returned NULL.
 static size_t tried_said(listset_function *function) {
   uint8_t due, status;
@@ -120,7 +120,7 @@ int main(int count, char **names) {
   size_t failed = count != 5;
   for (size_t at = 0; !failed && at < sizeof CALLS / sizeof *CALLS; at++) {
     read_text(names[CALLS[at].file]);
-    // Reading the file has allocated memory too, so the counts are reset here.
+    // Resets the counts, because reading the file has allocated memory too.
     asked = blocks = 0;
     size_t told = tried(CALLS[at].name, CALLS[at].function);
     failed += told == 0;

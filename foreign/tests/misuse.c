@@ -1,5 +1,5 @@
-// Calls each function of the sets with arguments that it must refuse, and with each allocation failing in turn. Link
-// with --wrap for malloc, realloc and free.
+// Calls each function of the sets with arguments that the function must refuse, and with each allocation failing in
+// turn. Link with --wrap for malloc, realloc and free.
 #include "listset.h"
 
 #include <stdio.h>
@@ -111,7 +111,7 @@ static void refused_calls(uint8_t kind) {
   calls_without_a_seat("a dropped seat", &a);
 }
 
-// Tests receipts (records of the calls that a seat has seen), and `contains_now`, on a list.
+// Tests receipts (proofs of the calls that a seat has made) and `contains_now` on a list.
 static void reads_and_receipts(uint8_t kind) {
   const bool blocks = kind < LISTSET_LAZY;
   listset_seat a = LISTSET_NONE, b = LISTSET_NONE, other = LISTSET_NONE;
@@ -202,8 +202,8 @@ static void one_renewal(uint8_t kind, size_t refused) {
   asked = asked_by_renew;
 }
 
-// Requests a receipt (a record of the calls that a seat has seen) while its allocation fails. A second call must return
-// the receipt.
+// Requests a receipt (proof of the calls that a seat has made) while the receipt's allocation fails. A second request
+// must return the receipt.
 static void one_receipt(uint8_t kind) {
   listset_seat seat = LISTSET_NONE;
   listset_receipt receipt = LISTSET_NONE;
@@ -292,8 +292,8 @@ static void most_keys(uint8_t kind) {
   listset_drop(&seat);
 }
 
-// Opens, splits, uses, gathers and closes a set, with each allocation failing in turn. A failure must be reported and
-// change nothing.
+// Opens, splits, uses, gathers and closes a set while allocation number `refused` fails. The failure must be reported
+// and must change nothing.
 static void one_life(uint8_t kind, size_t refused) {
   listset_seat a = LISTSET_NONE, b = LISTSET_NONE;
   uint32_t room[8];

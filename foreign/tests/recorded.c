@@ -1,4 +1,5 @@
-// Records the calls of four threads on each list, in the format of docs/YOUR-SET.md, and judges them in this process.
+// Records the calls of four threads to each list, in the format of docs/YOUR-SET.md, and judges the recordings in the
+// same process.
 #define _POSIX_C_SOURCE 200809L
 #include "listset.h"
 #include <pthread.h>
@@ -52,7 +53,7 @@ static size_t written(const uint32_t *keys, size_t count) {
   return at + sprintf(at, "end\n") - text;
 }
 
-// Returns whether the judge's answer for the text in a file is the same as for the text in memory.
+// Returns whether the judge gives the recording in a file the same output and status as the recording in memory.
 static int is_judged_from_file(size_t length, uint8_t due, const char *said) {
   char room[8192];
   uint8_t status;
@@ -64,7 +65,7 @@ static int is_judged_from_file(size_t length, uint8_t due, const char *said) {
   return status == due && count == strlen(said) && memcmp(room, said, count) == 0;
 }
 
-// Returns whether the judge's answer for a text begins with `begins` and has the status `due`.
+// Returns whether the judge's output for the recorded text begins with `begins` and has the status `due`.
 static int is_judged(size_t length, uint8_t due, const char *begins) {
   size_t said_length;
   uint8_t status;
@@ -88,7 +89,7 @@ static int is_right(uint8_t list) {
   if (listset_close(&tasks[0].seat) != LISTSET_OK) return 0;
   size_t count = listset_keys(&tasks[0].seat, keys, KEYS);
   listset_drop(&tasks[0].seat);
-  // In the second text, a final key is missing.
+  // In the second recording, a final key is missing.
   return is_judged(written(keys, count), LISTSET_OK, "ok 40000 calls\n") &&
          is_judged(written(keys, count - 1), LISTSET_WRONG_TEXT, "not linearizable\n");
 }

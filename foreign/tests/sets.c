@@ -1,6 +1,6 @@
-// Tests threads that call one set, for each list. For its own keys, a thread compares the replies with a model. For shared
-// keys, it counts the changes: for each key, the number of true adds minus true removes must be 1 if the set has the key at
-// the end, and otherwise 0.
+// Tests, for each list, threads that call one set. For its own keys, a thread compares the replies with a model. For
+// shared keys, it counts the changes: the number of adds minus the number of removes that returned true must be 1 if
+// the set has the key at the end, otherwise 0.
 //
 //     sets CALLS THREADS     at most 64 threads
 #include "listset.h"
@@ -47,8 +47,8 @@ static void call_shared(task *it, uint32_t kind, uint32_t key) {
   wrong += !may || (reply == LISTSET_FULL && it->adds < QUOTA);
 }
 
-// Calls an operation with a key that only this thread uses. Thread t uses the OWN keys from SHARED + t * OWN on; `k` is
-// the key's index among these.
+// Calls an operation with a key that only the thread `it` uses. The own keys of thread t are the OWN keys from SHARED +
+// t * OWN on; `k` is the key's index among the own keys.
 static void call_own(task *it, uint32_t kind, uint32_t k) {
   uint32_t base = SHARED + it->number * OWN, at = 0, next = k;
   uint8_t want;
@@ -83,7 +83,7 @@ static void *run(void *given) {
   return NULL;
 }
 
-// Returns whether the final keys are increasing and agree with the models and the counts.
+// Returns whether the final keys are increasing, and agree with the threads' models and counts.
 static bool are_left(listset_seat *closed, const task *tasks) {
   static uint32_t keys[KEYS];
   static bool left[KEYS];

@@ -1,5 +1,5 @@
-"""Tests the lists from Python. Four threads call a set and count their changes. Other tests expect errors from refused
-calls. PYTHONPATH must contain the folder of listset.py.
+"""Tests the lists from Python. In some tests, four threads call a set and count their changes. Other tests expect
+errors from refused calls. PYTHONPATH must contain the folder of listset.py.
 """
 
 import concurrent.futures
@@ -15,9 +15,9 @@ ENDS = [0, 2**32 - 1]  # the smallest and the largest key
 
 
 def calls_of(seat, number, kinds):
-    """Calls operations with keys that all threads use, and with keys that only this thread uses. Returns a list with
-    the number of true adds minus true removes for each shared key, and the thread's own keys that remain. `kinds` is
-    the number of operations: 4, or 3 without `ceiling`.
+    """Calls operations with keys that all threads use, and with keys that only thread `number` uses. Returns the
+    thread's adds minus removes that returned true for each shared key, and those of its own keys that the set still
+    contains. `kinds` is the number of operations: 4, or 3 without `ceiling`.
     """
     draws, net, own = random.Random(number), [0] * KEYS, set()
     for _ in range(CALLS):
@@ -90,7 +90,7 @@ def refusals():
 
 
 def ends(kind):
-    """Tests each operation with the smallest and the largest key."""
+    """Tests each operation with the smallest and with the largest possible key."""
     mine = listset.open_set(kind, 1, 2, ENDS)
     assert [mine.ceiling(key) for key in (0, 1, ENDS[1])] == [0, ENDS[1], ENDS[1]], kind
     assert all(mine.contains(key) and mine.remove(key) and not mine.contains(key) for key in ENDS), kind
@@ -108,8 +108,8 @@ def raised(call, *values):
 
 
 def numbers():
-    """Checks that integers that do not fit in 32 bits, and values that are not integers, raise an error and leave the set
-    unchanged.
+    """Checks that integers that do not fit into 32 bits, and values that are not integers, raise an error and do not
+    change the set.
     """
     mine = listset.open_set("lazy", 1, 4, [1, 5])
     calls = [mine.add, mine.remove, mine.contains, mine.ceiling, *(lambda it, at=at: opened(at, it) for at in range(4))]
@@ -235,8 +235,8 @@ def seats_of_a_renewed_set():
 
 
 def waits_without_patience(kind):
-    """Expects that a call without a time limit waits while another thread stays in a call, and succeeds after the other
-    thread's call.
+    """Checks that a call without a time limit waits while another thread stays in a call, and succeeds after the other
+    thread's call has ended.
     """
     of = listset.RenewedSet(kind, 2, 1)
     mine, rests = of.split(), of.split()
@@ -266,13 +266,13 @@ def two_users():
 
 
 def pages():
-    """Returns the number of memory pages of this process."""
+    """Returns the number of memory pages of the current process."""
     with open("/proc/self/statm") as file:
         return int(file.read().split()[1])
 
 
 def memory():
-    """Checks that sets without references are freed. Each of these sets needs about 3 MB."""
+    """Checks that sets without references are freed. Each set in the test needs about 3 MB."""
     before = pages()
     for _ in range(60):
         listset.open_set("lazy", 8, 16384).split()
@@ -301,7 +301,7 @@ def side_by_side():
 
 
 def opened(at, number):
-    """Opens a set with `number` as one of its arguments. `at` selects the argument: 0 is the number of seats, 1 the quota, 2
+    """Opens a set with `number` as one of the arguments. `at` selects which: 0 is the number of seats, 1 the quota, 2
     the first key, 3 the last key.
     """
     seats, quota, first, last = [number if at == it else it + 1 for it in range(4)]

@@ -1,4 +1,5 @@
-// Judges the texts in these files in several threads at the same time. Each thread must get the same answers as a single thread.
+// Judges the texts in the files in several threads at the same time. Each thread must get the same verdicts as a single
+// thread.
 //
 //     threads FILE ..
 #include "listset.h"

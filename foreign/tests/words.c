@@ -1,4 +1,4 @@
-// The commands of the program that need no threads, implemented with liblistset, for tests/foreign.py.
+// Those commands of the program that need no threads, implemented with liblistset, for tests/foreign.py.
 #include "listset.h"
 
 #include <stdbool.h>
@@ -14,7 +14,7 @@ static int value_count;
 static bool is_on;
 static const char *options[3];
 
-// Returns the program's output for a recording: the verdict and, if it is a refusal, the diagnosis below the verdict.
+// Returns the program's output for a recording: the verdict and, below a refusal, the diagnosis.
 static size_t judge_and_why(const char *text, size_t length, char *to, size_t size, uint8_t *status) {
   uint8_t of_why;
   size_t said = listset_judge(text, length, to, size, status);
@@ -33,7 +33,7 @@ static const struct {
     {"trace", listset_trace, listset_trace_with_chains},
 };
 
-// Joins the words, with `before` in front of each word and a zero byte between two words. Returns the length.
+// Joins the words, with `before` before each word and a zero byte between two words. Returns the total length.
 static size_t join(const char **words, int count, const char *before) {
   size_t length = 0;
   for (int at = 0; at < count; at++) {
@@ -86,7 +86,7 @@ int main(int count, char **words) {
   uint8_t status = 255;
   read_words(count - 2, words + 2);
   size_t length = asked(words[1], &status);
-  // Only an error line begins with these bytes.
+  // Only an error line begins with `listset: `, and goes to standard error.
   fwrite(room, 1, length, length >= 9 && memcmp(room, "listset: ", 9) == 0 ? stderr : stdout);
   return status;
 }

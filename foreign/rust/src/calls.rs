@@ -1,4 +1,4 @@
-//! Declares the judge's C functions as in `listset.h`, and calls them again with a larger buffer if the text does not
+//! Declares the judge's C functions as in `listset.h`. A call is repeated with a larger buffer if the output does not
 //! fit.
 
 use crate::Wrong;

@@ -10,7 +10,7 @@
 //! # Ok::<(), listset::Wrong>(())
 //! ```
 //!
-//! Any number of threads may call the judge at the same time. The page FOREIGN.md states the proved properties of these
+//! Any number of threads may call the judge at the same time. The page FOREIGN.md states the proved properties of the
 //! functions.
 
 use std::error::Error;
@@ -73,15 +73,15 @@ pub fn replay(schedule: impl AsRef<[u8]>) -> Result<String, Wrong> {
     of_text(calls::listset_replay, schedule.as_ref())
 }
 
-/// Judges a recording (calls of any set, with their replies and times). Returns `ok N calls` if some order explains its
-/// calls, otherwise an error with calls that show that no order does.
+/// Judges a recording (calls of any set, with their replies and times). Returns `ok N calls` if some order explains the
+/// recorded calls, otherwise an error with calls that show that no order does.
 pub fn judge_text(recording: impl AsRef<[u8]>) -> Result<String, Wrong> {
     of_text(calls::listset_judge, recording.as_ref())
 }
 
-/// Returns a diagnosis of a recording that [`judge_text`] refuses: calls that show the error, which operation is wrong
-/// and how often, and a likely cause. Returns an empty string if some order explains the recording or the text is not a
-/// recording.
+/// Returns a diagnosis of a recording that [`judge_text`] refuses: calls that show the error, the wrong operation, how
+/// often it is wrong, and a likely cause. Returns an empty string if some order explains the recording or the text is
+/// not a recording.
 pub fn why(recording: impl AsRef<[u8]>) -> Result<String, Wrong> {
     match of_text(calls::listset_why, recording.as_ref()) {
         Err(wrong) if wrong.status == 1 => Ok(wrong.text),
@@ -89,7 +89,7 @@ pub fn why(recording: impl AsRef<[u8]>) -> Result<String, Wrong> {
     }
 }
 
-/// Checks a report. If its order does not explain its calls, returns the order's first error.
+/// Checks a report. If the report's order does not explain the calls, returns the first error of the order.
 pub fn check(report: impl AsRef<[u8]>) -> Result<(), Wrong> {
     of_text(calls::listset_check, report.as_ref()).map(|_| ())
 }
@@ -135,13 +135,13 @@ pub fn examples() -> Result<String, Wrong> {
     of_room(calls::listset_examples)
 }
 
-/// Returns the schedule of the example with this name.
+/// Returns the schedule of the example called `name`.
 pub fn example(name: &str) -> Result<String, Wrong> {
     of_text(calls::listset_example, name.as_bytes())
 }
 
-/// Returns the broken report of the example with this name: the report of a run on a list without the check that the example
-/// is about.
+/// Returns the broken report of the example called `name`: the report of a run on a list without the check that the
+/// example is about.
 pub fn broken_example(name: &str) -> Result<String, Wrong> {
     of_text(calls::listset_broken_example, name.as_bytes())
 }

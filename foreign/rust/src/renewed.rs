@@ -16,10 +16,10 @@ const MOST_OPENING: u64 = 1 << 20;
 /// A set that renews itself: when a seat (one thread's access to the set) has used up its quota of adds, the set is
 /// closed, and a new set is opened with the same keys.
 ///
-/// A thread gets its own seat from [`RenewedSet::split`], and returns it by dropping it. Calls wait during a renewal.
-/// The renewal waits for pending calls, but not for threads that are between two calls. A call waits for another call
-/// for at most [`patience`](RenewedSet::with_patience); after that it returns [`Fault::TimedOut`] and has no effect.
-/// The page FOREIGN.md states the promises about the order of calls.
+/// A thread gets its own seat from [`RenewedSet::split`], and returns the seat by dropping it. Calls wait during a
+/// renewal. The renewal waits for pending calls, but not for threads that are between two calls. A call waits for other
+/// calls for at most [`patience`](RenewedSet::with_patience). After that, the call returns [`Fault::TimedOut`] and has
+/// no effect. The page FOREIGN.md states the promises about the order of calls.
 ///
 /// ```
 /// use listset::{List, RenewedSet};
@@ -58,16 +58,16 @@ struct Place {
 struct Part {
     seat: Seat,
     stage: Stage,
-    /// The number of keys that the set had when it was last opened. Only the number in the first place is used.
+    /// The number of keys that the set had when it was last opened. Only the first place's number is used.
     opened_with: u64,
-    /// The number of keys that this seat (one thread's access to the set) has added since the set was last opened.
+    /// The number of keys that `seat` (one thread's access to the set) has added since the set was last opened.
     adds: u64,
-    /// The number of keys that this seat (one thread's access to the set) has removed since the set was last opened.
+    /// The number of keys that `seat` (one thread's access to the set) has removed since the set was last opened.
     removes: u64,
 }
 
-/// The stage of the set. Each place (a seat with its lock) stores the same stage, which changes only while all places are
-/// locked.
+/// The stage of the set. All places (seats with their locks) store the same stage, which changes only while all places
+/// are locked.
 #[derive(Clone, Copy, Debug, PartialEq)]
 enum Stage {
     Open,
@@ -75,15 +75,15 @@ enum Stage {
     Closed,
 }
 
-/// The locks of all places (the seats of the set), and the index (from 0) of the caller's place. The fields are dropped
-/// in this order.
+/// The held locks of all places (seats with their locks), and the index (from 0) of the caller's place. `parts` is
+/// dropped before `_wanted`.
 struct All<'a> {
     parts: Vec<MutexGuard<'a, Part>>,
     mine: usize,
     _wanted: Wanted<'a>,
 }
 
-/// The right to lock all places (the seats of the set), which only one thread has at a time.
+/// The right to lock all places (seats with their locks), which only one thread has at a time.
 struct Wanted<'a> {
     set: &'a RenewedSet,
     _one: MutexGuard<'a, ()>,
@@ -148,8 +148,8 @@ impl All<'_> {
 }
 
 impl RenewedSet {
-    /// Opens a set that contains `keys`, which must be in strictly increasing order. The set has `seats` seats, 1 to
-    /// 64. A seat is one thread's access to the set. Each seat can add `quota` keys before the set has to be renewed.
+    /// Opens a set that contains `keys`, which must be in strictly increasing order. The set has `seats` seats (one for
+    /// each thread), 1 to 64. Each seat can add `quota` keys before the set has to be renewed.
     pub fn open(list: List, seats: u32, quota: u32, keys: &[u32]) -> Result<RenewedSet, Fault> {
         let mut all = vec![open(list, seats, quota, keys)?];
         while all.len() < seats as usize {
@@ -163,7 +163,7 @@ impl RenewedSet {
         Ok(RenewedSet { list, quota, patience: Duration::MAX, renewing, is_wanted, places })
     }
 
-    /// Sets how long a call waits for another call. By default, a call waits forever.
+    /// Sets how long a call waits for other calls. By default, the time is not limited.
     pub fn with_patience(self, patience: Duration) -> RenewedSet {
         RenewedSet { patience, ..self }
     }
@@ -175,7 +175,8 @@ impl RenewedSet {
         found.map(|place| OwnSeat { set: self, place }).ok_or(Fault::NoMore)
     }
 
-    /// Renews the set and returns its keys at this moment. Returns [`Fault::Keys`] if there are more than 1,048,576.
+    /// Renews the set and returns the keys that it has during the renewal. Returns [`Fault::Keys`] if the set has more
+    /// than 1,048,576 keys.
     pub fn keys(&self) -> Result<Vec<u32>, Fault> {
         let mut all = self.all(0)?;
         if all.keys_now() > MOST_OPENING {
@@ -199,13 +200,13 @@ impl RenewedSet {
         Ok(keys)
     }
 
-    /// Locks `lock`. On a lock-free list, the holder of `lock` can be in a `ceiling`, which can retry until another call
-    /// unlinks a marked node. If the seat in `helper` has used up its quota of adds, the waiting thread therefore calls `add`
-    /// with this seat: the `add` unlinks the node, but cannot add a key.
+    /// Locks `lock`. On a lock-free list, the holder of `lock` can be in a `ceiling` that retries until another call
+    /// unlinks a marked node. Therefore, if the seat in `helper` has used up its quota of adds, the waiting thread
+    /// calls `add` with that seat: the `add` unlinks the node, but cannot add a key.
     ///
     /// `helper` is the caller's own place (its seat with the seat's lock) if the caller is locking all places,
     /// otherwise `None`. After a caller with a `helper` has waited for 5 ms, new calls of other threads wait too,
-    /// unless one of these calls could be needed to unlink the node.
+    /// except calls that could be needed to unlink the node.
     fn taken<'a, T>(&self, lock: &'a Mutex<T>, mut helper: Option<&mut Part>) -> Result<MutexGuard<'a, T>, Fault> {
         let begun = Instant::now();
         loop {
@@ -228,8 +229,7 @@ impl RenewedSet {
         }
     }
 
-    /// Locks all places (the seats of the set). The caller's place, which has the index `mine` (from 0), is locked
-    /// first.
+    /// Locks all places (seats with their locks), starting with the caller's own, whose index (from 0) is `mine`.
     fn all(&self, mine: usize) -> Result<All<'_>, Fault> {
         let wanted = Wanted { set: self, _one: self.taken(&self.renewing, None)? };
         let mut own = self.taken(&self.places[mine].part, None)?;
@@ -265,8 +265,8 @@ impl RenewedSet {
     }
 
     /// Adds a key with the seat (one thread's access to the set) at index `place`, after an `add` returned `Full`.
-    /// Renews the set if an earlier renewal failed, or if `add` returns `Full` again. Does not renew the set if that
-    /// cannot help (the quota is 0, or the set has too many keys).
+    /// Renews the set if an earlier renewal failed, or if `add` returns `Full` again. Does not renew the set if a
+    /// renewal cannot help (the quota is 0, or the set has too many keys).
     fn add_renewed(&self, place: usize, key: u32) -> Result<Added, Fault> {
         let mut all = self.all(place)?;
         if all.stage() == Stage::Open {
@@ -289,7 +289,7 @@ pub struct OwnSeat<'a> {
 
 impl OwnSeat<'_> {
     /// Adds a key, and renews the set if the thread's seat has used up its quota of adds. Returns [`Added::Full`] only
-    /// if the quota is 0, or if the set has more than 1,048,576 keys, because no set can be opened with so many.
+    /// if the quota is 0, or if the set has more than 1,048,576 keys, because no set can be opened with so many keys.
     pub fn add(&mut self, key: u32) -> Result<Added, Fault> {
         let mut added = self.set.by(self.place, |it| it.add(key))?;
         if added == Added::Full {
@@ -334,8 +334,8 @@ mod tests {
 
     use super::*;
 
-    /// Tests calls of other threads while one thread stays in a call: the calls time out and have no effect. Once the
-    /// thread's call has ended, calls succeed again.
+    /// Tests calls of other threads while one thread stays in a call: the calls time out and have no effect. After the
+    /// long call has ended, calls succeed again.
     #[test]
     fn a_call_that_does_not_return_makes_others_time_out() {
         let set = RenewedSet::open(List::Lazy, 2, 1, &[]).unwrap().with_patience(Duration::from_millis(20));
@@ -351,8 +351,8 @@ mod tests {
         assert_eq!((set.close(), set.keys()), (Err(Fault::Closed), Err(Fault::Closed)));
     }
 
-    /// Tests a call without a time limit while another thread stays in a call: the call waits, and succeeds when the other
-    /// thread's call has ended.
+    /// Tests a call without a time limit while another thread stays in a call: the call waits, and succeeds after the
+    /// other thread's call has ended.
     #[test]
     fn a_call_without_patience_waits() {
         for list in [List::Lazy, List::LockFree] {

@@ -68,15 +68,15 @@ pub enum Added {
     Full,
 }
 
-/// Why a call was refused.
+/// The reason why a call was refused.
 #[derive(Clone, Copy, Debug, PartialEq, Eq)]
 #[repr(u8)]
 pub enum Fault {
-    /// The number of seats (of threads that can call) is not between 1 and 64.
+    /// The number of seats (one for each thread) is not between 1 and 64.
     Seats = 10,
     /// The quota is greater than 16,384.
     Quota,
-    /// The keys are not in strictly increasing order, or there are more than 1,048,576.
+    /// The keys are not in strictly increasing order, or there are more than 1,048,576 keys.
     Keys,
     /// An allocation failed.
     Memory,
@@ -89,7 +89,7 @@ pub enum Fault {
     OtherSet,
     /// `contains_now` requires a lazy or lock-free list.
     ReadsBlock,
-    /// Another thread was in a call for too long.
+    /// A call of another thread lasted too long.
     TimedOut,
     /// The set is closed.
     Closed = 255,
@@ -110,7 +110,7 @@ impl Error for Fault {}
 pub struct Refused<B> {
     /// The refused argument.
     pub back: B,
-    /// Why the argument was refused.
+    /// The reason why the argument was refused.
     pub fault: Fault,
 }
 
@@ -139,8 +139,8 @@ pub(crate) fn told(code: u8) -> Result<(), Fault> {
     }
 }
 
-/// A thread's seat: its access to a set. It cannot be copied. Only one thread at a time uses it, but it can be passed
-/// to another thread.
+/// A thread's seat: its access to a set. A seat cannot be copied. Only one thread at a time uses a seat, but a seat can
+/// be passed from thread to thread.
 ///
 /// ```
 /// use listset::{open, Added, List};
@@ -168,9 +168,10 @@ unsafe impl Send for Seat {}
 // requires `Sync`.)
 unsafe impl Sync for Seat {}
 
-/// A receipt, issued by a seat for its calls so far. In the order of all calls, these calls precede the later calls of
-/// each seat that accepts the receipt. The receipt also covers the calls of the seats that had been merged into the
-/// issuing seat, and the calls covered by the receipts that it had accepted. A receipt can be passed to any thread.
+/// A receipt: proof of the calls that a seat has made so far. In the order of all calls, the calls that a receipt
+/// covers precede the later calls of each seat that accepts the receipt. A receipt also covers the calls of the seats
+/// that had been merged into the issuing seat, and the calls covered by the receipts that the issuing seat had
+/// accepted. A receipt can be passed to any thread.
 #[derive(Debug)]
 pub struct Receipt {
     raw: Raw,
@@ -182,24 +183,25 @@ unsafe impl Send for Receipt {}
 // SAFETY: apart from `Debug`, no function takes a `&Receipt`, so threads that share a receipt can only print it.
 unsafe impl Sync for Receipt {}
 
-/// Returns the maximum number of steps of [`Seat::contains_now`] on a list that opens for `seats` threads, with this
-/// quota and this number of keys (`keys`). Returns 0 if no set can be opened with these numbers.
+/// Returns the maximum number of steps of [`Seat::contains_now`] on a list that is opened for `seats` threads, with the
+/// quota `quota` and with `keys` keys. Returns 0 if no set can be opened with these numbers.
 pub fn most_reads(seats: u32, quota: u32, keys: u32) -> u64 {
     // SAFETY: all parameters of the function are numbers.
     unsafe { listset_most_reads(seats, quota, keys) }
 }
 
-/// Returns a number that is unique among the sets of this program.
+/// Returns a number that no earlier set of the program has.
 pub(crate) fn next_number() -> u64 {
     static SETS: AtomicU64 = AtomicU64::new(0);
     SETS.fetch_add(1, Ordering::Relaxed)
 }
 
 /// Opens a set with `seats` seats (one for each thread) and with keys in strictly increasing order. Each seat may add
-/// `quota` keys. Returns a seat. All other seats can be split off this seat.
+/// `quota` keys. Returns a seat off which all other seats can be split.
 pub fn open(list: List, seats: u32, quota: u32, keys: &[u32]) -> Result<Seat, Fault> {
     let mut made = Seat { raw: NONE };
-    // SAFETY: the pointers point to a slice and to an empty seat. No other set in this program has this number.
+    // SAFETY: the pointers point to a slice and to an empty seat. No other set in the program has the number that
+    // `next_number` returns.
     told(unsafe { listset_open(list as u8, seats, quota, next_number(), keys.as_ptr(), keys.len(), &mut made.raw) })?;
     Ok(made)
 }
@@ -214,7 +216,7 @@ pub enum Left {
 }
 
 /// Closes a set, and opens a set of the list `list` with the same keys. `seats` must contain all seats (one for each
-/// thread) of the old set. Returns the `count` seats of the new set, each with this quota.
+/// thread) of the old set. Returns the `count` seats of the new set, each with the quota `quota`.
 ///
 /// ```
 /// use listset::{open, renew, Added, List};
@@ -251,7 +253,8 @@ pub fn renew(seats: Vec<Seat>, list: List, count: u32, quota: u32) -> Result<Vec
 /// Renews a set: closes it, and opens a set of the list `list` with the same keys. The slice `places` must contain all
 /// seats of the set (one for each thread), or begin with the closed set. All other elements may be empty.
 pub(crate) fn renew_in(places: &mut [Seat], list: List, count: u32, quota: u32) -> Result<(), Fault> {
-    // SAFETY: the pointers point to an array of seats that only the caller has. No other set in this program has this number.
+    // SAFETY: the pointers point to an array of seats that only the caller has. No other set in the program has the
+    // number that `next_number` returns.
     by_all(places, |raws, many| unsafe { listset_renew(raws, many, list as u8, count, quota, next_number()) })
 }
 
@@ -270,7 +273,7 @@ fn by_all(places: &mut [Seat], call: impl FnOnce(*mut Raw, usize) -> u8) -> Resu
     told(code)
 }
 
-/// Returns the keys of a closed set; `None` for any other seat.
+/// Returns the keys of a closed set, or `None` if `closed` is not a closed set.
 pub(crate) fn keys_of(closed: &mut Raw) -> Option<Vec<u32>> {
     // SAFETY: only the caller has the seat, and the buffer has the length 0.
     let count = unsafe { listset_keys(closed, [].as_mut_ptr(), 0) };
@@ -283,10 +286,10 @@ pub(crate) fn keys_of(closed: &mut Raw) -> Option<Vec<u32>> {
     Some(keys)
 }
 
-// SAFETY of each call below: `&mut self` is a seat that only this thread uses.
+// SAFETY of each call in the functions of `Seat`: `&mut self` is a seat that only the current thread uses.
 impl Seat {
-    /// Splits a seat (one thread's access to the set) off this one. Returns [`Fault::NoMore`] if no seat can be split
-    /// off, because all have been split off or a seat was [merged](Seat::gather) into this one.
+    /// Splits a seat (one thread's access to the set) off this seat, for one more thread. Returns [`Fault::NoMore`] if
+    /// all seats have been split off, or if a seat was [merged](Seat::gather) into this seat.
     pub fn split(&mut self) -> Result<Seat, Fault> {
         let mut made = Seat { raw: NONE };
         told(unsafe { listset_split(&mut self.raw, &mut made.raw) })?;
@@ -344,15 +347,15 @@ impl Seat {
         (replied(unsafe { listset_ceiling(&mut self.raw, key, &mut at) }) == AT).then_some(at)
     }
 
-    /// Merges another seat of the set (another thread's access to it) into this one. If the seat belongs to another
-    /// set, the error contains it.
+    /// Merges `from`, another thread's seat of the same set, into this seat. If `from` belongs to a different set, the
+    /// error contains `from`.
     pub fn gather(&mut self, mut from: Seat) -> Result<(), Refused<Seat>> {
         let code = unsafe { listset_gather(&mut self.raw, &mut from.raw) };
         told(code).map_err(|fault| Refused { back: from, fault })
     }
 
-    /// Closes the set and returns its final keys. All seats (one for each thread) must be in this one: never split off,
-    /// or merged back. Otherwise, or if an allocation fails, the error returns the seat.
+    /// Closes the set and returns its final keys. All seats of the set (one for each thread) must be in this seat:
+    /// never split off, or merged back. If some are not, or if an allocation fails, the error contains the seat.
     pub fn close(mut self) -> Result<Vec<u32>, Refused<Seat>> {
         match told(unsafe { listset_close(&mut self.raw) }) {
             Ok(()) => Ok(keys_of(&mut self.raw).expect("the set is closed")),
@@ -361,8 +364,8 @@ impl Seat {
     }
 }
 
-/// Returns the reply of a call. A `Seat` is never empty, so a call lacks a reply only if one of its loops has made
-/// 2^64 - 1 rounds.
+/// Returns the reply of a call. A `Seat` is never empty, so a call has no reply only if one of its loops has made 2^64
+/// - 1 rounds.
 fn replied(reply: u8) -> u8 {
     assert_ne!(reply, NO_SEAT, "the call made 2^64 - 1 rounds");
     reply

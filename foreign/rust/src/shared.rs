@@ -1,4 +1,5 @@
-//! A set that any thread can call: it has a pool of seats (one for each thread), and each call uses a free one.
+//! A set that any thread can call: the set has a pool of seats (each serves one call at a time), and each call uses a
+//! free seat.
 
 use std::sync::atomic::{AtomicUsize, Ordering};
 use std::sync::{Mutex, MutexGuard, PoisonError};
@@ -6,7 +7,7 @@ use std::sync::{Mutex, MutexGuard, PoisonError};
 use crate::{open, Added, Fault, List, Refused, Seat};
 
 /// A set that any number of threads may call through `&self`, with a pool of seats (each serves one call at a time). A
-/// call uses a seat that no other call is using, or waits for a seat.
+/// call uses a seat that no other call is using, or waits until a seat is free.
 ///
 /// Two calls of one thread can use different seats, so not even the order of a thread's own calls is guaranteed.
 ///
@@ -94,15 +95,15 @@ mod tests {
 
     use super::*;
 
-    /// Calls each operation once, in a new thread. Returns the replies, or `None` if they do not arrive in time.
+    /// Calls each operation once, in a new thread. Returns the replies, or `None` if the replies do not arrive in time.
     fn calls_in_a_thread(set: &Arc<Shared>) -> Option<(Added, bool, Option<u32>, bool)> {
         let (set, (told, heard)) = (Arc::clone(set), mpsc::channel());
         std::thread::spawn(move || told.send((set.add(7), set.contains(7), set.ceiling(0), set.remove(7))));
         heard.recv_timeout(Duration::from_secs(20)).ok()
     }
 
-    /// Tests calls while only one seat is free. Two threads call the set one after the other, so at least one of them
-    /// finds its first seat occupied.
+    /// Tests calls while only one seat is free. Two threads call the set one after the other, so at least one thread
+    /// finds the first seat that it tries occupied.
     #[test]
     fn a_call_takes_a_seat_that_no_other_uses() {
         for (seats, free) in [2, 3, 8].into_iter().flat_map(|seats| (0..seats).map(move |free| (seats, free))) {

@@ -1,4 +1,4 @@
-//! Judges the examples of the repository in four threads at the same time.
+//! Judges the repository's examples in four threads at the same time.
 
 use std::fs::{read_dir, read_to_string};
 use std::path::PathBuf;

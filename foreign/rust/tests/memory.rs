@@ -1,11 +1,11 @@
-//! Checks that dropped sets are freed, whether or not they were closed. (This file has only this test: other tests would
-//! allocate at the same time.)
+//! Checks that dropped sets are freed, whether or not they were closed. (The file has a single test, because a second
+//! test would allocate at the same time.)
 
 use std::fs::read_to_string;
 
 use listset::{open, List};
 
-/// Returns the number of memory pages of this process.
+/// Returns the number of memory pages of the current process.
 fn pages() -> i64 {
     read_to_string("/proc/self/statm").unwrap().split(' ').nth(1).unwrap().parse().unwrap()
 }

@@ -1,5 +1,5 @@
-//! Checks that a set reports a failed allocation, does not leak, and stays usable. (This file has only this test, because its
-//! `malloc` replaces the `malloc` of the whole program, except for Rust's own memory.)
+//! Checks that a set reports a failed allocation, does not leak, and stays usable. (The file has a single test, because
+//! the file's `malloc` replaces the `malloc` of the whole program, except for Rust's own memory.)
 
 use std::alloc::{GlobalAlloc, Layout};
 use std::cell::Cell;
@@ -20,7 +20,7 @@ extern "C" {
 /// An allocator for Rust that does not use `malloc`.
 struct Own;
 
-// SAFETY: the C library allocates blocks with this alignment and frees them.
+// SAFETY: the C library allocates blocks with the alignment in `layout`, and frees them.
 unsafe impl GlobalAlloc for Own {
     unsafe fn alloc(&self, layout: Layout) -> *mut u8 {
         aligned_alloc(layout.align(), layout.size()).cast()
@@ -34,8 +34,8 @@ unsafe impl GlobalAlloc for Own {
 #[global_allocator]
 static OWN: Own = Own;
 
-// For each thread: the number of its allocations so far, which allocation fails (0: none), and the number of its blocks
-// that are not freed yet.
+// For each thread: the number of allocations so far, the number of the allocation that fails (0: none), and the number
+// of blocks that are not freed yet.
 thread_local! {
     static ASKED: Cell<usize> = const { Cell::new(0) };
     static REFUSED: Cell<usize> = const { Cell::new(0) };
@@ -69,7 +69,7 @@ unsafe extern "C" fn free(block: *mut c_void) {
     __libc_free(block)
 }
 
-/// The first step that failed while a set was opened, used and closed.
+/// The first step that failed in the life of a set, which is opened, used and closed.
 #[derive(PartialEq)]
 enum Told {
     Open,

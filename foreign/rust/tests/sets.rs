@@ -1,4 +1,4 @@
-//! Compares the lists, called by four threads, with sets of std. Also tests the errors of refused calls.
+//! Compares the lists, called by four threads, with sets of std, and tests the errors of refused calls.
 
 use std::collections::BTreeSet;
 use std::sync::Barrier;
@@ -11,8 +11,8 @@ const THREADS: u32 = 4;
 const CALLS: u32 = 5000;
 const OWN: u32 = 32;
 
-/// Checks at compile time that a `Seat` is not `Clone`. If it were, both impls below would apply, and `is_once` would
-/// be ambiguous.
+/// Checks at compile time that a `Seat` is not `Clone`. If it were, both impls of `Once` would apply, and `is_once`
+/// would be ambiguous.
 trait Once<T> {
     fn is_once() {}
 }
@@ -20,8 +20,8 @@ impl<S> Once<()> for S {}
 impl<S: Clone> Once<u8> for S {}
 const _: fn() = <Seat as Once<_>>::is_once;
 
-/// Calls operations with keys that no other thread uses. Returns the keys that remain. `kinds` is the number of
-/// operations: 4, or 3 without `ceiling`.
+/// Calls random operations with keys that no other thread uses. Returns those keys that the set still contains. `kinds`
+/// is the number of operations: 4, or 3 without `ceiling`.
 fn calls_of(seat: &mut Seat, thread: u32, kinds: u64) -> BTreeSet<u32> {
     let (mut left, mut drawn) = (BTreeSet::new(), u64::from(thread) + 88172645463325252);
     for _ in 0..CALLS {
@@ -50,7 +50,7 @@ fn each_list_keeps_what_its_threads_put_in() {
             let split = seats[0].split().unwrap();
             seats.push(split);
         }
-        // Threads do not call `ceiling` on a lock-free list, since they could all wait for a `remove` that no thread
+        // Threads do not call `ceiling` on a lock-free list, because they could all wait for a `remove` that no thread
         // calls.
         let kinds = if list == List::LockFree { 3 } else { 4 };
         let left: BTreeSet<u32> = scope(|threads| {
@@ -94,8 +94,8 @@ fn a_shared_set_uses_the_quota_of_each_seat() {
     assert_eq!(Shared::open(List::Lazy, 0, 1, &[]).err(), Some(Fault::Seats));
 }
 
-/// Checks that the number of adds that return true is the sum of all quotas, whichever threads call `add`, and that exactly
-/// the added keys remain.
+/// Checks that the number of adds that return true is the sum of all quotas, whichever threads call `add`, and that the
+/// set then has exactly the added keys.
 #[test]
 fn threads_use_the_quota_of_each_seat() {
     for (seats, quota) in [(2, 50), (64, 1)] {
@@ -114,8 +114,8 @@ fn threads_use_the_quota_of_each_seat() {
     }
 }
 
-/// Adds the same keys from several threads, exactly as many keys as all quotas together allow. No add may return full: when
-/// all quotas are used up, all keys are present.
+/// Several threads add the same keys: exactly as many keys as all quotas together allow. No add may return full,
+/// because all keys are present when all quotas are used up.
 #[test]
 fn no_add_is_full_while_a_seat_has_quota() {
     for _ in 0..20 {
@@ -204,8 +204,8 @@ fn what_is_refused_is_given_back() {
     assert_eq!(mine.close().unwrap(), [8]);
 }
 
-/// Checks that `?` converts a refusal (a fault with the refused seat) to a boxed error, with and without `Send`. Also
-/// checks that `?` converts a refusal to its fault, which drops the seat.
+/// Checks that `?` converts a refusal (a fault with the refused seat) to a boxed error, with and without `Send`, or to
+/// its fault, which drops the seat.
 #[test]
 fn a_refusal_is_an_error() {
     fn closed() -> Result<Vec<u32>, Box<dyn std::error::Error + Send + Sync>> {
@@ -235,8 +235,8 @@ fn reads_that_do_not_block() {
     assert_eq!([most_reads(0, 1, 1), most_reads(65, 1, 1), most_reads(1, 16_385, 1), most_reads(1, 1, (1 << 20) + 1)], [0; 4]);
 }
 
-/// Sends a receipt (a record of the calls that a seat has seen) to another thread. Checks that only a seat of the same set
-/// accepts it.
+/// Sends a receipt (proof of the calls that a seat has made) to another thread. Checks that only a seat of the same set
+/// accepts the receipt.
 #[test]
 fn receipts() {
     for list in LISTS {
@@ -289,7 +289,7 @@ fn a_set_is_renewed() {
     assert_eq!(seats.remove(0).close().unwrap(), [5, 8, 9]);
 }
 
-/// Tests threads that share a set that renews itself. The quota is small, so the set is closed and opened again
+/// Tests threads that share a set that renews itself. The quota is so small that the set is closed and opened again
 /// hundreds of times.
 #[test]
 fn a_renewed_set_keeps_what_its_threads_put_in() {
