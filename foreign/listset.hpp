@@ -590,8 +590,8 @@ public:
     while (places.size() < seats) places.emplace_back().mine = places.front().mine.split();
   }
 
-  /// Adds a key. Returns `is_full` if the key is absent but every seat (one for each call at a time) has used up its
-  /// quota of successful adds.
+  /// Adds a key. Returns `is_full` if the key is absent but every seat (each serves one call at a time) has used up its
+  /// quota of adds.
   added add(uint32_t key) {
     added answer = by([&](seat &it) { return it.add(key); });
     for (auto at = places.begin(); answer == added::is_full && at != places.end(); ++at) {

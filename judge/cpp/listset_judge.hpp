@@ -607,8 +607,8 @@ template <class Make, class K> struct maker {
         if (how.ends) how.ends();
     }
 
-    // The most calls of `contains` that try to find out whether a key is an opening or final key. A call is repeated
-    // while its outcome is unknown.
+    // The maximum number of calls of `contains` to find out whether a key is in the set at the start or at the end. A
+    // call is repeated while its outcome is unknown.
     static constexpr unsigned MOST_ASKED = 100;
 
     // Calls `contains` for each key, and calls it again if the outcome is unknown. Returns a line for each key found.

@@ -357,8 +357,8 @@ func (a *area) number(key int) uint32 {
 	return uint32(key * a.times)
 }
 
-// mostAsked is the most calls of Contains that try to find out whether a key is an opening or final key. A call is
-// repeated while its outcome is unknown.
+// mostAsked is the maximum number of calls of Contains to find out whether a key is in the set at the start or at the
+// end. A call is repeated while its outcome is unknown.
 const mostAsked = 100
 
 // linesOfKeys calls Contains for each key, and calls it again if the outcome is unknown. It returns a line for each key

@@ -699,8 +699,8 @@ public final class Judge {
 
     /** The threads of a run, and the set that they call. */
     private record Play<S, K>(Area area, Calls<S, K> calls, Shape of, AtomicReference<S> set) {
-        // The most calls of contains that try to find out whether a key is an opening or final key. A call is repeated
-        // while its outcome is unknown.
+        // The maximum number of calls of contains to find out whether a key is in the set at the start or at the end. A
+        // call is repeated while its outcome is unknown.
         private static final int MOST_ASKED = 100;
 
         void all(boolean interrupts) {

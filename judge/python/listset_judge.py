@@ -44,8 +44,8 @@ __tracebackhide__ = True  # (pytest then shows only the line of the test)
 
 GOING, ENDED, UNMADE = range(3)
 MOST_SHOWN = 16  # the maximum number of pending calls in a message
-# The most calls of `contains` that try to find out whether a key is an opening or final key. A call is repeated while
-# its outcome is unknown.
+# The maximum number of calls of `contains` to find out whether a key is in the set at the start or at the end. A call
+# is repeated while its outcome is unknown.
 MOST_ASKED = 100
 WORDS = ADD, REMOVE, CONTAINS = "add", "remove", "contains"
 NO, YES, UNKNOWN = range(3)
@@ -623,7 +623,8 @@ class Run:
                     if self.there.broken:  # (the run was cut short)
                         return
                     self.save(file, map(line_of, rows), rows[-1].begin)
-                # The last lines are not marked as saved, because the run can still be cut short.
+                # Does not mark the last lines as saved: if the run is still cut short, they are written again, followed
+                # by `cut`.
                 file.write("".join([*left, "end\n"] if None not in left else ["cut\n"]).encode())
         except threading.BrokenBarrierError:
             pass

@@ -37,8 +37,8 @@ impl Shared {
         Ok(Shared { seats: all.into_iter().map(Mutex::new).collect() })
     }
 
-    /// Adds a key. Returns [`Added::Full`] if the key is absent but every seat (one for each call at a time) has used
-    /// up its quota of adds.
+    /// Adds a key. Returns [`Added::Full`] if the key is absent but every seat (each serves one call at a time) has
+    /// used up its quota of adds.
     pub fn add(&self, key: u32) -> Added {
         match self.by(|seat| seat.add(key)) {
             Added::Full => self.seats.iter().map(|it| taken(it).add(key)).find(|it| *it != Added::Full).unwrap_or(Added::Full),

@@ -335,8 +335,8 @@ impl Area {
     }
 }
 
-/// The most calls of `contains` that try to find out whether a key is an opening or final key. A call is repeated while
-/// its outcome is unknown.
+/// The maximum number of calls of `contains` to find out whether a key is in the set at the start or at the end. A call
+/// is repeated while its outcome is unknown.
 const MOST_ASKED: u32 = 100;
 
 /// The calls to one set of a run.
