@@ -1,4 +1,4 @@
--- Conditions on the private state of a thread and on its next step. They hold between two steps of a pending call.
+-- Conditions on the private state of a thread and on its next step, between two steps of a pending call.
 use Rattle.std.specs.Prelude.{◌≡◌, ◌≢◌, ℕ, ◌+◌, ◌*◌, List, [], ◌∷◌, Bool, true, false, Option, Some, None, MatchOption}
 use Rattle.lset_words.specs.declared.Call.{Call}
 use Rattle.lset_words.specs.declared.Reply.{Reply}
