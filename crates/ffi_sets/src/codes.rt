@@ -4,10 +4,10 @@
 /// The function succeeded.
 pub const DONE: u8 = 0;
 
-/// The number of seats (of threads that can call the set) is not between 1 and 64.
+/// The number of seats (one for each thread) is not between 1 and 64.
 pub const BAD_SEATS: u8 = 10;
 
-/// The quota is greater than 16,384.
+/// The quota (the maximum number of successful adds per seat) is greater than 16,384.
 pub const BAD_QUOTA: u8 = 11;
 
 /// There are more than 1,048,576 keys, or they are not in strictly increasing order.

@@ -10,7 +10,7 @@ use Rattle.lset_steps.specs.Laws.{Lawful}
 use Rattle.lset_rule.specs.Runs.{end_of, IsRunOf}
 
 -- The final contents of the words (memory cells) of a closed set, and the sizes of the set: its number of threads, its
--- quota, and its number of keys at the start.
+-- quota (successful adds per thread), and its number of keys at the start.
 pub record LastWords : Type 0 where
   pub sizes : Sizes
   pub words : List ℕ

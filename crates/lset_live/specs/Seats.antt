@@ -15,8 +15,8 @@ use Rattle.lset_live.specs.declared.open_fault.OpenFault.{OpenFault}
 use Rattle.lset_live.specs.declared.open_fault.OpenFault.TheVariants as fault
 use Rattle.lset_words.specs.Records.{Record, fresh, gathered}
 
--- A running set in contracts: its table of words (memory cells), and what the set was opened with (threads, quota and
--- keys at the start).
+-- A running set in contracts: its table of words (memory cells), and what the set was opened with (its threads, the
+-- adds that each thread may make, and the keys at the start).
 pub record SetValue : Type 0 where
   pub table : TableId
   pub shape : Opening
@@ -61,7 +61,7 @@ RefusesOpening o fault.Memory = Opens o
 RefusesOpening o fault.Opening = ((0 < o.threads) × (o.threads ≤ MOST_THREADS) × (o.quota ≤ MOST_QUOTA))
     × ((IsStrictlyIncreasing o.keys → ⊥) ⊎ (MOST_OPENING < length o.keys))
 
--- Converts the Boolean result of a call to the reply in a record of calls.
+-- Converts the Boolean result of a call to the reply that a record of calls contains.
 abbrev pub reply_of : Bool → Reply
 reply_of true = True
 reply_of false = False

@@ -1,5 +1,5 @@
--- Converts the typed results of calls to the replies in a record of calls, and defines the possible replies to each
--- kind of call.
+-- Converts the typed results of calls to the replies that a record of calls contains, and defines the possible replies
+-- to each kind of call.
 use Rattle.std.specs.Prelude.{Option, Some, None}
 use Rattle.lset_words.specs.declared.Key.{Key}
 use Rattle.lset_words.specs.declared.Reply.{Reply}
@@ -7,13 +7,13 @@ use Rattle.lset_words.specs.declared.Reply.TheVariants as reply
 use Rattle.lset_live.specs.declared.typed_calls.Added.{Added}
 use Rattle.lset_live.specs.declared.typed_calls.Added.TheVariants as added
 
--- Converts a result of `Seat::add` to the reply in a record of calls.
+-- Converts a result of `Seat::add` to the reply that a record of calls contains.
 abbrev pub reply_of_add : Added → Reply
 reply_of_add added.New = reply.True
 reply_of_add added.Already = reply.False
 reply_of_add added.Full = reply.Full
 
--- Converts a result of `Seat::ceiling` to the reply in a record of calls.
+-- Converts a result of `Seat::ceiling` to the reply that a record of calls contains.
 abbrev pub reply_of_ceiling : Option Key → Reply
 reply_of_ceiling None = reply.Nothing
 reply_of_ceiling (Some k) = reply.At k

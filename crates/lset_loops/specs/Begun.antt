@@ -15,7 +15,7 @@ pub record Begun : Type 0 where
 abbrev pub begun_at : Call → TableSeat → Begun
 begun_at c s = record { call = c; table_id = s.table_id; id = s.id; me = s.me }
 
--- Holds if the pending call `b` executes `c`, and its set has the shared words `z` and was opened with `k` (threads,
--- quota and keys at the start).
+-- Holds if the pending call `b` executes `c`, and its set has the shared words `z` and was opened with `k` (its
+-- threads, the adds that each thread may make, and the keys at the start).
 abbrev pub IsCall : Begun → Call → TableId → Opening → Type 0
 IsCall b c z k = (b.call ≡ c) × (b.table_id ≡ z) × (b.me.0.shape ≡ k)

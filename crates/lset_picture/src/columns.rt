@@ -104,7 +104,8 @@ fn add_begun(marks: &mut Vec<Mark>, picture: &Picture, moment: u32) -> Result<()
     Ok(())
 }
 
-/// Adds a sign for each linearization point at `moment`. Returns whether a call changes the set at `moment`.
+/// Adds a sign for each linearization point at `moment` (a position in the history). Returns whether a call changes the
+/// set at `moment`.
 fn add_points(marks: &mut Vec<Mark>, picture: &Picture, moment: u32) -> Result<bool, AllocError> {
     let mut changes = false;
     for (index, point) in points_of(picture).iter().enumerate() {
@@ -221,7 +222,7 @@ fn columns_at(
     Ok(columns)
 }
 
-/// Computes the columns of a picture for the moments in `window`.
+/// Computes the columns of a picture for the moments (positions in the history) in `window`.
 pub(crate) fn drawing_in(
     alloc: Global,
     picture: &Picture,
@@ -241,7 +242,8 @@ pub(crate) fn drawing_in(
     Ok(drawing)
 }
 
-/// Sets `last` to the moment of the last column, and `after` to whether something happens after that moment.
+/// Sets `last` to the moment (position in the history) of the last column, and `after` to whether something happens
+/// after that moment.
 pub(crate) fn end_at_last(picture: &Picture, drawing: &mut Drawing) {
     if let Some(column) = drawing.columns.last() {
         drawing.last = column.moment;

@@ -12,7 +12,7 @@ pub fn is_past_the_last(picture: &Picture, from: u32) -> bool {
     !is_empty && next_moment(picture, u64::from(from)).is_none()
 }
 
-/// Returns the earlier of `best` and `moment`. Ignores `moment` if it is before `from`.
+/// Returns the earlier of the two moments `best` and `moment`. Ignores `moment` if it is before `from`.
 fn sooner(best: Option<u32>, from: u64, moment: u32) -> Option<u32> {
     match best {
         _ if u64::from(moment) < from => best,

@@ -1,4 +1,5 @@
-//! Writes the lines above and below the rows of the threads: the heading, the range of drawn moments, and the order.
+//! Writes the lines above and below the rows of the threads: the heading, the range of drawn moments (positions in the
+//! history), and the order.
 use crate::columns::{Drawing, Side, put_call};
 use crate::drawn_sets::put_keys_line;
 use crate::picture::{Picture, Standing, standing_at};
@@ -92,7 +93,7 @@ fn side_of(standing: Standing, drawing: &Drawing) -> Option<Side> {
 }
 
 /// Returns whether to print the entry `place`, whose call is not in the history. The entry is printed only if all
-/// moments are drawn, or if the order was rejected because of the entry's call.
+/// moments (positions in the history) are drawn, or if the order was rejected because of the entry's call.
 fn is_told(picture: &Picture, drawing: &Drawing, place: Placed) -> bool {
     match &picture.refusal {
         _ if !drawing.is_cut() => true,
@@ -101,8 +102,8 @@ fn is_told(picture: &Picture, drawing: &Drawing, place: Placed) -> bool {
     }
 }
 
-/// The numbers of omitted entries of the order: entries before the drawn moments, entries after them, and entries whose
-/// call is not in the history.
+/// The numbers of omitted entries of the order: entries before the drawn moments (positions in the history), entries
+/// after them, and entries whose call is not in the history.
 struct LeftOut {
     before: usize,
     after: usize,

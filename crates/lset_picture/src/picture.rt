@@ -30,7 +30,7 @@ pub struct Window {
 }
 
 impl Window {
-    /// Returns whether the range includes every moment.
+    /// Returns whether the range includes every moment (position in the history).
     pub fn is_whole(self) -> bool {
         self.from <= 1 && self.to == u32::MAX
     }

@@ -16,7 +16,7 @@ pub enum Refusal {
         first: u64,
         second: u64,
     },
-    /// The call ended at `moment` with `reply`, but is missing from the order.
+    /// The call ended at `moment` (a position in the history) with `reply`, but is missing from the order.
     Missing {
         call: u32,
         moment: u32,
@@ -39,7 +39,7 @@ pub enum Refusal {
         answer: Reply,
     },
     /// The order has `call` before `other`, but `call` started at moment `begun`, after `other` had ended at moment
-    /// `ended`.
+    /// `ended`. Moments are positions in the history.
     TooEarly {
         call: u32,
         begun: u32,

@@ -19,7 +19,8 @@ pub(crate) struct Spot {
     pub y: u64,
 }
 
-/// Returns the x position of a moment: the left margin plus the total width of the columns before the moment.
+/// Returns the x position of a moment (a position in the history): the left margin plus the total width of the columns
+/// before the moment.
 pub(crate) fn x_of(columns: &[Column], moment: u64) -> u64 {
     let mut x = 88u64;
     for column in columns {

@@ -52,8 +52,8 @@ fn put_sheet(
     out.push_str("<rect class=\"ground\" width=\"100%\" height=\"100%\"/>\n")
 }
 
-/// Adds the lines above the rows: the heading, the reason if the order is rejected, and the range of drawn moments if
-/// some moments are not drawn.
+/// Adds the lines above the rows: the heading, the reason if the order is rejected, and the range of drawn moments
+/// (positions in the history) if some moments are not drawn.
 fn put_above(
     alloc: Global,
     out: &mut String,
@@ -169,7 +169,8 @@ fn put_end(
     put_text(out, thread_class(made.thread), clash, Spot { x, y }, &text)
 }
 
-/// Adds the bars of all calls that overlap the drawn moments. Calls that contradict the order are drawn thick and red.
+/// Adds the bars of all calls that overlap the drawn moments (positions in the history). Calls that contradict the
+/// order are drawn thick and red.
 fn put_bars(
     alloc: Global,
     out: &mut String,

@@ -181,7 +181,8 @@ fn fit(
     Ok(())
 }
 
-/// Computes the columns for the moments in `window`, and drops columns from the end until the rows fit.
+/// Computes the columns for the moments (positions in the history) in `window`, and drops columns from the end until
+/// the rows fit.
 fn fitted(
     alloc: Global,
     picture: &Picture,
@@ -197,8 +198,8 @@ fn fitted(
     Ok(drawing)
 }
 
-/// Writes the rows. If some moments are not drawn, the range of drawn moments is written above the rows. Writes nothing
-/// for a history without calls.
+/// Writes the rows. If some moments (positions in the history) are not drawn, the range of drawn moments is written
+/// above the rows. Writes nothing for a history without calls.
 fn put_drawn_rows(
     alloc: Global,
     out: &mut String,

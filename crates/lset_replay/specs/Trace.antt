@@ -58,8 +58,8 @@ abbrev pub changed_at : ℕ → Linearized
 changed_at moment = record { moment = moment; reply = reply.True; change = true }
 
 -- Returns the linearization point of a call that changes nothing: the first moment (event number) during the call when
--- the call's reply is correct. Each call on a list has such a moment. If a call on a broken list has none, the
--- linearization point is the end of the call.
+-- the call's reply is correct. Each call on a list has such a moment. If a call on a broken list (a list with one check
+-- removed) has none, the linearization point is the end of the call.
 abbrev pub read_at : Option ℕ → ℕ → Reply → Linearized
 read_at None end reply = record { moment = end; reply = reply; change = false }
 read_at (Some moment) end reply = record { moment = moment; reply = reply; change = false }

@@ -38,7 +38,8 @@ fn is_there(changes: &Changes, key: u32, moment: u32) -> bool
 }
 
 /// Records that the event with the number `moment` added a key (if `present` is true) or removed a key. Records nothing
-/// if the event did not change whether the key is present, which happens only on broken lists.
+/// if the event did not change whether the key is present, which happens only on broken lists (lists with one check
+/// removed).
 fn note_key(changes: &mut Changes, key: u32, present: bool, moment: u32) -> Result<(), AllocError>
     requires { IsLaterThanAll (moments_of changes.old) moment }
     ensures upto { (k : ℕ) → All (λ m. m ≤ moment) (moments_of changes.new k) }
@@ -193,8 +194,8 @@ impl Recorder {
     }
 
     /// Records the next event and its effect. Can allocate. Returns the error `Memory` if an allocation fails, or if
-    /// the run already has 4,294,967,295 events. On a broken list, returns the error `Lost` if the effect is impossible
-    /// after the events recorded so far.
+    /// the run already has 4,294,967,295 events. On a broken list (a list with one check removed), returns the error
+    /// `Lost` if the effect is impossible after the events recorded so far.
     #[inline(always)]
     pub fn follow(&mut self, event: Event, told: Told) -> Result<(), Cause>
         ensures trace { OnOk result (MayRecord self.old (self.old.last + 1) event told

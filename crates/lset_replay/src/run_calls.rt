@@ -34,9 +34,9 @@ pub struct RunCalls {
 ///
 /// A call that changed the set takes effect at the event that made the change, even if the call is still pending. Any
 /// other completed call takes effect at the first moment between its start and its end when its reply is correct. On a
-/// broken list, a call without such a moment takes effect at its end. `replay` uses the same code for lists that are
-/// not broken. `schedule` must be within the limits, as every schedule from `read_schedule` is. Returns `AllocError` if
-/// an allocation fails.
+/// broken list (a list with one check removed), a call without such a moment takes effect at its end. `replay` uses the
+/// same code for lists that are not broken. `schedule` must be within the limits, as every schedule from
+/// `read_schedule` is. Returns `AllocError` if an allocation fails.
 pub fn calls_of<W: Steps + Drop>(
     alloc: Global,
     schedule: &Schedule,

@@ -9,8 +9,8 @@ use lset_steps::{Action, ChainKey, Event, Local, Machine, StepFault, Told, World
 use lset_text::Cause;
 use std::alloc::AllocError;
 
-/// The world of a run: the shared words of a list or a broken list, and the private states of its threads. The events
-/// of the run are executed in the world.
+/// The world of a run: the shared words of a list or of a broken list (a list with one check removed), and the private
+/// states of its threads. The events of the run are executed in the world.
 pub trait Steps {
     /// Specifies the effect of an event. The default, which is used for broken lists (lists with one check removed),
     /// allows any effect.
@@ -24,7 +24,7 @@ pub trait Steps {
     fn ahead(&self, t: u32) -> Option<(Action, u64)>;
 
     /// Executes an event and returns its effect. An event that is not enabled changes nothing, and the error is
-    /// `NoThread`, `Busy` or `Idle`. On a broken list, the error can also be `Lost`.
+    /// `NoThread`, `Busy` or `Idle`. On a broken list (a list with one check removed), the error can also be `Lost`.
     fn make(&mut self, event: Event) -> Result<Told, Cause>
         ensures { makes self.old event result self.new };
 

@@ -34,10 +34,11 @@ ends_well_by ends x = ends_apart ends x.begun x.ended
 pub record Tracks (h : HistoryValue) (last_begun : ℕ) (last_ends : List ℕ) (busy : List Bool) : Type 0 where
   -- `last_begun` is the moment (a position in the history) when the last call started.
   pub begins : (m : ℕ) → begins_later h.calls m ≡ nat_lt last_begun m
-  -- If moment m is after `last_begun`, a call starts or ends at m if and only if some thread's last call ends at m.
+  -- If moment `m` (a position in the history) is after `last_begun`, a call starts or ends at `m` if and only if some
+  -- thread's last call ends at `m`.
   pub taken : (m : ℕ) → last_begun < m → is_taken h.calls m ≡ is_last_end last_ends m
-  -- `last_ends` and `busy` have an entry for each thread. A thread `t` can start a call at moment `m` if the thread's
-  -- last call is not pending (`busy`) and ended before `m` (`last_ends`).
+  -- `last_ends` and `busy` have an entry for each thread. A thread `t` can start a call at moment `m` (a position in
+  -- the history) if the thread's last call is not pending (`busy`) and ended before `m` (`last_ends`).
   pub ends : length last_ends ≡ h.opening.threads
   pub each : length busy ≡ h.opening.threads
   pub idle : (t m : ℕ) → t < h.opening.threads → 0 < m

@@ -54,10 +54,10 @@ abbrev pub most_keys : Version → ℕ
 most_keys One = MOST_KEYS
 most_keys Two = MOST_KEYS_OPENED
 
--- Holds if the report can be written as text. A set can open with the report's thread count, quota and opening keys
--- (the keys at the start). The report's calls are a history. The report's format version has the opening keys, the
--- calls and the replies. All numbers are within their limits, and so are the counts of calls, entries and keys. The
--- order and the final keys can be arbitrary.
+-- Holds if the report can be written as text. A set can open with the report's thread count, quota (successful adds per
+-- thread) and opening keys (the keys at the start). The report's calls are a history. The report's format version has
+-- the opening keys, the calls and the replies. All numbers are within their limits, and so are the counts of calls,
+-- entries and keys. The order and the final keys can be arbitrary.
 pub record IsReport (r : ReportValue) : Type 0 where
   pub opens : Opens r.history.opening
   pub opening : HasOpening r.version r.history.opening.keys

@@ -14,8 +14,8 @@ pub const MOST_KEYS: usize = 1_048_576;
 /// The maximum number of final keys in a report of version 2. (In version 2, a set can open with up to 1,048,576 keys.)
 pub const MOST_KEYS_OPENED: usize = 2_097_152;
 
-/// A report of a run: the version of its format, the kind of list, the history with its threads, quota and opening keys
-/// (the keys at the start), an order of the calls, and the final keys.
+/// A report of a run: the version of its format, the kind of list, the history with its threads, quota (successful adds
+/// per thread) and opening keys (the keys at the start), an order of the calls, and the final keys.
 ///
 /// In a report from `replay`, the order is a linearization that leaves the final keys, and the final keys are in
 /// strictly increasing order. In a report from `read_report`, the order and the keys are arbitrary. A report of version

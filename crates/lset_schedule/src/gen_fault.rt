@@ -11,7 +11,7 @@ pub enum GenFault {
     /// The number of threads is 0 or above 64.
     #[error("the number of threads is outside 1 to {MOST_THREADS}")]
     Threads,
-    /// The quota is above 16,384.
+    /// The quota (the maximum number of successful adds per thread) is above 16,384.
     #[error("the quota is above {MOST_QUOTA}")]
     Quota,
     /// `keys` is 0, so no key can be drawn.

@@ -130,11 +130,11 @@ fn generated_lines<M: Machine, R: Rng>(
 /// Draws a random schedule of at most 10,000 events, one on each line. The same arguments always return the same
 /// schedule. The schedule is for the list `M` and has version 1, and `replay` accepts each of its events.
 ///
-/// `threads` must be 1 to 64, `quota` 0 to 16,384, and `keys` at least 1. All random numbers come from one generator,
-/// seeded with `seed`. The schedule is drawn in at most 100,000 turns. Each turn draws a thread. If the thread has a
-/// pending call, the call takes a step. Otherwise, if fewer than `calls` calls have begun, the thread begins a call,
-/// and two more random numbers select the kind of the call and its key below `keys`. The schedule ends when no call is
-/// pending and no more calls can begin. Allocates.
+/// `threads` must be 1 to 64, `quota` (the maximum number of successful adds per thread) 0 to 16,384, and `keys` at
+/// least 1. All random numbers come from one generator, seeded with `seed`. The schedule is drawn in at most 100,000
+/// turns. Each turn draws a thread. If the thread has a pending call, the call takes a step. Otherwise, if fewer than
+/// `calls` calls have begun, the thread begins a call, and two more random numbers select the kind of the call and its
+/// key below `keys`. The schedule ends when no call is pending and no more calls can begin. Allocates.
 ///
 /// # Errors
 ///

@@ -56,7 +56,7 @@ impl CallsSoFar {
         })
     }
 
-    /// Returns whether some thread's last call ended at `moment`, which must not be 0.
+    /// Returns whether some thread's last call ended at `moment` (a position in the history), which must not be 0.
     fn is_last_end(&self, moment: u32) -> bool
         ensures { result ≡ is_last_end self.now.last_ends.items moment }
     {
