@@ -2,10 +2,10 @@
 //! a text and an exit status.
 //!
 //! Each function writes the program's text (or a record with the same content), or an error message, to the start of
-//! `room`. It returns the length of the written text in bytes and sets `status` to the program's exit status: 0; 1 if
-//! something is wrong with the text; 2 if a name is wrong; 3 if an allocation failed. If `room` is too short, nothing
-//! is written; call the function again with a buffer of the returned length. The functions keep no state. Only
-//! functions whose name ends in `_from` block.
+//! `room`. Each function returns the length of the written text in bytes, and sets `status` to the program's exit
+//! status: 0; 1 if something is wrong with the text; 2 if a name is wrong; 3 if an allocation failed. If `room` is too
+//! short, nothing is written; call the function again with a buffer of the returned length. The functions keep no
+//! state. Only functions whose name ends in `_from` block.
 #![tactic(auto)]
 
 mod diagnosing; // why a recording is refused

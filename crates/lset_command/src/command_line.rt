@@ -10,8 +10,8 @@ use clap::error::ErrorKind;
 use clap::{Arg, ArgAction, ArgMatches, Error};
 use std::alloc::{AllocError, Global};
 
-/// The text that `--version` prints after the program's name. It consists of the version, and of the versions of the
-/// Rattle kit and of the logic with which the program was proved.
+/// The text that `--version` prints after the program's name. The text consists of the version, the Rattle kit, and the
+/// logic with which the program was proved.
 pub const VERSION: &str = "0.1.0\nRattle kit 13, logic dac8208d650f15bf";
 
 /// Help texts that other crates compute.

@@ -48,8 +48,8 @@ pub fn next_action(local: &Local) -> Action
     }
 }
 
-/// Returns the thread's private state after it has loaded `seen`, the key of `curr`. If `seen` is smaller than the
-/// call's key, the walk continues. Otherwise the call has a reply or will change the set.
+/// Returns the thread's private state after the thread has loaded `seen`, the key of `curr`. If `seen` is smaller than
+/// the call's key, the walk continues. Otherwise the call has a reply or will change the set.
 #[inline(always)]
 fn at_key(local: &Local, seen: u64) -> Local
     ensures { result ≡ at_key seen local.now }

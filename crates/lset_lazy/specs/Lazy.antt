@@ -37,8 +37,8 @@ next_action l =
     else if l.pc == 14 then Store (lock_index l.pred) 0
     else read_action l
 
--- Returns the thread's private state after it has loaded curr's key. If the key of curr is smaller than the call's key,
--- the walk continues. Otherwise the call takes the locks.
+-- Returns the thread's private state after the thread has loaded curr's key. If the key of curr is smaller than the
+-- call's key, the walk continues. Otherwise the call takes the locks.
 abbrev pub at_key : ℕ → Local → Local
 at_key seen l = if nat_lt seen (target l.call) then record l { pc = 3; ckey = seen } else record l { pc = 4; ckey = seen }
 
@@ -52,8 +52,8 @@ gives_up l = record l { pc = 13; reply = None }
 abbrev pub at_pred : ℕ → Local → Local
 at_pred seen l = if seen == 2 * l.curr then record l { pc = 7 } else gives_up l
 
--- Returns the thread's private state after it has loaded the link of curr, with both nodes locked. Validation fails if
--- the link has a mark. Otherwise the call has a reply or will change the set.
+-- Returns the thread's private state after the thread has loaded the link of curr, with both nodes locked. Validation
+-- fails if the link has a mark. Otherwise the call has a reply or will change the set.
 abbrev pub at_curr : ℕ → Local → Local
 at_curr seen l = if seen % 2 == 0 then decided_on targets l.ckey (record l { succ = seen / 2 }) else gives_up l
 

@@ -54,8 +54,8 @@ pub fn next_action(local: &Local) -> Action
     }
 }
 
-/// Returns the thread's private state after its walk has moved on to the node after `pred`. Next, the walk loads that
-/// node's key.
+/// Returns the thread's private state after the thread's walk has moved on to the node after `pred`. Next, the walk
+/// loads that node's key.
 #[inline(always)]
 fn walked_from(pred: u64, local: &Local, seen: u64) -> Local
     ensures { result ≡ record local.now { pc = 2; pred = pred; curr = seen / 2 } }
@@ -68,8 +68,8 @@ fn walked_from(pred: u64, local: &Local, seen: u64) -> Local
     }
 }
 
-/// Returns the thread's private state after it has loaded `seen`, the key of `curr`. If `seen` is smaller than the
-/// call's key, the walk continues. Otherwise the call takes the locks.
+/// Returns the thread's private state after the thread has loaded `seen`, the key of `curr`. If `seen` is smaller than
+/// the call's key, the walk continues. Otherwise the call takes the locks.
 #[inline(always)]
 fn at_key(local: &Local, seen: u64) -> Local
     ensures { result ≡ at_key seen local.now }
@@ -108,8 +108,8 @@ fn at_pred(local: &Local, seen: u64) -> Local
     }
 }
 
-/// Returns the thread's private state after it has loaded the link of `curr`. If `curr` is not marked, the call has a
-/// reply or will change the set. Otherwise validation fails.
+/// Returns the thread's private state after the thread has loaded the link of `curr`. If `curr` is not marked, the call
+/// has a reply or will change the set. Otherwise validation fails.
 #[inline(always)]
 fn at_curr(local: &Local, seen: u64) -> Local
     ensures { result ≡ at_curr seen local.now }

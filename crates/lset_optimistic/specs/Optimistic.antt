@@ -35,13 +35,13 @@ next_action l =
     else if l.pc == 14 then Store (lock_index l.pred) 0
     else Store (lock_index l.curr) 0
 
--- Returns the thread's private state after it has loaded curr's key. If the key of curr is smaller than the call's key,
--- the walk continues. Otherwise the call takes the locks.
+-- Returns the thread's private state after the thread has loaded curr's key. If the key of curr is smaller than the
+-- call's key, the walk continues. Otherwise the call takes the locks.
 abbrev pub at_key : ℕ → Local → Local
 at_key seen l = if nat_lt seen (target l.call) then record l { pc = 3; ckey = seen } else record l { pc = 4; ckey = seen }
 
--- Returns the thread's private state after it has taken both locks. The second walk then begins at the head. If pred is
--- the head, the second walk has already arrived.
+-- Returns the thread's private state after the thread has taken both locks. The second walk then begins at the head. If
+-- pred is the head, the second walk has already arrived.
 abbrev pub at_locks : Local → Local
 at_locks l = if l.pred == 0 then record l { pc = 8; node = 0 } else record l { pc = 6; node = 0 }
 
@@ -63,8 +63,8 @@ at_node seen l =
 abbrev pub at_link : ℕ → Local → Local
 at_link seen l = if seen / 2 == l.curr then decided_on targets l.ckey l else gives_up l
 
--- Returns the thread's private state after it has released both locks. A call without a reply starts again at row 1 of
--- the step table.
+-- Returns the thread's private state after the thread has released both locks. A call without a reply starts again at
+-- row 1 of the step table.
 abbrev pub at_end : Option Reply → Local → Local
 at_end None l = record l { pc = 1 }
 at_end (Some reply) l = record l { pc = 0 }

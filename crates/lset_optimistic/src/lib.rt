@@ -67,8 +67,8 @@ pub fn next_action(local: &Local) -> Action
     }
 }
 
-/// Returns the thread's private state after its walk has moved to `pred`. `pkey` is the key of `pred`, and `link` is
-/// the link of `pred`, which points to the node that the walk visits next.
+/// Returns the thread's private state after the thread's walk has moved to `pred`. `pkey` is the key of `pred`, and
+/// `link` is the link of `pred`, which points to the node that the walk visits next.
 #[inline(always)]
 fn walks_on(local: &Local, pred: u64, pkey: u64, link: u64) -> Local
     ensures { result ≡ record local.now { pc = 2; pred = pred; pkey = pkey; curr = link / 2 } }
@@ -82,8 +82,8 @@ fn walks_on(local: &Local, pred: u64, pkey: u64, link: u64) -> Local
     }
 }
 
-/// Returns the thread's private state after it has loaded `seen`, the key of `curr`. If `seen` is smaller than the
-/// call's key, the walk continues. Otherwise the call takes the locks.
+/// Returns the thread's private state after the thread has loaded `seen`, the key of `curr`. If `seen` is smaller than
+/// the call's key, the walk continues. Otherwise the call takes the locks.
 #[inline(always)]
 fn at_key(local: &Local, seen: u64) -> Local
     ensures { result ≡ at_key seen local.now }
@@ -123,7 +123,7 @@ fn gives_up(local: &Local) -> Local
 }
 
 /// Returns the thread's private state after the second walk has loaded the key `seen`. Validation fails if the second
-/// walk has passed pred, the node that the first walk found. If the second walk is at pred, it has arrived.
+/// walk has passed pred, the node that the first walk found. If the second walk is at pred, the walk has arrived.
 #[inline(always)]
 fn at_node(local: &Local, seen: u64) -> Local
     ensures { result ≡ at_node seen local.now }
@@ -137,8 +137,8 @@ fn at_node(local: &Local, seen: u64) -> Local
     }
 }
 
-/// Returns the thread's private state after it has loaded the link of pred. If the link still points to curr, the call
-/// has a reply or will change the set. Otherwise validation fails.
+/// Returns the thread's private state after the thread has loaded the link of pred. If the link still points to curr,
+/// the call has a reply or will change the set. Otherwise validation fails.
 #[inline(always)]
 fn at_link(local: &Local, seen: u64) -> Local
     ensures { result ≡ at_link seen local.now }
@@ -150,7 +150,8 @@ fn at_link(local: &Local, seen: u64) -> Local
     }
 }
 
-/// Returns the thread's private state after it has released its second lock. A call without a reply starts again.
+/// Returns the thread's private state after the thread has released the second lock. A call without a reply starts
+/// again.
 #[inline(always)]
 fn at_end(local: &Local) -> Local
     ensures { result ≡ at_end local.now.reply local.now }

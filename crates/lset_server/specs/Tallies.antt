@@ -60,7 +60,7 @@ numbers_below zero = []
 numbers_below (suc n) = numbers_below n ++ n ∷ []
 
 -- Holds if all passes of a channel (permissions to use it) were joined into one pass with tally v, the n numbers from 0
--- on were sent in order, each of them was received once, and no other number was received.
+-- on were sent in order, each sent number was received once, and no other number was received.
 pub record ReceivedOnce (n : ℕ) (v : Tally) : Type 0 where
   pub parts : v.parts ≡ PARTS
   pub sent : v.sent ≡ numbers_below n

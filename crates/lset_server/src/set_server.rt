@@ -220,7 +220,7 @@ fn serve_all<R: Threads + Wait + Clock + Sync, M: Running + Send + Sync>(
 
 /// Serves a set to `sessions` connections, with one worker thread for each of `seats` (per-thread handles to the set).
 ///
-/// `seats` must belong to `set`. Connections are numbered from 0. They wait in a channel that has room for one
+/// `seats` must belong to `set`. Connections are numbered from 0, and wait in a channel that has room for one
 /// connection per seat. Each worker runs `buffered_session` on its seat, for one connection after another. A session
 /// that ends with a read or write error does not end the server. At the end, the seats are merged into one (gathered)
 /// and the set is closed. Blocks until all connections have been accepted and all workers have ended. Each worker

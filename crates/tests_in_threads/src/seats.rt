@@ -16,7 +16,7 @@ pub const FINDS: [(Call, Reply); 1] = [(Call::Contains(Key(9)), Reply::True)];
 const FINDS_NOTHING: [(Call, Reply); 1] = [(Call::Contains(Key(9)), Reply::False)];
 
 /// A number of seats (per-thread handles to a set), a quota (successful adds per seat), and the error that `open`
-/// returns for them, or `None` if `open` returns a set.
+/// returns for the seats and the quota, or `None` if `open` returns a set.
 const LIMITS: [(u32, u32, Option<OpenFault>); 5] = [
     (0, 4, Some(OpenFault::Seats)),
     (65, 4, Some(OpenFault::Seats)),

@@ -1,5 +1,5 @@
-//! Readers and writers for tests of sessions. Some fail at one chosen call. The others never fail, and transfer as many
-//! bytes as they can.
+//! Readers and writers for tests of sessions. Some readers and writers fail at one chosen call. All others never fail,
+//! and transfer as many bytes as possible.
 
 use crate::prelude::*;
 use std::io::ErrorKind;

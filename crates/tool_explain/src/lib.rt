@@ -1,5 +1,5 @@
-//! The command `explain`. It prints the kind of a text and the first line with an error, and explains the error and how
-//! to correct it.
+//! The command `explain`, which prints the kind of a text and the first line with an error, explains the error, and
+//! states how to correct it.
 #![tactic(auto)]
 
 mod drafts;

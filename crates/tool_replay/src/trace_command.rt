@@ -15,8 +15,8 @@ use traced_run::trace_into;
 
 /// The command `trace`. The answer contains a line for each event of a schedule. The exit status is 0 if all events
 /// were executed, and 1 if an event was refused. A refused event ends the trace. The command fails with `Line` if the
-/// text is not a schedule. On a broken list (a list without one of its checks), it fails with the errors of
-/// `read_broken_schedule`. It fails with `Memory` if an allocation fails.
+/// text is not a schedule. On a broken list (a list without one of its checks), the command fails with the errors of
+/// `read_broken_schedule`. The command fails with `Memory` if an allocation fails.
 #[derive(Clone, Copy)]
 pub struct Trace {
     /// Whether to write the chain of nodes after each event that changed the chain.
