@@ -15,8 +15,8 @@ fn marked_as_seen(node: u64, local: &Local) -> u64 {
     node.wrapping_mul(2).wrapping_add(local.pkey)
 }
 
-/// Returns the next access to a word by a thread of a LockFreeList whose `add` replaces the link of `pred` even if the
-/// link is marked.
+/// Returns the access to a word that a thread makes next, on a LockFreeList whose `add` replaces the link of `pred`
+/// even if the link is marked.
 pub(crate) fn next_whatever_mark(local: &Local) -> Action
     requires { IsSmall local.now }
 {

@@ -42,8 +42,8 @@ const TARGETS: Targets = Targets {
     leaves: 14,
 };
 
-/// Returns the next access of a pending call to a shared word. The program counter `pc` is the number of a row of the
-/// step table. The numbers in `local` must be small (`IsSmall`), as they are in every run.
+/// Returns the access to a shared word that a pending call makes next. The program counter `pc` is the number of a row
+/// of the step table. The numbers in `local` must be small (`IsSmall`), as they are in every run.
 #[inline(always)]
 pub fn next_action(local: &Local) -> Action
     requires { IsSmall local.now }

@@ -40,8 +40,8 @@ abbrev pub total : (Tally → ℕ) → List Tally → ℕ
 total f [] = 0
 total f (v ∷ vs) = f v + total f vs
 
--- Holds if a pass (permission to use the channel) with 0 parts has sent and received nothing. A pass has 0 parts after
--- it was joined to a second pass.
+-- Holds if every pass (permission to use the channel) with 0 parts has sent and received nothing. A pass has 0 parts
+-- after it was joined to a second pass.
 abbrev pub IdleIsEmpty : List Tally → Type 0
 IdleIsEmpty views = (port : ℕ) (v : Tally) → get_elem? views port ≡ some v → v.parts ≡ 0 → (v.sent ≡ []) × (v.received ≡ [])
 

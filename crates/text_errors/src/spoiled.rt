@@ -8,7 +8,7 @@ use std::alloc::AllocError;
 /// The maximum number of bytes in a line of a recording.
 const MOST_OF_LINE: usize = 128;
 
-/// Explains a text that is empty, is encoded in UTF-16, begins with a byte order mark, or is compressed. For any other
+/// Explains that a text is empty, is encoded in UTF-16, begins with a byte order mark, or is compressed. For any other
 /// text, writes nothing and returns `false`.
 pub fn put_encoding(out: &mut String, file: &str, text: &[u8]) -> Result<bool, AllocError> {
     match text {
@@ -124,8 +124,8 @@ pub fn put_no_title(
     }
 }
 
-/// Explains an error of a line that can occur in every kind of text. If the line has no such error, writes nothing and
-/// returns `false`.
+/// Explains the error in a line if the error can occur in every kind of text. Otherwise writes nothing and returns
+/// `false`.
 pub fn put_spoiled(out: &mut String, place: Place<'_>) -> Result<bool, AllocError> {
     let (file, number) = (place.file, place.number);
     match place.line {

@@ -54,7 +54,7 @@ abbrev pub without_clash : Verdict → Verdict
 without_clash Linearizable = Linearizable
 without_clash (NotLinearizable refusal clash) = NotLinearizable refusal None
 
--- Returns the part of a verdict that an answer prints. A brief answer leaves out the contradiction.
+-- Returns the verdict as an answer prints it. A brief answer leaves out the contradiction.
 abbrev pub shown_in : Detail → Verdict → Verdict
 shown_in Whole verdict = verdict
 shown_in Brief verdict = without_clash verdict
