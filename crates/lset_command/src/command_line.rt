@@ -171,7 +171,7 @@ fn with_help<'a>(command: clap::Command<'a>, name: &str, helps: Helps<'a>) -> cl
     }
 }
 
-// Creates a command with its help texts and without its arguments.
+// Creates a command with its help texts, but without arguments.
 fn bare_command<'a>(alloc: Global, row: &'a CommandRow, helps: Helps<'a>) -> clap::Command<'a>
     ensures { IsApp result (new_app row.entry.now.1.now) }
 {

@@ -29,7 +29,7 @@ abbrev pub IsWalking : Local → Type 0
 IsWalking l = (l.pc ≡ 6) ⊎ (l.pc ≡ 7)
 
 -- Holds if the second walk of a call has arrived at pred, and the thread has not yet released pred's lock. The thread
--- is at a row of the step table from 7 (the load of pred's key) to 14 (the release of pred's lock). After a failed
+-- is at one of the rows 7 (the load of pred's key) to 14 (the release of pred's lock) of the step table. After a failed
 -- second walk, a thread is also at row 14, but its walk is not at pred.
 pub record HasArrived (l : Local) : Type 0 where
   pub from : 7 ≤ l.pc
@@ -67,8 +67,8 @@ pub record WalksAreValid (op : Opening) (last t : ℕ) (es : ℕ → Event) : Ty
   pub arrives : (j k : ℕ) → j ≤ k → k ≤ last → HasArrived (held_at op es j t)
       → ((i : ℕ) → j ≤ i → i < k → GivesBack op es i t (held_at op es j t).pred → ⊥)
       → IsLockedInChain (world_at op es k) t (held_at op es j t).pred
-  -- A thread is at a row of the step table from 8 to 13, where a call decides, adds or removes, only after the thread's
-  -- second walk has arrived at pred.
+  -- A thread is at one of the rows 8 to 13 of the step table, where a call decides, adds or removes, only after the
+  -- thread's second walk has arrived at pred.
   pub decides : (k : ℕ) → k ≤ last → 8 ≤ (held_at op es k t).pc → (held_at op es k t).pc ≤ 13 → HasArrived (held_at op es k t)
 
 -- [Validated walk]: once the second walk has arrived at pred, pred is in the chain until the thread releases pred's

@@ -1,4 +1,4 @@
-//! The imports that all groups of calls share, and the runtime that they require.
+//! The imports that all groups of calls share, and the trait of the runtimes that the calls require.
 pub use crate::refused_calls::{Calls, check};
 pub use anyhow::{Error, Result};
 pub use lset_lazy::LazyList;

@@ -1,4 +1,4 @@
-//! The imports that most tests need, and the runtime that they require.
+//! The imports that most tests need, and the trait of the runtimes that the tests require.
 pub use crate::stepped::Stepped;
 pub use lset_coarse::CoarseList;
 pub use lset_fine::FineList;
