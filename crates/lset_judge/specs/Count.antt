@@ -68,8 +68,8 @@ abbrev pub turning_in : ℕ → Presence → Option ℕ → Option ℕ → List 
 turning_in key there since until calls = filter (turns_in key there since until) calls
 
 -- Returns how often the key must change back between `counted` calls that all need the key in the same state and leave
--- it in the opposite state. If `since` is None, the key's opening state counts as a call. If `until` is None, the key's final
--- state counts as a call.
+-- it in the opposite state. If `since` is None, the key's opening state counts as a call. If `until` is None, the key's
+-- final state counts as a call.
 abbrev pub turns_of : ℕ → Option ℕ → Option ℕ → ℕ
 turns_of counted since until = counted + also since + also until - 1
 

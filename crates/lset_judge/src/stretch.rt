@@ -16,11 +16,11 @@ pub(crate) struct Stretch {
     from: u64,
     /// The latest moment at which a change in the stretch can end.
     upto: u64,
-    /// A call before the changes of the stretch that saw the key in the state `was`, if there is one. The key must change
-    /// back once more because of this call.
+    /// A call before the changes of the stretch that saw the key in the state `was`, if there is one. Because of this
+    /// call, the key must change back once more.
     pub(crate) first: Option<StreamCall>,
-    /// A call after the changes of the stretch that saw the key in the state opposite to `was`, if there is one. The key
-    /// must change back once more because of this call.
+    /// A call after the changes of the stretch that saw the key in the state opposite to `was`, if there is one. Because
+    /// of this call, the key must change back once more.
     pub(crate) last: Option<StreamCall>,
     /// The start of the stretch. `None` if the set opened with the key in the state `was`: the opening state then
     /// counts as a call.
@@ -58,7 +58,8 @@ struct Timed {
 }
 
 /// A call that saw the key in the state opposite to `was`. (Each change in a stretch, a period with too many calls,
-/// leaves the key in the state `was`.) `changes` is the number of changes to `was` that had ended when the call started.
+/// leaves the key in the state `was`.) `changes` is the number of changes to `was` that had ended when the call
+/// started.
 #[derive(Clone, Copy)]
 struct Look {
     call: StreamCall,
