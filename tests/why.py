@@ -182,7 +182,7 @@ class MarkNotRead(OneSet):
 
 
 class TakenLater(OneSet):
-    likely = ("remove returns before the key has left what contains reads",)
+    likely = ("contains still finds a key after its remove has returned",)
 
     def add(self, thread, key):
         is_new = yield from super().add(thread, key)

@@ -1,6 +1,6 @@
 // Kinds of random recordings for verdicts.js: many overlapping calls on one key, three keys, a single operation, many keys with a few calls each, other
 // keys that change all the time, long gaps and large moments, sets with several bugs, calls that give up, keys inserted twice, two calls inside at once, sets
-// that grow, nodes that stay linked, and opening and final keys that no call uses.
+// that grow, nodes that stay linked, buckets created twice, keys never found, sets broken for good, and opening and final keys that no call uses.
 "use strict";
 
 // Returns the kinds: functions that generate a random recording. The arguments are functions of verdicts.js: the random numbers and the sequential set.
@@ -292,22 +292,28 @@ module.exports = ({ draw, pick, replyOf, keysAfter, paddingAfter }) => {
         return reply;
       }, 4, 2, ["add", "remove", "contains", "contains"]);
     },
-    function transit() { // from time to time, all calls find no key for a while
-      let [changes, hidden] = [0, 0];
-      return madeBy([1, 2, 3, 4, 5, 6, 7, 8], 60, ({ call, set }) => {
-        if (hidden > 0) hidden--;
-        if (call.operation === "contains") return hidden > 0 ? "false" : set.take(call);
-        changes++;
-        if (changes % 60 === 0) hidden = 14;
+    function firsts() { // two of the first calls of a key each create its bucket, and the one that was created first is lost
+      const buckets = new Map();
+      return madeBy([1, 2, 3, 4, 5, 6, 7, 8], 8, ({ call, set, open }) => {
+        const isFirst = !buckets.has(call.key) || buckets.get(call.key) === 1;
+        const isMet = open.some((one) => one !== call && one.key === call.key);
+        buckets.set(call.key, isMet ? (buckets.get(call.key) ?? 0) + 1 : 2);
+        if (isFirst && isMet && call.operation === "add") set.put(call.key, false);
         return set.take(call);
-      }, 3, 2, ["add", "add", "remove", "contains", "contains", "contains"]);
+      });
     },
-    function successors() { // contains misses a key while the next smaller one is removed
-      const keys = [1, 2, 3, 4, 5, 6];
-      return madeBy(keys, 60, ({ call, set, open }) => {
-        const isNext = (one) => one.operation === "remove" && one.reply === "true" && one.key < call.key && keys.every((key) => key <= one.key || key >= call.key || !set.has(key));
-        return call.operation === "contains" && open.some(isNext) ? "false" : set.take(call);
-      }, 3, 2, ["add", "remove", "contains"]);
+    function neverFound() { // a key that is added is never found
+      return madeBy([1, 2, 5, 6].slice(draw(2)), 20, ({ call, set }) => {
+        if (call.key < 5) return set.take(call);
+        return String(call.operation === "add");
+      }, 2, 1);
+    },
+    function broken() { // from one moment on, all replies are arbitrary
+      let calls = 0;
+      return madeBy([1, 2, 5, 6], 60, ({ call, set }) => {
+        calls++;
+        return calls > 130 ? String(draw(2) === 0) : set.take(call);
+      }, 3, 1);
     },
     function borrowed() { // a call returns the reply that was stored last, perhaps by another thread
       let last = null;
@@ -316,14 +322,6 @@ module.exports = ({ draw, pick, replyOf, keysAfter, paddingAfter }) => {
         last = set.take(call);
         return [last, () => { if (isAll || call.operation === "contains") call.reply = last; }];
       }, 3, 2, ["add", "remove", "contains"]);
-    },
-    function stripes() { // a change writes its bucket back as it was at its start, with its own key changed
-      const [keys, buckets] = [[1, 2, 3, 4, 5, 6, 7, 8], pick([2, 4])];
-      return madeBy(keys, 40, ({ call, set, open }) => {
-        const [inBucket, isMet] = [keys.filter((key) => key !== call.key && key % buckets === call.key % buckets), open.some((one) => one !== call && one.key === call.key)];
-        const [before, reply] = [inBucket.map((key) => [key, set.has(key)]), set.take(call)];
-        return [reply, () => { if (!isMet && reply === "true" && call.operation !== "contains") for (const [key, isThere] of before) set.put(key, isThere); }];
-      });
     },
     function ends() { // opening and final keys, few calls or none
       const all = [1, 5, 7, 9];

@@ -15,8 +15,8 @@ const met = new Set(); // the patterns that some sentence has matched
 const [verdictOnCalls, verdictOnLacking, verdictOn] = ["verdictOnCalls", "verdictOnLacking", "verdictOn"].map(inPage);
 const [OwnAnswer, exerciseOf, readReport, LACKING] = ["OwnAnswer", "exerciseOf", "readReport", "LACKING"].map(inPage);
 const LAST = Infinity;
-const LONG = ["inside", "growing", "unlinked", "outlasted", "ownCopies", "transit", "successors", "borrowed", "stripes"]; // kinds with long recordings
-const OF_FACTS = ["inside", "unlinked", "outlasted", "ownCopies", "transit", "successors", "borrowed", "stripes"]; // only the facts of these kinds are checked
+const LONG = ["inside", "growing", "unlinked", "outlasted", "ownCopies", "borrowed"]; // kinds with long recordings
+const OF_FACTS = ["inside", "unlinked", "outlasted", "ownCopies", "borrowed"]; // only the facts of these kinds are checked
 
 // ---- Random numbers, which are the same each time this script runs with the same seed.
 
@@ -588,6 +588,16 @@ function isListed(it, told) {
   return until === undefined ? !hasOrderOf(it, Number(key)) : !hasOrder(knownBy(calls, last), Number(key), opens(it, Number(key)));
 }
 
+// Decides whether at least `some` completed changes of refused keys have a property, and not more than `all` are counted: another add or remove of the same
+// key overlaps the change, a change of another key does, or the change began while the first calls on its key ran or after a change that did.
+function isOfUndone(it, what, some, all, usual) {
+  const hit = it.calls.filter((call) => isChange(call) && call.ended !== null && !hasOrderOf(it, call.key));
+  const firstEnd = (key) => Math.min(...ofKey(it, key).filter((call) => call.operation !== "contains").map((call) => call.ended ?? LAST));
+  const isFirst = (call) => ofKey(it, call.key).some((one) => one.begun <= firstEnd(call.key) && one.ended !== null);
+  const isMet = { own: isSame, others: isBeside, first: (_, call) => isFirst(call) }[what];
+  return Number(some) <= Number(all) && Number(all) <= hit.length && Number(some) <= hit.filter((call) => isMet(it, call)).length && Number(usual) <= 100;
+}
+
 const OF_WHY = [
   [/^headline (?:key (\d+) (was lost|came back): )?(add|remove|contains)\((\d+)\) returned (true|false)(?:, expected (true|false))?$/, (it, found, why) => isHeadline(it, why, found)],
   [/^headline (?:key (\d+) (was lost|came back): )?key (\d+) is (present|absent) at the end$/, (it, [key, gone, ofEnd, state]) =>
@@ -644,11 +654,7 @@ const OF_WHY = [
     const isOfKeys = Number(hit) === refused.length && Number(all) === new Set([...keysOf(it), ...it.padding.map(({ key }) => key)]).size;
     return isOfKeys && `${counts.map(Number)}` === `${seen.flatMap((some) => [some.filter((isSeen) => !isSeen).length, some.length])}`;
   }],
-  [/^fact a change of another key ran during (\d+) of the (\d+) times that a key was lost or came back, but only during (\d+) of 100 other times$/, (it, [some, all, usual], { tally }) => {
-    const isBeside = keysOf(it).some((key) => !hasOrderOf(it, key) && it.calls.some((one) => one.key !== key && isChange(one) && one.reply === "true"));
-    return Number(some) <= Number(all) && Number(all) <= tally.lost + tally["came back"] && isBeside && Number(some) * 100 >= Number(all) * (Number(usual) + 25);
-  }],
-  [/^(?:because|fact) (\d+) of the (\d+) times that a key was lost or came back, this happened to another key, too, meanwhile \(expected by chance: (\d+) of 100\)$/, (it, [some, all, usual]) =>
+  [/^because (\d+) of the (\d+) times that a key was lost or came back, this happened to another key, too, meanwhile \(expected by chance: (\d+) of 100\)$/, (it, [some, all, usual]) =>
     Number(some) <= Number(all) && keysOf(it).filter((key) => !hasOrderOf(it, key)).length >= 2 && Number(some) * 100 >= Number(all) * (Number(usual) + 25)],
   [/^fact (?:before moment \d+ the calls had an order; from then on )?(at least )?(\d+) contradictions?: (.*)$/, (it, [atLeast, count, listed], why) => {
     const told = listed.split("; ");
@@ -732,6 +738,8 @@ const OF_WHY = [
   }],
   [/^because at all (\d+) wrong answers a successful or pending (add|remove) of the key was still running$/, (it, [all, operation], { told }) =>
     told !== null && told.wrong.length === Number(all) && told.wrong.every((call) => runsBeside(it, call, operation))],
+  [/^because no change of another key ran during (\d+) of the (\d+) wrong answers$/, (it, [some, all], { told }) =>
+    told.wrong.length === Number(all) && told.wrong.filter((call) => !isBeside(it, call)).length === Number(some)],
   [/^because it misses present keys$/, (it, found, { told }) => told !== null && told.wrong.some((call) => !needsKey(call))],
   [/^because it misses present keys and never finds an absent one$/, (it, found, { told }) => told !== null && told.isAll && told.wrong.every((call) => !needsKey(call))],
   [/^because it is wrong both ways, and without it all other calls have an order$/, (it, found, { told }) => told !== null && told.wrong.some(needsKey) && !told.wrong.every(needsKey)],
@@ -770,10 +778,6 @@ const OF_WHY = [
     const isLonely = (answer) => keysOf(it).every((key) => key === answer.key || isAbsent(key, answer.begun));
     return told !== null && told.wrong.length === Number(all) && told.wrong.filter(isLonely).length === Number(some);
   }],
-  [/^because all is among the first (\d+) calls of a key$/, (it, [count]) => keysOf(it).every((key) => {
-    const moment = ofKey(it, key)[Number(count)]?.begun ?? LAST;
-    return moment === LAST || hasOrderOf(it, key) || !hasOrder(knownBy(ofKey(it, key), moment), key, opens(it, key));
-  })],
   ...[/^because before (\d+) of the (\d+) times that a key was lost, a remove was among overlapping changes of the key$/,
     /^because (\d+) of the (\d+) times that a key was lost or came back, the opposite reply of one call would give an order$/,
     /^because (\d+) of the (\d+) times that a key was lost or came back, a call that returned false can have done it$/,
@@ -806,7 +810,7 @@ const OF_WHY = [
   [/^because (\d+) keys are affected, each once$/, (it, [count]) => keysOf(it).filter((key) => !hasOrderOf(it, key)).length === Number(count)],
   [/^because keys are lost \((\d+)\) and added twice \((\d+)\), none comes back, and none is removed twice$/, (it, [lost, twice], { tally }) =>
     Number(lost) === tally.lost && Number(twice) === tally["two adds true"] && tally["two removes true"] === 0 && tally["came back"] === 0],
-  [/^(?:because|fact) a successful (add|remove) of another key ran during the add of (\d+) of the (\d+) lost keys, but only during (\d+) of 100 successful adds$/, (it, [operation, some, all, usual], { tally }) => {
+  [/^because a successful (add|remove) of another key ran during the add of (\d+) of the (\d+) lost keys, but only during (\d+) of 100 successful adds$/, (it, [operation, some, all, usual], { tally }) => {
     const adds = it.calls.filter((call) => call.operation === "add" && call.reply === "true" && !hasOrderOf(it, call.key));
     const isMet = (add) => it.calls.some((one) => one.key !== add.key && one.operation === operation && one.reply === "true" && inTime(one, add.begun, add.ended));
     return adds.filter(isMet).length >= Number(some) && Number(some) <= Number(all) && Number(all) <= tally.lost && Number(usual) <= 100;
@@ -816,25 +820,6 @@ const OF_WHY = [
   [/^because during (\d+) of (\d+) changes that were undone another key came back or was lost$/, (it, [some, all], { tally }) => Number(some) <= Number(all) && Number(all) <= tally.lost + tally["came back"]],
   [/^because (\d+) of (\d+) undone changes of key (\d+) overlapped changes of key (\d+), and fewer overlapped those of any third key$/, (it, [some, all, one, two], { tally }) =>
     Number(some) <= Number(all) && Number(all) <= tally.lost + tally["came back"] && one !== two && !hasOrderOf(it, Number(one))],
-  [/^(?:because|fact) at (\d+) of (\d+) undone changes during which only one other key changed, the two keys differ by a multiple of (\d+) \(at sampled changes: (\d+) of 100\)$/, (it, [some, all, multiple, usual], { tally }) => {
-    const hit = keysOf(it).filter((key) => !hasOrderOf(it, key));
-    const changed = [...new Set(it.calls.filter((call) => isChange(call) && call.ended !== null).map(({ key }) => key))];
-    const differ = hit.some((key) => changed.some((other) => other !== key && Math.abs(key - other) % Number(multiple) === 0));
-    return differ && Number(some) <= Number(all) && Number(all) <= tally.lost + tally["came back"] && Number(some) * 10 >= Number(all) * 9 && Number(usual) <= 60;
-  }],
-  [/^(?:because|fact) a successful remove of the next smaller key known to be present ran during at least (\d+) of (\d+) checked answers that missed a key \(during sampled answers that found their key: (\d+) of 100\)$/, (it, [some, all, usual], { told }) => {
-    const isPresent = (key, moment) => {
-      const ended = ofKey(it, key).filter((call) => call.ended !== null && call.ended < moment).sort((one, other) => one.ended - other.ended);
-      return ended.length === 0 ? opens(it, key) : leaves(ended.at(-1));
-    };
-    const isNext = (call) => {
-      const removes = it.calls.filter((one) => one.key < call.key && one.operation === "remove" && one.reply === "true" && inTime(one, call.begun, call.ended));
-      const next = Math.max(...removes.map(({ key }) => key));
-      return removes.length > 0 && keysOf(it).every((key) => key <= next || key >= call.key || !isPresent(key, call.begun));
-    };
-    const missed = (told?.wrong ?? it.calls.filter((call) => call.reply === "false")).filter((call) => !needsKey(call));
-    return missed.length >= Number(all) && missed.filter(isNext).length >= Number(some) && Number(some) <= Number(all) && Number(usual) <= 100;
-  }],
   [/^(?:because|fact) the last change of the key was by another thread before (\d+) of (\d+) checked wrong answers \(before sampled answers: (\d+) of 100\); before (\d+) of these, the thread of the answer had changed a key since$/, (it, [some, all, usual, since], { told }) => {
     const wrong = (told?.wrong ?? it.calls.filter((call) => call.ended !== null && !isChange(call))).map((answer) => {
       const change = ofKey(it, answer.key).filter((call) => isChange(call) && call.ended !== null && call.ended < answer.begun).sort((one, other) => one.begun - other.begun).at(-1);
@@ -849,29 +834,25 @@ const OF_WHY = [
     const isMet = (answer) => [...it.calls, ...it.padding].some((call) => call.thread !== answer.thread && call.reply === answer.reply && inTime(call, answer.begun, answer.ended));
     return wrong.length >= Number(all) && wrong.filter(isMet).length >= Number(some) && Number(some) <= Number(all) && Number(usual) <= 100;
   }],
-  [/^(?:because|fact) (\d+) answers that began from moment (\d+) to (\d+) missed (\d+) keys; (\d+) of (\d+) checked ones began at most 50 moments from one that missed another key \(expected by chance: (\d+) of 100\)$/, (it, [answers, from, to, keys, some, all, usual], { told }) => {
-    const missed = (told?.wrong ?? it.calls.filter((call) => call.ended !== null && !isChange(call))).filter((call) => !needsKey(call));
-    const burst = missed.filter((call) => call.begun >= Number(from) && call.begun <= Number(to));
-    const near = missed.filter((call) => missed.some((one) => one.key !== call.key && Math.abs(one.begun - call.begun) <= 50));
-    return burst.length >= Number(answers) && new Set(burst.map(({ key }) => key)).size >= Number(keys) && near.length >= Number(some) && missed.length >= Number(all) && Number(some) <= Number(all) && Number(usual) <= 100;
-  }],
   [/^because they disagree as long as nothing changes the key$/, () => true],
-  [/^because an order fits until one moment, and then all (\d+) keys are affected, and calls disagree while nothing changes the key$/, (it, [count]) => {
-    const keys = keysOf(it);
-    return keys.length === Number(count) && keys.every((key) => !hasOrderOf(it, key));
+  [/^fact during (\d+) of (\d+) changes that were undone or reported twice another add or remove of the key ran \(of all changes: (\d+) of 100\), during (\d+) a change of another key \((\d+) of 100\); (\d+) were among the first calls of their key \((\d+) of 100\)$/, (it, [own, all, usual, others, beside, first, early]) =>
+    isOfUndone(it, "own", own, all, usual) && isOfUndone(it, "others", others, all, beside) && isOfUndone(it, "first", first, all, early)],
+  [/^because (another add or remove of the key|a change of another key) ran during (\d+) of (\d+) changes that were undone or reported twice \(of all changes: (\d+) of 100\)$/, (it, [what, some, all, usual]) =>
+    isOfUndone(it, what.startsWith("another") ? "own" : "others", some, all, usual)],
+  [/^because among the first calls of their key are (\d+) of (\d+) changes that were undone or reported twice \(of all changes: (\d+) of 100\)$/, (it, found) => isOfUndone(it, "first", ...found)],
+  [/^because after (\d+) of (\d+) successful adds the next call found the key absent$/, (it, [lost, adds]) => {
+    const seen = keysOf(it).filter((key) => !hasOrderOf(it, key)).flatMap((key) => nextCallsSee(ofKey(it, key), "add"));
+    return lost === adds && seen.length === Number(adds) && seen.every((isSeen) => !isSeen);
+  }],
+  [/^because the calls had an order until moment (\d+), and then (\d+) of (\d+) keys are affected$/, (it, [moment, hit, all]) => {
+    const isBefore = keysOf(it).every((key) => hasOrder(knownBy(ofKey(it, key), Number(moment) - 1), key, opens(it, key)));
+    return isBefore && keysOf(it).filter((key) => !hasOrderOf(it, key)).length === Number(hit) && Number(all) === new Set([...keysOf(it), ...it.padding.map(({ key }) => key)]).size;
   }],
   [/^because a successful remove of another key ran during (?:the remove|(\d+) of (\d+) removes) that add did not see, and nearly all later adds failed, too$/, (it, [some = 1, all = 1], { told }) => {
     const lastRemove = (answer) => ofKey(it, answer.key).filter((call) => call.operation === "remove" && call.reply === "true" && call.begun <= answer.begun).sort((one, other) => one.begun - other.begun).at(-1);
     const removes = [...new Set(told.wrong.map(lastRemove))].filter((call) => call !== undefined && told.wrong.some((answer) => call.ended < answer.begun && lastRemove(answer) === call));
     const isWith = (call) => it.calls.some((one) => one.key !== call.key && one.operation === "remove" && one.reply === "true" && inTime(one, call.begun, call.ended));
     return removes.length >= Number(all) && removes.filter(isWith).length >= Number(some) && Number(some) <= Number(all);
-  }],
-  [/^because (?:(\d+) times two overlapping calls both returned true(?:, )?)?(?:(\d+) times a change was undone that overlapped a call which found the older state)?, although at least (\d+) pairs of changes and other calls of a key overlapped$/, (it, [both = 0, undone = 0, pairs], { tally }) => {
-    const ended = it.calls.filter((call) => call.operation !== "contains" && call.ended !== null);
-    const met = (one, two) => one.key === two.key && one.begun < two.begun && two.begun < one.ended && (one.reply === "true" || two.reply === "true");
-    const count = ended.reduce((sum, one) => sum + ended.filter((two) => met(one, two)).length, 0);
-    const found = ended.filter((call) => call.reply === "false" && ended.some((one) => one.key === call.key && one !== call && one.reply === "true" && needsKey(call) !== leaves(one) && inTime(one, call.begun, call.ended)));
-    return Number(pairs) <= count && Number(both) === tally["two adds true"] + tally["two removes true"] && Number(undone) <= tally.lost + tally["came back"] && (Number(undone) === 0 || found.length > 0);
   }],
   [/^because many keys are added \((\d+) present at first, (\d+) at the end\), (\d+) were in use at moment (\d+), and only (\d+) of (\d+) keys are affected$/, (it, [from, to, active, moment, hit, all]) => {
     const present = new Set(it.opening);

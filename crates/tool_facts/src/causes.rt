@@ -7,8 +7,10 @@ pub enum Cause {
     TwoKeys,
     /// `contains` does not check the word that `add` changes first.
     NotSeenYet,
-    /// A search misses its key while changes of other keys move the key.
+    /// `contains` misses a key that a change of another key moves at that time.
     MovedKeys,
+    /// Calls of several operations miss a key that a change of another key moves at that time.
+    MovedForAll,
     /// `contains` is wrong while another add or remove of its key is only half done.
     HalfDone,
     /// The set contains a key twice, and a remove deletes only one of the two copies.
@@ -41,6 +43,8 @@ pub enum Cause {
     AddSeesRemoved,
     /// An unlink was lost, so a removed node stays linked, and `add` treats it as present.
     UnlinkLost,
+    /// `contains` gives up, and returns false.
+    ContainsGivesUp,
     /// `remove` has a shortcut that returns false too early.
     RemoveShortcut,
     /// `remove` returns false too early, although the key is present.
@@ -53,10 +57,16 @@ pub enum Cause {
     InsertedTwice,
     /// Operations search for a key in two different places.
     TwoPlaces,
-    /// A removed node is reused while another call still uses it, and the set stays broken.
+    /// Most of the set is broken from one moment on.
     Reused,
-    /// Two calls on a key ran at the same time although a lock should exclude this. This is rare.
-    Inside,
+    /// Calls of one key at the same time undo each other.
+    SameKey,
+    /// Two of the first calls of a key at the same time undo each other.
+    FirstCalls,
+    /// Changes of different keys at the same time undo each other.
+    OtherKeys,
+    /// No call finds a key again that was added.
+    NeverFound,
     /// A table or array is replaced by a larger one while calls still change the old one.
     Outgrown,
     /// When a part of the set is first used, two calls each create this part, and one of the two copies is lost.
@@ -135,16 +145,10 @@ pub enum Cause {
     Cancelled,
     /// An add that returns false has inserted its key.
     AddUndone,
-    /// Changes of keys in one bucket do not exclude each other.
-    Stripes,
-    /// A remove moves the next greater key, and `contains` misses this key meanwhile.
-    Successor,
     /// Each thread reads a copy of its own, which changes by other threads reach late.
     ThreadCopy,
     /// A call returns the reply of a call of another thread, since they share memory.
     Borrowed,
-    /// Many keys are in neither of two places while they move.
-    InTransit,
     /// A remove takes effect late or twice, and removes a key that was added meanwhile.
     RemovedLater,
 }

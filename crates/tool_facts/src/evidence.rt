@@ -1,6 +1,7 @@
 //! Facts about a refused recording: no order explains its calls. The message and the likely cause are derived from
 //! these facts.
 
+use crate::meets::{Meets, meets_of};
 use crate::odd_facts::{Odd, find_odd, places_of_odd};
 use crate::patterns::{Patterns, patterns_of};
 use crate::tally::Tally;
@@ -19,6 +20,8 @@ pub struct Evidence {
     pub odd: Option<Odd>,
     pub tally: Tally,
     pub patterns: Patterns,
+    /// The calls at the same time as undone changes. Has no cases if one operation alone is wrong.
+    pub meets: Meets,
     pub split: Option<Split>,
     /// Two keys that undo each other's changes.
     pub bound: Option<Bound>,
@@ -242,7 +245,11 @@ pub fn evidence_of(
         merged: merged_keys(alloc, runs, refused)?,
         odd: found.odd,
         tally: found.tally,
-        patterns: patterns_of(alloc, runs, &found.places, neighbours)?,
+        patterns: patterns_of(alloc, runs, &found.places)?,
+        meets: match found.odd {
+            Some(_) => Meets::default(),
+            None => meets_of(runs, &found.places, neighbours)?,
+        },
         split: found.split,
         bound: found.bound.pair(found.tally.keys),
         keys: u64::try_from(keys.len()).unwrap_or(u64::MAX),

@@ -2,8 +2,7 @@
 
 use crate::evidence::Found;
 use crate::odd::is_answer;
-use crate::odd_facts::Odd;
-use crate::patterns::Share;
+use crate::odd_facts::{Odd, more};
 use lset_words::Presence;
 use std::alloc::{AllocError, Global};
 use tool_calls::{
@@ -11,10 +10,36 @@ use tool_calls::{
     stretches_of,
 };
 
+/// How many cases have a property, and the percentage of comparable cases that have it.
+#[derive(Clone, Copy, Default)]
+pub struct Share {
+    pub count: u64,
+    pub of: u64,
+    pub usual: u64,
+}
+
+impl Share {
+    /// Counts a case.
+    pub fn add(&mut self, is_so: bool) {
+        more(&mut self.of);
+        self.count = self.count.saturating_add(u64::from(is_so));
+    }
+
+    /// Returns this share with the percentage of another share, or with 100 if the other share has no cases.
+    pub fn against(self, other: Share) -> Share {
+        let usual = other.count.saturating_mul(100).checked_div(other.of);
+        Share {
+            usual: usual.unwrap_or(100),
+            ..self
+        }
+    }
+}
+
 /// Further facts about a refused recording.
 #[derive(Clone, Copy, Default)]
 pub struct Further {
-    pub few: Few,
+    /// The first moment such that some key's calls up to this moment have no order.
+    pub moment: u64,
     /// If only `add` is wrong: the removes that its checked wrong answers did not see, and how many of these overlap a
     /// successful remove of another key.
     pub unseen: Share,
@@ -26,16 +51,6 @@ pub struct Further {
     pub swap: Option<(Made, Made)>,
     /// The numbers of keys, if many keys are added during the recording.
     pub growth: Option<Growth>,
-}
-
-/// Facts about at most `MOST_RARE` contradictions. 0 if there are more.
-#[derive(Clone, Copy, Default)]
-pub struct Few {
-    /// The number of pairs of overlapping adds and removes of one key, if at least one of the two returned true.
-    pub pairs: u64,
-    /// The number of losses and returns of keys if the undone change overlapped an add or remove of its key that
-    /// returned false and found the state before the change.
-    pub restored: u64,
 }
 
 /// The numbers of keys of a recording that adds many keys.
@@ -51,82 +66,12 @@ pub struct Growth {
     pub active: u64,
 }
 
-/// The maximum number of contradictions for the guess that a lock rarely fails.
-const MOST_RARE: usize = 7;
-
-/// The maximum number of earlier calls on a key that are checked for an overlap.
-const MOST_EARLIER: usize = 64;
-
-/// Returns whether two adds or removes overlap, and at least one of the two returned true.
-fn is_pair(one: Made, two: Made) -> bool {
-    let is_completed = one.reply.is_some() && two.reply.is_some();
-    let is_met = one.begun < two.begun && two.begun < one.ended;
-    is_completed && is_met && (one.changes() || two.changes())
-}
-
-/// Returns the number of pairs that `call` forms with the `MOST_EARLIER` calls before it.
-fn pairs_with(earlier: &[Made], call: Made) -> u64 {
-    let mut pairs = 0u64;
-    for one in earlier.iter().rev().take(MOST_EARLIER) {
-        let is_writer = one.operation != Operation::Contains;
-        pairs = pairs.saturating_add(u64::from(is_writer && is_pair(*one, call)));
-    }
-    pairs
-}
-
-/// Returns the number of pairs of overlapping adds and removes of a key, if at least one of the two returned true.
-fn pairs_in(calls: &[Made]) -> u64 {
-    let mut pairs = 0u64;
-    for (index, call) in calls.iter().enumerate() {
-        if call.operation != Operation::Contains {
-            let earlier = calls.get(..index).unwrap_or(&[]);
-            pairs = pairs.saturating_add(pairs_with(earlier, *call));
-        }
-    }
-    pairs
-}
-
 /// Returns whether a call is an add or remove that returned false, overlaps a change, and found the state before the
 /// change.
 pub fn is_refusal_during(call: Made, change: Made) -> bool {
     let is_refusal = call.reads() && call.operation != Operation::Contains;
     let is_met = call.begun < change.ended && change.begun < call.ended;
     is_refusal && is_met && call.needs() == change.makes().map(other)
-}
-
-/// Returns whether the change that a loss or return of a key undid overlapped a call that found the older state.
-fn is_restored(key: &KeyCalls, place: &Place) -> bool {
-    let Some(second) = place.clash.second else {
-        return false;
-    };
-    let Some(change) = key.change_before(place.clash.was, second.begun) else {
-        return false;
-    };
-    let end = key.begun_by(change.ended);
-    let earlier = key.calls.get(..end).unwrap_or(&[]);
-    place.is_gone()
-        && earlier
-            .iter()
-            .rev()
-            .take(MOST_EARLIER)
-            .any(|call| is_refusal_during(*call, change))
-}
-
-/// Returns the facts about few contradictions.
-fn few_of(runs: &Runs<'_>, keys: &[u32], found: &Found) -> Result<Few, AllocError> {
-    let mut few = Few::default();
-    if found.places.len() > MOST_RARE {
-        return Ok(few);
-    }
-    for key in keys {
-        few.pairs = few.pairs.saturating_add(pairs_in(runs.made_of(*key)));
-    }
-    for place in &found.places {
-        let key = runs.calls_of(place.key)?;
-        let is_restored = is_restored(&key, place);
-        few.restored = few.restored.saturating_add(u64::from(is_restored));
-    }
-    Ok(few)
 }
 
 /// Returns the remove that a wrong answer of `add` did not see. Returns `None` if two removes of the key overlap, since
@@ -241,7 +186,7 @@ const MANY_KEYS: usize = 64;
 const LEAST_PRESENT: u64 = 32;
 
 /// Many keys are added only if at least this many keys are in use at the same time.
-const LEAST_ACTIVE: u64 = 16;
+const LEAST_ACTIVE: u64 = 8;
 
 /// Returns whether a key has a call that began before a moment, and a call that ended after it. `calls` must be ordered
 /// by begin.
@@ -294,11 +239,12 @@ pub fn further_of(
         Some(odd) if odd.operation == Operation::Add => Further {
             unseen: unseen_of(runs, found, neighbours)?,
             outlasted: outlasted_of(alloc, &runs.recorded.calls, found, &odd)?,
+            moment,
             ..Further::default()
         },
         Some(_) => Further::default(),
         None => Further {
-            few: few_of(runs, keys, found)?,
+            moment,
             swap: swap_of(alloc, runs, found)?,
             growth: growth_of(alloc, runs, keys, moment)?,
             ..Further::default()

@@ -421,8 +421,8 @@ fn was_left_so(calls: &[Made], answer: Made) -> bool {
 /// The maximum number of earlier calls on a key that are checked for an overlap with a sampled call.
 const MOST_BEFORE: usize = 64;
 
-/// Returns whether another add or remove of the same key, successful or not, overlaps a sampled call.
-fn runs_beside(calls: &[Made], answer: Made) -> bool {
+/// Returns whether another add or remove of the same key, successful or not, overlaps a call.
+pub(crate) fn runs_beside(calls: &[Made], answer: Made) -> bool {
     let end = calls.partition_point(|call| call.begun < answer.ended);
     let earlier = calls.get(..end).unwrap_or(&[]).iter().rev();
     for call in earlier.take(MOST_BEFORE) {
@@ -479,7 +479,7 @@ fn count_around(sound: &KeyCalls, calls: &[Made], call: Made, odd: &mut Odd, wro
 const MOST_COMPARED: usize = 200;
 
 /// Returns whether the key was present after the last call that had ended before a moment.
-pub(crate) fn is_left_present(calls: &[Made], opening: Presence, moment: u64) -> bool {
+fn is_left_present(calls: &[Made], opening: Presence, moment: u64) -> bool {
     let (mut left, mut latest) = (Some(opening), 0);
     for call in calls {
         if call.begun >= moment {

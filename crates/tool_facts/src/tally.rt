@@ -1,3 +1,5 @@
+//! Counts of contradictions, by kind and by what ran at the same time.
+
 use crate::odd_facts::{more, percent};
 use lset_words::Presence;
 use std::alloc::{AllocError, Global};
@@ -5,132 +7,138 @@ use tool_calls::{
     Crossings, Fullness, KeyCalls, Made, Neighbours, Operation, Place, Sought, Symptom, other,
 };
 
-/// The numbers of contradictions of each kind. A loss is a key that became absent without a successful remove. A return
-/// is a key that became present without a successful add. Contradictions of one key do not overlap each other.
+/// Counts of contradictions. A contradiction is a few calls on one key that no order explains. Two counted
+/// contradictions of one key do not overlap in time. Percentages are compared with these counts to see what happens by
+/// chance.
 #[derive(Clone, Copy, Default)]
 pub struct Tally {
+    /// All contradictions that were found.
     pub places: u64,
+    /// Losses: a present key became absent, although no remove of the key returned true.
     pub lost: u64,
+    /// Returns of keys: an absent key became present, although no add of the key returned true.
     pub came_back: u64,
+    /// Contradictions between two overlapping adds of a key that both returned true.
     pub both_adds: u64,
+    /// Contradictions between two overlapping removes of a key that both returned true.
     pub both_removes: u64,
-    /// The number of wrong answers that missed a present key.
+    /// Contradictions with a single wrong answer (a call that changed nothing), which found a present key absent.
     pub missed: u64,
-    /// The number of wrong answers that found an absent key.
+    /// Contradictions with a single wrong answer (a call that changed nothing), which found an absent key present.
     pub found: u64,
-    /// The part of `found` that are adds: they returned false and changed nothing, although the key was absent.
+    /// The adds among `found`: they returned false and changed nothing, although their key was absent.
     pub refused_adds: u64,
-    /// The part of `missed` that are removes: they returned false and changed nothing, although the key was present.
+    /// The removes among `missed`: they returned false and changed nothing, although their key was present.
     pub refused_removes: u64,
-    /// The part of `refused_adds` and `refused_removes` that overlaps a change of another key.
+    /// How many of `refused_adds` and `refused_removes` overlap a change of another key.
     pub refused_beside: u64,
     /// The percentage of sampled adds and removes that overlap a change of another key.
     pub usually_refused_beside: u64,
-    /// The number of pairs of adds that both returned true, if the next change of the key is part of the next
-    /// contradiction: a return of the key, or a pair of removes that both returned true.
+    /// Pairs of adds that both returned true and seem to have inserted their key twice: the next change of the key is
+    /// part of another contradiction, in which the key returns or two removes both return true.
     pub doubled: u64,
+    /// Contradictions of no simple kind: they are in none of the counts above except `places`.
     pub others: u64,
-    /// The number of losses and returns of keys that would be repaired if an add or remove that returned false had
-    /// returned true.
+    /// Losses and returns of keys that would be explained if one add or remove had returned true instead of false.
     pub silent: u64,
-    /// The number of losses and returns of keys that the opposite reply of one call would repair.
+    /// Losses and returns of keys that would be explained if one call had returned the opposite reply.
     pub turned: u64,
-    /// The number of losses and returns of keys that a call shows, and that overlap a change of another key.
+    /// Losses and returns of keys that overlap a change of another key. Leaves out those that only the final keys show.
     pub beside: u64,
-    /// The part of `beside` that overlaps an add of another key.
+    /// How many of `beside` overlap an add of another key.
     pub added: u64,
-    /// The part of `beside` that overlaps a remove of another key.
+    /// How many of `beside` overlap a remove of another key.
     pub removed: u64,
-    /// The number of losses and returns of keys that a call shows, and that overlap no change of another key.
+    /// Losses and returns of keys that overlap no change of another key. Leaves out those that only the final keys
+    /// show.
     pub alone: u64,
-    /// The number of losses that follow overlapping changes of the key, with a successful remove among these changes.
+    /// Losses of a key right after overlapping changes of the same key, if one of these changes is a remove that
+    /// returned true.
     pub crossed: u64,
-    /// The number of losses that overlap at least one and at most `MOST_BESIDE` changes of other keys.
+    /// Losses that overlap at least one and at most `MOST_BESIDE` changes of other keys.
     pub sharp: u64,
-    /// The part of `sharp` that overlaps an add of another key.
+    /// How many of `sharp` overlap an add of another key.
     pub displaced: u64,
-    /// The part of `sharp` that overlaps a remove of another key.
+    /// How many of `sharp` overlap a remove of another key.
     pub unlinked: u64,
-    /// The number of losses that are shown by a later add of the key that returned true.
+    /// Losses that show because a later add of the key returned true.
     pub readded: u64,
-    /// The number of returned keys that a remove had removed. This remove is the first call of the contradiction.
+    /// Returns of keys that undo a known remove: the first call of the contradiction is a remove that returned true.
     pub undone: u64,
-    /// The part of `undone` with a loss of another key during the remove.
+    /// How many of `undone` had a loss of another key during this remove.
     pub swapped: u64,
-    /// The number of losses and returns of keys that a call shows, and that overlap a successful remove of a smaller
-    /// key.
+    /// Losses and returns of keys that overlap a successful remove of a smaller key. Leaves out those that only the
+    /// final keys show.
     pub below: u64,
-    /// The number of losses that a call shows within a short time.
+    /// Losses that a later call shows within 200 moments.
     pub short: u64,
-    /// The smallest number of keys that were known to be present at a loss that is counted in `short`.
+    /// The smallest number of keys that were known to be present at a loss counted in `short`.
     pub least_full: u64,
     /// The percentage of sampled calls that began while at least `least_full` keys were known to be present.
     pub usually_full: u64,
-    /// The percentage of comparison periods that overlap a change of another key. A comparison period is as long as a
-    /// loss or a return of a key, but begins later.
+    /// The percentage of comparison periods that overlap a change of another key. A comparison period lasts as long as
+    /// a loss or return of a key, and begins later.
     pub usual: u64,
-    /// The number of losses and returns of keys that a call shows, and that overlap a loss or return of another key.
+    /// Losses and returns of keys that overlap a loss or return of another key. Leaves out those that only the final
+    /// keys show.
     pub together: u64,
-    /// The percentage of comparison periods that overlap a loss or return of another key. A comparison period is as
-    /// long as a loss or a return of a key, but begins later.
+    /// The percentage of comparison periods that overlap a loss or return of another key. A comparison period lasts as
+    /// long as a loss or return of a key, and begins later.
     pub usually_together: u64,
-    /// The number of losses and returns of keys that a call shows, and that undo a known earlier change of the key.
+    /// Losses and returns of keys that undo a known change of the key. Leaves out those that only the final keys show.
     pub made: u64,
-    /// The part of `made` with a change of another key that overlapped the undone change, and began after the key's
-    /// previous opposite change had begun. The change of the other key can have read the set before the undone change,
-    /// and written the set afterwards.
+    /// How many of `made` can be due to a stale copy: a change of another key overlapped the undone change and began
+    /// after the key's previous opposite change had begun. The change of the other key can have read the set before the
+    /// undone change and written the set afterwards.
     pub fits: u64,
-    /// The part of `made` with another successful add or remove of the same key that overlapped the undone change.
+    /// How many of `made` undo a change that overlapped another successful add or remove of the same key.
     pub own: u64,
-    /// The number of losses that a call shows, if the add before the loss is known.
+    /// Losses that undo a known add of the key. Leaves out those that only the final keys show.
     pub placed: u64,
-    /// The part of `placed` with a successful add of another key that overlapped the add of the lost key.
+    /// How many of `placed` undo an add that overlapped a successful add of another key.
     pub with_add: u64,
-    /// The part of `placed` with a successful remove of another key that overlapped the add of the lost key.
+    /// How many of `placed` undo an add that overlapped a successful remove of another key.
     pub with_remove: u64,
-    /// The percentage of sampled successful adds that overlapped a successful add of another key.
+    /// The percentage of sampled successful adds that overlap a successful add of another key.
     pub usually_with_add: u64,
-    /// The percentage of sampled successful adds that overlapped a successful remove of another key.
+    /// The percentage of sampled successful adds that overlap a successful remove of another key.
     pub usually_with_remove: u64,
-    /// The number of wrong answers, and of losses and returns of keys that one opposite reply would repair.
+    /// Contradictions with a single wrong answer (a call that changed nothing), and losses and returns of keys that the
+    /// opposite reply of one call would explain. Leaves out those that only the final keys show.
     pub replies: u64,
-    /// The part of `replies` that overlaps a contradiction of another key that is counted in `replies`, too.
+    /// How many of `replies` overlap a contradiction of another key that is counted in `replies`, too.
     pub crossed_replies: u64,
     /// The percentage of comparison periods that overlap a contradiction of another key that is counted in `replies`. A
-    /// comparison period is as long as a contradiction, but begins later.
+    /// comparison period lasts as long as a contradiction, and begins later.
     pub usually_crossed: u64,
-    /// The number of losses that a call shows, with a successful add as the first call of the contradiction.
+    /// Losses whose contradiction begins with an add of the key that returned true.
     pub unadded: u64,
-    /// The part of `unadded` with a return of another key during the add.
+    /// How many of `unadded` had a return of another key during this add.
     pub swapped_adds: u64,
-    /// The part of `placed` with an add that began at most `SOON` moments after the last remove of the key had ended.
+    /// How many of `placed` undo an add that began at most `SOON` moments after the last remove of the key had ended.
     pub soon: u64,
-    /// The number of successful adds of refused keys that began at most `SOON` moments after a remove of the key had
-    /// ended.
+    /// Successful adds of refused keys that began at most `SOON` moments after the last remove of the key had ended.
     pub adds_soon: u64,
-    /// The number of successful adds of refused keys.
+    /// Successful adds of refused keys (keys whose calls have no order).
     pub adds: u64,
-    /// The number of successful adds that are followed by a call on the key, if no remove can have changed the key
-    /// before this next call.
+    /// Successful adds of refused keys that are followed by a call on the key before any remove can have changed the
+    /// key.
     pub followed_adds: u64,
-    /// The part of `followed_adds` that the next call on the key did not see.
+    /// How many of `followed_adds` the next call on the key did not see: this call found the key absent.
     pub unseen_adds: u64,
-    /// The number of successful removes that are followed by a call on the key, if no add can have changed the key
-    /// before this next call.
+    /// Successful removes of refused keys that are followed by a call on the key before any add can have changed the
+    /// key.
     pub followed_removes: u64,
-    /// The part of `followed_removes` that the next call on the key did not see.
+    /// How many of `followed_removes` the next call on the key did not see: this call found the key present.
     pub unseen_removes: u64,
-    /// The number of wrong answers that missed a present key and overlapped a change of another key.
+    /// How many of `missed` overlap a change of another key.
     pub missed_beside: u64,
-    /// The number of contradictions, of all kinds, during which no call of the recording began while another call was
-    /// running.
+    /// Contradictions during which no call of the recording began while another call was running.
     pub apart: u64,
-    /// The number of refused keys.
+    /// Refused keys: keys whose calls have no order.
     pub keys: u64,
-    /// The number of refused keys with calls that have no order even before the first counted contradiction begins.
+    /// Refused keys whose calls have no order even before the first counted contradiction begins.
     pub unplaced: u64,
-    /// The largest number of calls on one key that had begun by the end of a contradiction of that key.
-    pub begun: u64,
 }
 
 /// The maximum number of earlier contradictions that are searched for one that overlaps a period.
@@ -190,9 +198,6 @@ impl Tally {
     pub fn add(&mut self, place: &Place) {
         more(&mut self.places);
         self.add_kind(place);
-        self.begun = self
-            .begun
-            .max(u64::try_from(place.begun).unwrap_or(u64::MAX));
         if !place.is_gone() {
             return;
         }

@@ -6,7 +6,7 @@ use crate::patterns::Pattern;
 use crate::rates::put_ran;
 use std::alloc::{AllocError, Global};
 use tool_calls::{Made, NEVER};
-use tool_facts::{Cause, Evidence, Further, Growth, Odd, Tally};
+use tool_facts::{Cause, Evidence, Further, Growth, Meets, Odd, Share, Tally};
 
 /// Writes the fact that supports `cause`, if `contains` finds absent keys, or both finds absent keys and misses present
 /// keys.
@@ -82,6 +82,13 @@ fn put_because_of_missed(out: &mut String, odd: &Odd, cause: Cause) -> Result<()
                 "at {largest} of {compared} wrong answers the last call of every larger key had left that key absent"
             )
         }
+        Cause::Shortcut if odd.beside < odd.wrong => {
+            let (alone, wrong) = (odd.wrong.saturating_sub(odd.beside), odd.wrong);
+            writeln!(
+                out,
+                "no change of another key ran during {alone} of the {wrong} wrong answers"
+            )
+        }
         _ if odd.is_exact => writeln!(out, "it misses present keys and never finds an absent one"),
         _ => writeln!(out, "it misses present keys"),
     }
@@ -114,11 +121,8 @@ fn put_because_of_odd(out: &mut String, odd: &Odd, cause: Cause) -> Result<(), A
         | Cause::MarkOrCopy
         | Cause::ThreadCache
         | Cause::LateCopy => put_because_of_found(out, odd, cause),
-        Cause::NotSeenYet
-        | Cause::LastKey
-        | Cause::SizeFirst
-        | Cause::Shortcut
-        | Cause::MovedOrShortcut => { put_because_of_missed(out, odd, cause) }
+        Cause::NotSeenYet | Cause::LastKey | Cause::SizeFirst | Cause::Shortcut =>
+            put_because_of_missed(out, odd, cause),
         Cause::OneKey => writeln!(
             out,
             "it never found the {keys} of its {wrong} wrong answers, and found others"
@@ -131,12 +135,18 @@ fn put_because_of_odd(out: &mut String, odd: &Odd, cause: Cause) -> Result<(), A
             out,
             "a successful add of another key ran during {adding} of the {missed} wrong answers"
         ),
-        Cause::MovedKeys => put_ran(out, odd, "a change of another key", odd.beside, odd.usual),
+        Cause::MovedKeys | Cause::MovedOrShortcut => put_ran(
+            out,
+            odd,
+            "a change of another key",
+            odd.beside,
+            odd.usual,
+        ),
         Cause::HalfDone => {
             let what = "another add or remove of the key";
             put_ran(out, odd, what, odd.same, odd.usually_same)
         }
-        Cause::AddGivesUp => put_active(out, odd),
+        Cause::AddGivesUp | Cause::ContainsGivesUp => put_active(out, odd),
         Cause::RemoveGivesUp => put_given_up(out, odd),
         Cause::EndsEarly => writeln!(
             out,
@@ -149,11 +159,10 @@ fn put_because_of_odd(out: &mut String, odd: &Odd, cause: Cause) -> Result<(), A
 /// Writes the fact that supports `cause`, if replies are wrong or overlapping changes go wrong.
 fn put_because_of_calls(out: &mut String, tally: &Tally, cause: Cause) -> Result<(), AllocError> {
     let (gone, both, places) = (tally.gone(), tally.both(), tally.places);
-    let (silent, turned, begun) = (tally.silent, tally.turned, tally.begun);
+    let (silent, turned) = (tally.silent, tally.turned);
     let (crossed, lost) = (tally.crossed, tally.lost);
     let (adds, removes) = (tally.both_adds, tally.both_removes);
     match cause {
-        Cause::FirstUse => writeln!(out, "all is among the first {begun} calls of a key"),
         Cause::GoesOn => writeln!(
             out,
             "before {crossed} of the {lost} times that a key was lost, a remove was among overlapping changes of the key"
@@ -185,11 +194,11 @@ fn put_because_of_calls(out: &mut String, tally: &Tally, cause: Cause) -> Result
                 "after {doubled} of {adds} pairs of adds that both returned true, two removes returned true, too, or the key was found after the next remove"
             )
         }
-        Cause::Reused => {
-            let keys = tally.keys;
+        Cause::NeverFound => {
+            let (lost, adds) = (tally.unseen_adds, tally.followed_adds);
             writeln!(
                 out,
-                "an order fits until one moment, and then all {keys} keys are affected, and calls disagree while nothing changes the key"
+                "after {lost} of {adds} successful adds the next call found the key absent"
             )
         }
         _ => writeln!(out, "they disagree as long as nothing changes the key"),
@@ -210,26 +219,17 @@ fn put_because_of_unlinks(out: &mut String, further: &Further) -> Result<(), All
     )
 }
 
-/// Writes the fact that supports the cause `Inside`: few pairs of overlapping calls went wrong.
-fn put_because_of_few(
-    out: &mut String,
-    tally: &Tally,
-    further: &Further,
-) -> Result<(), AllocError> {
-    let (both, restored, pairs) = (tally.both(), further.few.restored, further.few.pairs);
-    if both > 0 {
-        write!(out, "{both} times two overlapping calls both returned true")?;
-        out.push_str(if restored > 0 { ", " } else { "" })?;
-    }
-    if restored > 0 {
-        write!(
-            out,
-            "{restored} times a change was undone that overlapped a call which found the older state"
-        )?;
-    }
+/// Writes the fact that supports `cause`, if calls at the same time undo each other.
+fn put_because_of_meets(out: &mut String, meets: &Meets, cause: Cause) -> Result<(), AllocError> {
+    let (what, share) = match cause {
+        Cause::SameKey => ("another add or remove of the key ran during", meets.own),
+        Cause::OtherKeys => ("a change of another key ran during", meets.others),
+        _ => ("among the first calls of their key are", meets.first),
+    };
+    let Share { count, of, usual } = share;
     writeln!(
         out,
-        ", although at least {pairs} pairs of changes and other calls of a key overlapped"
+        "{what} {count} of {of} changes that were undone or reported twice (of all changes: {usual} of 100)"
     )
 }
 
@@ -314,7 +314,7 @@ fn put_because_of_mixed(out: &mut String, tally: &Tally, cause: Cause) -> Result
                 "{soon} of {placed} lost adds began before or at most 20 moments after the end of the last successful remove of their key (of all adds of these keys: {usual} of {all})"
             )
         }
-        Cause::MovedKeys => {
+        Cause::MovedForAll => {
             let (beside, missed) = (tally.missed_beside, tally.missed);
             writeln!(
                 out,
@@ -534,8 +534,10 @@ fn put_because(
         return put_because_of_swap(out, one, two);
     }
     match cause {
-        Cause::FirstUse
-        | Cause::GoesOn
+        Cause::FirstUse | Cause::FirstCalls | Cause::SameKey | Cause::OtherKeys => {
+            put_because_of_meets(out, &evidence.meets, cause)
+        }
+        Cause::GoesOn
         | Cause::AddUndone
         | Cause::EarlierLook
         | Cause::MadeAgain
@@ -546,8 +548,8 @@ fn put_because(
         | Cause::OldCopyByAdd
         | Cause::OldCopyByRemove
         | Cause::InsertedTwice
-        | Cause::TwoPlaces
-        | Cause::Reused => put_because_of_calls(out, &evidence.tally, cause),
+        | Cause::NeverFound
+        | Cause::TwoPlaces => put_because_of_calls(out, &evidence.tally, cause),
         Cause::Displaced | Cause::Batch | Cause::Evicted => {
             put_because_of_lost(out, &evidence.tally, cause)
         }
@@ -563,9 +565,15 @@ fn put_because(
         | Cause::Cancelled
         | Cause::EffectLate
         | Cause::RemovedLater
-        | Cause::MovedKeys => { put_because_of_mixed(out, &evidence.tally, cause) }
+        | Cause::MovedForAll => { put_because_of_mixed(out, &evidence.tally, cause) }
         Cause::SharedWord => put_because_of_pairs(out, evidence),
-        Cause::Inside => put_because_of_few(out, &evidence.tally, further),
+        Cause::Reused => {
+            let (moment, keys, all) = (further.moment, evidence.tally.keys, evidence.keys);
+            writeln!(
+                out,
+                "the calls had an order until moment {moment}, and then {keys} of {all} keys are affected"
+            )
+        }
         Cause::Outgrown => match further.growth {
             Some(growth) => put_because_of_growth(out, evidence, growth),
             None => Ok(()),

@@ -12,11 +12,11 @@ fn answers_cause_text(cause: Cause) -> &'static str {
         Cause::NotSeenYet =>
             "contains does not look at what add changes first (it reads a cache, a counter, a second link)",
         Cause::TakenLater =>
-            "remove returns before the key has left what contains reads (a removal that is queued, delayed or copied later)",
+            "contains still finds a key after its remove has returned (a queue of removals, a copy or an index that is updated late)",
         Cause::Shortcut =>
-            "contains has a shortcut that returns false too early (a size, a filter, a bucket, a remembered node)",
+            "contains looks at less than the set (a size, a filter or summary bit, a cache of absent keys, a remembered node, adds still in a buffer)",
         Cause::MovedOrShortcut =>
-            "contains walks while other keys' changes move its key, or has a shortcut that returns false too early (a size, a filter)",
+            "contains misses a key that a change of another key moves at that time (rotation, split, displacement, growth, a reused node), or looks at less than the set (a size, a filter, a summary bit)",
         Cause::HalfDone =>
             "contains meets a half done add or remove of its key (a node linked too early, cut out or reused too early)",
         Cause::MarkOrCopy =>
@@ -26,15 +26,11 @@ fn answers_cause_text(cause: Cause) -> &'static str {
         Cause::ThreadCache =>
             "contains reads a cache of its thread, which changes by other threads do not update",
         Cause::MovedKeys =>
-            "the search walks while changes of other keys move its key or its way, and does not look again (a swap, a half moved bucket)",
+            "contains misses a key that a change of another key moves at that time (rotation, split, displacement, growth, a reused node), and does not look again",
         Cause::LateCopy =>
             "contains reads a copy that is updated after add and remove return (a cache, a replica)",
-        Cause::Successor =>
-            "contains walks while a remove moves its key (a tree: the next greater key takes the place of the removed one)",
         Cause::ThreadCopy =>
             "each thread reads a copy of its own, which changes by other threads reach late (a cache, a snapshot)",
-        Cause::InTransit =>
-            "keys are in neither of two places while many of them move (a resize, a flush, a copy to a new table)",
         Cause::OneKey => "a hash, a comparison, a filter or a limit treats a key unlike others",
         Cause::SomeKeys =>
             "contains treats some keys unlike others (a hash, a key that is cut short, a limit)",
@@ -42,15 +38,18 @@ fn answers_cause_text(cause: Cause) -> &'static str {
             "add takes a removed node that is still linked for a present one (a mark not checked, an unlink that was lost)",
         Cause::UnlinkLost =>
             "an unlink was lost, so a removed node stays linked, and add takes it for present (two removes side by side, without a lock)",
+        Cause::ContainsGivesUp =>
+            "contains gives up and returns false (a try-lock that fails, a limit of tries)",
         Cause::AddGivesUp =>
-            "add gives up and returns false (a failed exchange or lock that is not tried again)",
+            "add gives up and returns false (a failed compare-and-swap or try-lock that is not tried again)",
         Cause::LastKey =>
             "contains leaves out the last key (a loop or search with a bound that is too small)",
         Cause::EndsEarly =>
-            "the search ends too early, also without a race (a freed slot, a filter bit that another key cleared, a bound)",
+            "the search ends too early, also without a race (a bit or slot that another key cleared, a remembered node, adds still in a buffer, a bound)",
         Cause::RemoveShortcut =>
             "remove has a shortcut that returns false too early (a size that add updates late)",
-        _ => "remove gives up on a present key (a failed exchange, a walk that lost its way)",
+        _ =>
+            "remove misses a present key: it gives up (a failed compare-and-swap, a try-lock), or a change of another key moves the key at that time",
     }
 }
 
@@ -80,11 +79,19 @@ pub fn cause_text(cause: Cause) -> &'static str {
         Cause::TwoPlaces =>
             "calls test the key in two ways that no longer agree (a slot and its node, a mark and a link, a count below 0)",
         Cause::Reused =>
-            "a removed node is used again while another call still uses it (ABA), and the set stays broken",
-        Cause::Inside =>
-            "two calls of a key are, rarely, inside the lock at the same time (a missing fence, a lock released too early)",
+            "the structure is broken from one moment on (a removed node used again too early (ABA), a table or list that two calls change at once)",
+        Cause::SameKey =>
+            "calls of one key at the same time undo each other (a lock that lets two in, a failed compare-and-swap taken for success, a second write after the effect)",
+        Cause::FirstCalls =>
+            "two of the first calls of a key at the same time undo each other (each creates a bucket or node, or a failed compare-and-swap is taken for success)",
+        Cause::OtherKeys =>
+            "changes of different keys at the same time write over each other (a link that is not checked again, two locks for one bucket, a copy written back)",
+        Cause::NeverFound =>
+            "keys are added, but never found again (a comparison by identity, a hash that changes, a key cut short)",
+        Cause::MovedForAll =>
+            "a search misses a key that a change of another key moves at that time (rotation, split, displacement, growth)",
         Cause::Outgrown =>
-            "a table or array is copied to a larger one while calls still change the old one (growth)",
+            "changes are lost while many keys are added (a table copied to a larger one while calls still change the old one, or two changes of one bucket or array at once)",
         Cause::FirstUse =>
             "two first calls each create the same thing (a bucket, a node, a table), and one is lost",
         Cause::GoesOn =>
@@ -98,7 +105,7 @@ pub fn cause_text(cause: Cause) -> &'static str {
         Cause::BothCheck =>
             "check, then act, in add and in remove: two calls look before either changes the set (no lock, or one that lets both in)",
         Cause::AddChecks =>
-            "add checks, then acts: two adds look before either inserts (a check before the lock, and none after it)",
+            "add checks, then acts: two adds look before either inserts (a check before the lock, or a failed compare-and-swap tried again without a new search)",
         Cause::RemoveChecks =>
             "remove checks, then acts: two removes look before either takes the key out, and both report it",
         Cause::CarriedOutTwice =>
@@ -111,8 +118,6 @@ pub fn cause_text(cause: Cause) -> &'static str {
             "two adds at the same time take the same place, and one overwrites the other (a free or removed slot taken twice, a head stored over another)",
         Cause::AddLost =>
             "two adds at the same time both write, and one is lost, yet returns true (a failed compare-and-swap that is not checked)",
-        Cause::BehindUnlinked =>
-            "a key is added behind a node that is being removed (no mark, or a mark that add does not check)",
         Cause::OldCopyByAdd =>
             "add, but not remove, writes back what it read before, over newer changes (no compare-and-swap, or a lock released too early)",
         Cause::OldCopyByRemove =>
@@ -123,8 +128,6 @@ pub fn cause_text(cause: Cause) -> &'static str {
             "a call returns the reply of another call (a combiner or batch that hands replies to the wrong callers)",
         Cause::Borrowed =>
             "a call returns the reply of a call of another thread (a field or buffer that threads share)",
-        Cause::Stripes =>
-            "two changes in one bucket do not exclude each other (a lock of another stripe than the bucket, a link without a check)",
         Cause::MixedCalls =>
             "calls are mixed up: a call gets the reply or the key of another call (a combiner, a batch, a shared record)",
         Cause::OtherCall =>
@@ -137,12 +140,8 @@ pub fn cause_text(cause: Cause) -> &'static str {
             "add returns false although it has inserted the key (a failed check without an undo, a second attempt)",
         Cause::RemovedLater =>
             "a remove deletes the key late or again, and takes out a newer add (a queue of deletions, a helper, an unlink)",
-        Cause::OldLink =>
-            "a link is written without a check after the walk (behind a node unlinked meanwhile, or over a link changed meanwhile)",
-        Cause::Unlinked =>
-            "a node is linked to a neighbour that is being removed (no marks, or marks that are not checked)",
-        Cause::WrittenBack =>
-            "an older state of a neighbour is written back (a node, a queue of writes, an unchecked mark)",
+        Cause::OldLink | Cause::Unlinked | Cause::WrittenBack | Cause::BehindUnlinked =>
+            "changes of neighbouring keys write over each other's links (a node linked to one that is being removed, a mark or link not checked after the walk, two locks for one list)",
         Cause::Replaced | Cause::ReplacedAtOnce =>
             "a table, segment or copy is replaced while calls still change the old one (a resize, a compaction, a failover)",
         _ => answers_cause_text(cause),

@@ -14,5 +14,4 @@ mod shares;
 pub use because::because_text;
 pub use cause_texts::cause_text;
 pub use likely::likely_cause;
-pub use patterns::put_patterns;
 pub use rates::{put_ran, put_rate};

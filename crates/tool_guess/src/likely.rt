@@ -3,11 +3,11 @@
 use crate::likely_odd::cause_of_odd;
 use crate::likely_races::{
     FEW_KEYS, LEAST_BOTH, MANY_CALLS, cause_of_races, has_crossed_replies, has_other_replies,
-    is_first_use, is_old_copy_at_once, is_with,
+    is_first_use, is_of_other_key, is_old_copy_at_once, is_with, is_with_change,
 };
-use crate::patterns::{Pattern, is_borrowed, is_in_bursts};
+use crate::patterns::is_borrowed;
 use crate::shares::{ENOUGH, is_least, is_share, share_of_all};
-use tool_facts::{Cause, Evidence, Further, Tally};
+use tool_facts::{Cause, Evidence, Further, Share, Tally};
 
 /// The minimum number of keys for the guess that several of many keys change at the same time. The judges in tests use
 /// fewer keys in their first runs, so bugs that need no more keys are found there.
@@ -95,7 +95,7 @@ fn is_made_again(tally: &Tally) -> bool {
     let replies = tally.missed.saturating_add(tally.found);
     gone >= 2 * ENOUGH
         && tally.both() == 0
-        && is_share(tally.silent, gone, 60)
+        && is_share(tally.silent, gone, 80)
         && !has_crossed_replies(tally)
         && !is_least(replies, tally.places, 10)
 }
@@ -242,20 +242,6 @@ fn is_missed_beside(tally: &Tally) -> bool {
 /// The minimum number of adds and removes that returned false for the guess that they give up.
 const LEAST_REFUSED: u64 = 8;
 
-/// Returns whether each of a few contradictions is of two calls on a key that overlapped as if each ran alone: two
-/// calls of the same operation both returned true, or a change was undone that overlapped a call that found the state
-/// before the change. At least 100 times as many pairs of calls on a key must overlap. Not all contradictions can be
-/// pairs of one operation: a check in this operation explains these.
-fn is_rarely_inside(evidence: &Evidence, further: &Further) -> bool {
-    let tally = &evidence.tally;
-    let inside = tally.both().saturating_add(further.few.restored);
-    tally.places >= 2
-        && inside == tally.places
-        && tally.both_adds.max(tally.both_removes) < tally.places
-        && further.few.pairs >= tally.places.saturating_mul(100)
-        && !is_first_use(evidence)
-}
-
 /// Before this moment, a set has not grown yet.
 const GROWN: u64 = 200;
 
@@ -276,11 +262,60 @@ fn is_outgrown(evidence: &Evidence, further: &Further) -> bool {
         && tally.keys.saturating_mul(5) <= evidence.keys
 }
 
-/// Returns whether nearly all of the set breaks at one moment: a key's calls disagree for long, most contradictions are
-/// unclear, and all keys are affected.
-fn is_broken_for_good(evidence: &Evidence) -> bool {
+/// Returns whether the set breaks at one moment: until then the calls had an order, afterwards most contradictions are
+/// unclear, and nearly all keys are affected.
+fn is_broken_for_good(evidence: &Evidence, moment: u64) -> bool {
     let tally = &evidence.tally;
-    tally.keys >= 2 && tally.keys == evidence.keys && tally.others.saturating_mul(2) > tally.places
+    moment >= GROWN
+        && tally.keys >= 2
+        && is_least(tally.keys, evidence.keys, 75)
+        && tally.others.saturating_mul(2) > tally.places
+        && tally.places >= MANY_PLACES
+}
+
+/// The minimum number of contradictions for the guess that the set is broken for good.
+const MANY_PLACES: u64 = 20;
+
+/// Returns whether no call finds a key that was added, unless the add itself is still running.
+fn is_never_found(tally: &Tally) -> bool {
+    let lost = tally.unseen_adds;
+    lost >= 2 * ENOUGH && lost == tally.followed_adds && tally.unseen_removes == 0
+}
+
+/// Returns whether all cases have a property, and the probability of this by chance is less than `most` parts per
+/// million. Otherwise returns whether three quarters of the cases have the property, and the probability of this is
+/// less than one in twenty (Hoeffding's bound).
+fn is_usual(share: Share, most: u64) -> bool {
+    let percent = share.count.saturating_mul(100).checked_div(share.of);
+    let more = percent.unwrap_or(0).saturating_sub(share.usual);
+    let is_each = share.of > 0 && share.count == share.of;
+    (is_each && share_of_all(share.usual, share.of) < most)
+        || (is_share(share.count, share.of, 75)
+            && share.of.saturating_mul(more).saturating_mul(more) >= 15_000)
+}
+
+/// Returns the likely cause from the calls at the same time as the undone changes: calls of the same key, or changes of
+/// other keys.
+fn cause_of_meets(evidence: &Evidence) -> Option<Cause> {
+    let (tally, meets) = (&evidence.tally, &evidence.meets);
+    let (own, others, first) = (meets.own, meets.others, meets.first);
+    let both = tally.both();
+    let is_of_one_key = own.of == tally.places && own.count == own.of;
+    let is_enough = own.of.saturating_mul(2) >= tally.places;
+    if is_of_one_key && own.of > 0 && first.count == own.of && tally.came_back == 0 {
+        Some(Cause::FirstCalls)
+    } else if is_of_one_key && both > 0 && both >= tally.gone() {
+        Some(Cause::SameKey)
+    } else if is_enough && is_usual(own, 150_000) && others.count < own.count.max(1) {
+        Some(Cause::SameKey)
+    } else if is_enough
+        && (is_usual(others, 100_000)
+            || (!is_least(tally.turned, tally.gone(), 90) && is_with_change(tally)))
+    {
+        Some(Cause::OtherKeys)
+    } else {
+        None
+    }
 }
 
 /// Returns the likely cause if most contradictions are single adds and removes that returned false and changed nothing,
@@ -333,33 +368,37 @@ pub fn likely_cause(evidence: &Evidence, further: &Further) -> Option<Cause> {
     if let Some(odd) = &evidence.odd {
         return cause_of_odd(odd, further, evidence);
     }
-    if evidence.split.is_some_and(|split| split.is_long()) {
-        return Some(if is_broken_for_good(evidence) {
-            Cause::Reused
-        } else {
-            Cause::TwoPlaces
-        });
+    if is_never_found(&evidence.tally) {
+        return Some(Cause::NeverFound);
     }
-    let cause = match cause_of_replies(evidence, further) {
+    if is_broken_for_good(evidence, further.moment) {
+        return Some(Cause::Reused);
+    }
+    if evidence.split.is_some_and(|split| split.is_long()) {
+        return Some(Cause::TwoPlaces);
+    }
+    if is_first_use(evidence) {
+        return Some(Cause::FirstUse);
+    }
+    let cause = match cause_of_replies(evidence) {
         Some(cause) => Some(cause),
         None => cause_of_changes(evidence, further),
     };
     match cause {
         None if further.swap.is_some() => Some(Cause::OtherReply),
         None if is_old_copy_at_once(evidence) => Some(Cause::OldCopyAtOnce),
+        None => cause_of_meets(evidence),
         cause => cause,
     }
 }
 
 /// Returns the likely cause if replies are those of other calls, if calls act as if each ran alone, or if changes take
 /// effect at other times than during their calls.
-fn cause_of_replies(evidence: &Evidence, further: &Further) -> Option<Cause> {
+fn cause_of_replies(evidence: &Evidence) -> Option<Cause> {
     let tally = &evidence.tally;
     let effect = cause_of_effects(evidence);
     if is_borrowed(&evidence.patterns) {
         Some(Cause::Borrowed)
-    } else if is_rarely_inside(evidence, further) {
-        Some(Cause::Inside)
     } else if effect.is_some() {
         effect
     } else if evidence.bound.is_some() && is_least(tally.gone(), tally.places, 30) {
@@ -369,11 +408,7 @@ fn cause_of_replies(evidence: &Evidence, further: &Further) -> Option<Cause> {
     } else if is_check_then_act(tally) {
         Some(check_then_act(tally))
     } else if is_missed_beside(tally) {
-        Some(if is_in_bursts(&evidence.patterns) {
-            Cause::InTransit
-        } else {
-            Cause::MovedKeys
-        })
+        Some(Cause::MovedForAll)
     } else {
         cause_of_refusals(tally)
     }
@@ -381,11 +416,12 @@ fn cause_of_replies(evidence: &Evidence, further: &Further) -> Option<Cause> {
 
 /// Returns the likely cause if changes undo each other, or if a single thread is enough for a contradiction.
 fn cause_of_changes(evidence: &Evidence, further: &Further) -> Option<Cause> {
-    if Pattern::Strides.is_clear(&evidence.patterns) {
-        return Some(Cause::Stripes);
-    }
     if is_unlinked(evidence) {
-        return Some(Cause::Unlinked);
+        return Some(if is_of_other_key(&evidence.tally) {
+            Cause::OtherKey
+        } else {
+            Cause::Unlinked
+        });
     }
     if is_made_again(&evidence.tally) {
         return Some(Cause::MadeAgain);
@@ -400,7 +436,12 @@ fn cause_of_changes(evidence: &Evidence, further: &Further) -> Option<Cause> {
 /// Returns the cause `Outgrown` in place of no cause, or in place of a table that is replaced, if many keys are added
 /// and few of them are affected.
 fn or_outgrown(evidence: &Evidence, further: &Further, cause: Option<Cause>) -> Option<Cause> {
-    let is_open = matches!(cause, None | Some(Cause::Replaced | Cause::ReplacedAtOnce));
+    let is_open = matches!(
+        cause,
+        None | Some(
+            Cause::Replaced | Cause::ReplacedAtOnce | Cause::SharedPlace | Cause::BehindUnlinked
+        )
+    );
     if is_open && is_outgrown(evidence, further) {
         Some(Cause::Outgrown)
     } else {

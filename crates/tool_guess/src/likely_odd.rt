@@ -1,6 +1,6 @@
 //! The likely cause if one operation alone is wrong.
 
-use crate::patterns::{Pattern, is_borrowed, is_in_bursts};
+use crate::patterns::{Pattern, is_borrowed};
 use crate::shares::{ENOUGH, is_least, share_of_all};
 use tool_calls::Operation;
 use tool_facts::{Cause, Evidence, Further, Odd, Patterns};
@@ -30,21 +30,6 @@ fn is_beside_each(odd: &Odd) -> bool {
         && share_of_all(odd.usually_active, odd.wrong) < 1_000
 }
 
-/// Returns whether the wrong answers overlapped another add or remove of their key or a change of another key hardly
-/// more often than the other answers did.
-fn is_beside_by_habit(odd: &Odd) -> bool {
-    let share = odd.active.saturating_mul(100).checked_div(odd.wrong);
-    odd.wrong >= 5 && share.unwrap_or(0) <= odd.usually_active.saturating_add(10)
-}
-
-/// Returns whether all wrong answers overlapped another add or remove of any key, successful or not, more often than by
-/// chance.
-fn is_beside_writers(odd: &Odd) -> bool {
-    odd.wrong >= LEAST_BESIDE
-        && odd.writing == odd.wrong
-        && share_of_all(odd.usually_writing, odd.wrong) < 100_000
-}
-
 /// Returns `true` if `some` is at least three quarters of the wrong answers that missed a present key.
 fn are_most(some: u64, odd: &Odd) -> bool {
     some.saturating_mul(4) >= odd.missed.saturating_mul(3)
@@ -71,34 +56,40 @@ fn cause_of_misses(odd: &Odd) -> Option<Cause> {
         Some(Cause::LastKey)
     } else if needs_no_overlap(odd) {
         Some(Cause::EndsEarly)
-    } else if is_beside_others(odd) || is_beside_writers(odd) {
-        Some(moved(odd))
-    } else if is_lasting(odd) {
-        Some(Cause::Shortcut)
-    } else if is_passing(odd) && odd.wrong >= LEAST_BESIDE && is_least(odd.active, odd.wrong, 90) {
-        Some(moved(odd))
-    } else if odd.missed < LEAST_WRONG {
-        is_beside_each(odd).then_some(Cause::MovedOrShortcut)
-    } else if is_beside_by_habit(odd) || !is_least(odd.active, odd.wrong, 80) {
-        Some(if odd.is_exact && is_least(odd.active, odd.wrong, 50) {
-            Cause::MovedOrShortcut
-        } else {
-            Cause::Shortcut
-        })
+    } else if is_half_done(odd) {
+        Some(Cause::HalfDone)
+    } else if odd.beside < odd.wrong && is_passing_often(odd) {
+        Some(Cause::ContainsGivesUp)
+    } else if odd.beside < odd.wrong && is_often_beside(odd) && !is_lasting(odd) {
+        (odd.wrong >= LEAST_MISSED).then_some(Cause::MovedOrShortcut)
+    } else if odd.beside < odd.wrong {
+        (odd.wrong >= LEAST_MISSED).then_some(Cause::Shortcut)
+    } else if share_of_all(odd.usual, odd.wrong) < 100_000 {
+        // (a key is missed while it is moved only if the change that moves it is running)
+        Some(Cause::MovedKeys)
     } else {
-        Some(Cause::MovedOrShortcut)
+        Some(if is_lasting(odd) {
+            Cause::Shortcut
+        } else {
+            Cause::MovedOrShortcut
+        })
     }
 }
 
-/// Returns the likely cause if `contains` is wrong while other calls run: calls on its own key, if such calls ran
-/// during most wrong answers and clearly more often than during other answers, and otherwise changes of other keys.
-fn moved(odd: &Odd) -> Cause {
+/// Returns whether changes of other keys ran during most wrong answers, and other adds and removes, successful or not,
+/// during all of them. (A call that returns false can move keys, too.)
+fn is_often_beside(odd: &Odd) -> bool {
+    odd.writing == odd.wrong && is_least(odd.beside, odd.wrong, 65)
+}
+
+/// The minimum number of wrong answers for the guess that `contains` looks at less than the set.
+const LEAST_MISSED: u64 = 3;
+
+/// Returns whether other adds and removes of the key ran during most of many wrong answers, and clearly more often than
+/// during other answers.
+fn is_half_done(odd: &Odd) -> bool {
     let least = odd.usually_same.saturating_add(25).max(75);
-    if is_least(odd.same, odd.wrong, least) {
-        Cause::HalfDone
-    } else {
-        Cause::MovedKeys
-    }
+    odd.wrong >= LEAST_BESIDE && is_least(odd.same, odd.wrong, least)
 }
 
 /// The minimum number of wrong answers for a guess, unless a fact applies to all or nearly all wrong answers.
@@ -138,9 +129,9 @@ fn cause_of_finds(odd: &Odd) -> Option<Cause> {
         is_clear.then_some(Cause::MarkNotRead)
     } else if odd.found >= 3 && is_least(odd.starting, odd.found, 90) {
         Some(Cause::SeenEarly)
-    } else if odd.starting.saturating_mul(2) < odd.found && is_once_present {
+    } else if odd.found >= 3 && odd.starting.saturating_mul(2) < odd.found && is_once_present {
         let unseen = odd.by_same.saturating_add(odd.by_others);
-        let is_soon = odd.found < 50 && is_least(odd.soon, unseen, 90);
+        let is_soon = odd.running > 0 && odd.found < 50 && is_least(odd.soon, unseen, 90);
         Some(if is_soon {
             Cause::MarkOrCopy
         } else {
@@ -159,15 +150,6 @@ fn cause_of_pattern(odd: &Odd, patterns: &Patterns) -> Option<Cause> {
         Some(Cause::ThreadCopy)
     } else if is_both_ways && is_borrowed(patterns) {
         Some(Cause::Borrowed)
-    } else if odd.found > 0 || odd.running == odd.missed || is_size(odd) {
-        None
-    } else if is_in_bursts(patterns) {
-        Some(Cause::InTransit)
-    } else if Pattern::Successors.is_clear(patterns)
-        && is_least(patterns.successors.count, patterns.successors.of, 80)
-        && !needs_no_overlap(odd)
-    {
-        Some(Cause::Successor)
     } else {
         None
     }
@@ -180,7 +162,11 @@ fn cause_of_contains(odd: &Odd) -> Option<Cause> {
     } else if odd.missed > 0 && odd.found > 0 {
         let is_moved = odd.wrong >= 8 && is_least(odd.active, odd.wrong, 95);
         if is_moved && is_beside_others(odd) {
-            Some(moved(odd))
+            Some(if is_half_done(odd) {
+                Cause::HalfDone
+            } else {
+                Cause::MovedKeys
+            })
         } else if is_passing(odd) && odd.active == odd.wrong {
             // (a copy that is updated late is wrong also while no change runs)
             None
@@ -223,9 +209,10 @@ fn is_for_good(odd: &Odd, further: &Further) -> bool {
         && is_least(further.unseen.count, further.unseen.of, 60)
 }
 
-/// Returns whether many answers are wrong, and the next answers are right.
+/// Returns whether many answers are wrong, and most next answers are right.
 fn is_passing_often(odd: &Odd) -> bool {
-    odd.wrong >= LEAST_WRONG && is_passing(odd)
+    let next = odd.then_right.saturating_add(odd.then_wrong);
+    odd.wrong >= LEAST_WRONG && odd.is_exact && is_least(odd.then_right, next, 75)
 }
 
 /// Returns whether another call outlasts each of at least five wrong answers, and the chance of that is less than one

@@ -3,12 +3,22 @@
 use crate::shares::{ENOUGH, is_least, is_share, share_of_all};
 use tool_facts::{Cause, Evidence, Tally};
 
-/// Returns `true` if all contradictions are among the first calls on their keys.
+/// Returns whether at least two contradictions, and nearly all contradictions of the recording, began while the first
+/// calls on their keys ran, and no key returned. Other adds and removes of the key must have run during at least half of the undone changes,
+/// or the probability by chance must be less than one in a thousand.
 pub(crate) fn is_first_use(evidence: &Evidence) -> bool {
-    let tally = evidence.tally;
-    let calls = evidence.calls.checked_div(evidence.keys).unwrap_or(0);
-    let is_repeated = tally.places > 1 && tally.gone() > 0 && tally.unplaced == 0;
-    is_repeated && calls > tally.begun.saturating_mul(25)
+    let (first, own) = (evidence.meets.first, evidence.meets.own);
+    let chance = share_of_all(first.usual, first.of);
+    first.of >= 2
+        && evidence.tally.came_back == 0
+        && first.count == first.of
+        && is_least(first.of, evidence.tally.places, 90)
+        && chance
+            < if is_least(own.count, own.of, 50) {
+                100_000
+            } else {
+                1_000
+            }
 }
 
 /// Returns `true` if losses and returns of keys overlap changes of other keys hardly more often than other periods do.
@@ -59,7 +69,7 @@ fn cause_of_old_state(evidence: &Evidence) -> Option<Cause> {
     let is_below = evidence.keys <= FEW_KEYS && is_least(tally.below, tally.timed(), 85);
     let is_of_others = !is_least(tally.own, tally.made, 35);
     let least = if is_twice && is_even && is_of_others {
-        55
+        62
     } else {
         75
     };
@@ -73,7 +83,7 @@ fn cause_of_old_state(evidence: &Evidence) -> Option<Cause> {
         None
     } else if is_below && is_least(tally.removed, tally.timed(), 97) {
         Some(Cause::Unlinked)
-    } else if is_least(tally.fits, tally.made, least) {
+    } else if tally.made >= 4 * ENOUGH && is_least(tally.fits, tally.made, least) {
         Some(old_copy(tally, Cause::OldCopy))
     } else if is_below {
         Some(Cause::WrittenBack)
@@ -88,7 +98,7 @@ pub(crate) fn is_with(count: u64, of: u64, usual: u64) -> bool {
 }
 
 /// Returns whether the adds of lost keys overlap adds or removes of other keys clearly more often than other adds do.
-fn is_with_change(tally: &Tally) -> bool {
+pub(crate) fn is_with_change(tally: &Tally) -> bool {
     is_with(tally.with_add, tally.placed, tally.usually_with_add)
         || is_with(tally.with_remove, tally.placed, tally.usually_with_remove)
 }
@@ -183,7 +193,7 @@ fn is_of_other_calls(tally: &Tally) -> bool {
 }
 
 /// Returns whether a remove seems to remove another key instead of its own, and wrong replies are rare.
-fn is_of_other_key(tally: &Tally) -> bool {
+pub(crate) fn is_of_other_key(tally: &Tally) -> bool {
     let replies = tally.missed.saturating_add(tally.found);
     let is_beside = is_with(tally.with_remove, tally.placed, tally.usually_with_remove);
     let is_written_over = is_least(tally.fits, tally.made, 60);
@@ -277,7 +287,8 @@ pub(crate) fn is_earlier_look(tally: &Tally) -> bool {
     let (both, gone) = (tally.both(), tally.gone());
     let is_enough = gone >= 2 * ENOUGH && both >= 3 && is_share(both, tally.places, 5);
     let is_each = gone >= 4 * ENOUGH && is_share(tally.turned, gone, 97);
-    is_each || (is_enough && is_share(tally.turned, gone, 90))
+    let is_all = gone >= ENOUGH && both >= 2 && tally.turned == gone;
+    is_each || is_all || (is_enough && is_share(tally.turned, gone, 90))
 }
 
 /// If keys have at least this many calls, it is no coincidence that each key has only one contradiction.
@@ -286,9 +297,6 @@ pub(crate) const MANY_CALLS: u64 = 30;
 /// Returns the likely cause if several operations are wrong while calls overlap.
 pub(crate) fn cause_of_races(evidence: &Evidence) -> Option<Cause> {
     let tally = &evidence.tally;
-    if is_first_use(evidence) {
-        return Some(Cause::FirstUse);
-    }
     let is_mostly_lost = tally.came_back.saturating_mul(4) <= tally.lost;
     let has_few_twice = tally.both().saturating_mul(5) <= tally.places;
     if has_few_twice && is_mostly_lost && is_share(tally.crossed, tally.lost, 60) {

@@ -172,6 +172,7 @@ fn shows(place: &Place, cause: Option<Cause>, is_odd: bool, neighbours: &Neighbo
         }
         Some(
             Cause::OldLink
+            | Cause::OtherKeys
             | Cause::OldCopy
             | Cause::OldCopyAtOnce
             | Cause::OtherKey
@@ -187,11 +188,16 @@ fn shows(place: &Place, cause: Option<Cause>, is_odd: bool, neighbours: &Neighbo
             }
             None => false,
         },
-        Some(Cause::MovedKeys | Cause::AddGivesUp | Cause::RemoveShortcut | Cause::GivesUpBeside) =>
-            match place.wrong {
-                Some(wrong) => neighbours.overlap(wrong.key, wrong.begun, wrong.ended, None),
-                None => true,
-            },
+        Some(
+            Cause::MovedKeys
+            | Cause::MovedForAll
+            | Cause::AddGivesUp
+            | Cause::RemoveShortcut
+            | Cause::GivesUpBeside,
+        ) => match place.wrong {
+            Some(wrong) => neighbours.overlap(wrong.key, wrong.begun, wrong.ended, None),
+            None => true,
+        },
         _ => is_odd || place.symptom != Symptom::Unclear,
     }
 }

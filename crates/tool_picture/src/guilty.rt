@@ -166,7 +166,7 @@ impl Diagnosis {
             until: place.clash.until,
         };
         match self.cause? {
-            Cause::MovedKeys | Cause::GivesUpBeside => {
+            Cause::MovedKeys | Cause::MovedForAll | Cause::GivesUpBeside => {
                 self.beside_during(wrong?, sought.during(wrong?))
             }
             Cause::RemoveShortcut => {
@@ -196,7 +196,7 @@ impl Diagnosis {
                 self.change_during(wrong?, Some(Operation::Add))
             }
             Cause::HalfDone => self.change_during(wrong?, None),
-            Cause::Inside => self.refusal_during(first?),
+            Cause::SameKey => self.refusal_during(first?),
             Cause::Reused => self.add_during_remove(),
             _ => None,
         }

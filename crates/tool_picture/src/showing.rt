@@ -474,7 +474,7 @@ impl Diagnosis {
         }
         let stretches = stretches_of(alloc, key)?;
         // (if two calls were inside at the same time, the call that shows it is right)
-        let is_right = matches!(self.cause, Some(Cause::Inside));
+        let is_right = matches!(self.cause, Some(Cause::SameKey));
         let second = clash.second.filter(|_| place.wrong.is_none() && !is_right);
         for call in [place.wrong, place.silent, second].into_iter().flatten() {
             if is_expected(alloc, key, &stretches, clash, call)? {

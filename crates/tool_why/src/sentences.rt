@@ -3,8 +3,8 @@
 use lset_words::Presence;
 use std::alloc::AllocError;
 use tool_calls::{Made, NEVER, Operation, Place, Split, Symptom, other, state_word};
-use tool_facts::{Odd, Tally};
-use tool_guess::{put_patterns, put_ran, put_rate};
+use tool_facts::{Meets, Odd, Tally};
+use tool_guess::{put_ran, put_rate};
 use tool_picture::Diagnosis;
 
 /// Writes a line such as `contains(3) returned true, expected false`.
@@ -295,15 +295,6 @@ fn put_split(out: &mut String, split: &Split) -> Result<(), AllocError> {
     writeln!(out, "{removes} remove absent, {votes} contains {state}")
 }
 
-/// Returns whether something happened clearly more often while keys were lost or came back than at other times.
-fn is_told_beside(tally: &Tally) -> bool {
-    tally.timed() >= LEAST_TIMED
-        && (is_more(tally.beside, tally.timed(), tally.usual)
-            || is_more(tally.together, tally.timed(), tally.usually_together)
-            || is_more(tally.with_add, tally.placed, tally.usually_with_add)
-            || is_more(tally.with_remove, tally.placed, tally.usually_with_remove))
-}
-
 /// Writes during how many contradictions no two calls overlapped, if it is at least 10 percent. Writes nothing if most
 /// contradictions are unclear, since after an early error many later calls disagree.
 fn put_apart(out: &mut String, tally: &Tally) -> Result<(), AllocError> {
@@ -318,47 +309,24 @@ fn put_apart(out: &mut String, tally: &Tally) -> Result<(), AllocError> {
     )
 }
 
-/// Returns whether a share of contradictions is clearly larger than the usual percentage.
+/// Writes which calls ran at the same time as the changes that were undone, or that two calls reported.
+fn put_meets(out: &mut String, meets: &Meets) -> Result<(), AllocError> {
+    let (of, own, others, first) = (meets.own.of, meets.own, meets.others, meets.first);
+    let (met, usual, beside, usually) = (own.count, own.usual, others.count, others.usual);
+    let (early, often) = (first.count, first.usual);
+    if of == 0 {
+        return Ok(());
+    }
+    writeln!(
+        out,
+        "during {met} of {of} changes that were undone or reported twice another add or remove of the key ran (of all changes: {usual} of 100), during {beside} a change of another key ({usually} of 100); {early} were among the first calls of their key ({often} of 100)"
+    )
+}
+
+/// Returns whether a share of wrong answers is clearly larger than the usual percentage.
 fn is_more(count: u64, of: u64, usual: u64) -> bool {
     let least = usual.saturating_add(25);
     count >= 2 && count.saturating_mul(100) >= of.saturating_mul(least)
-}
-
-/// The minimum number of lost and returned keys for the lines about what happened meanwhile.
-const LEAST_TIMED: u64 = 4;
-
-/// Writes what happened while keys were lost or came back clearly more often than at other times.
-fn put_gone_beside(out: &mut String, tally: &Tally) -> Result<(), AllocError> {
-    let (beside, timed, usual) = (tally.beside, tally.timed(), tally.usual);
-    let (together, usually) = (tally.together, tally.usually_together);
-    let placed = tally.placed;
-    if is_more(beside, timed, usual) {
-        writeln!(
-            out,
-            "a change of another key ran during {beside} of the {timed} times that a key was lost or came back, but only during {usual} of 100 other times"
-        )?;
-    }
-    if is_more(together, timed, usually) {
-        writeln!(
-            out,
-            "{together} of the {timed} times that a key was lost or came back, this happened to another key, too, meanwhile (expected by chance: {usually} of 100)"
-        )?;
-    }
-    let (adds, usual) = (tally.with_add, tally.usually_with_add);
-    if is_more(adds, placed, usual) {
-        writeln!(
-            out,
-            "a successful add of another key ran during the add of {adds} of the {placed} lost keys, but only during {usual} of 100 successful adds"
-        )?;
-    }
-    let (removes, usual) = (tally.with_remove, tally.usually_with_remove);
-    if is_more(removes, placed, usual) {
-        writeln!(
-            out,
-            "a successful remove of another key ran during the add of {removes} of the {placed} lost keys, but only during {usual} of 100 successful adds"
-        )?;
-    }
-    Ok(())
 }
 
 /// Writes which calls ran during the only wrong answer, whether the picture shows those of its key, and whether the
@@ -486,15 +454,14 @@ pub(crate) fn put_known(out: &mut String, diagnosis: &Diagnosis) -> Result<(), A
         }
         None => put_tally(out, diagnosis)?,
     }
-    if diagnosis.cause.is_none() && diagnosis.evidence.tally.timed() >= LEAST_TIMED {
-        put_gone_beside(out, &diagnosis.evidence.tally)?;
+    if diagnosis.cause.is_none() {
+        put_meets(out, &diagnosis.evidence.meets)?;
     }
     if let Some(split) = diagnosis.evidence.split.filter(|split| split.is_long()) {
         put_split(out, &split)?;
-    } else if diagnosis.cause.is_none() && !is_told_beside(&diagnosis.evidence.tally) {
+    } else if diagnosis.cause.is_none() {
         put_apart(out, &diagnosis.evidence.tally)?;
     }
-    put_patterns(out, &diagnosis.evidence.patterns, diagnosis.cause)?;
     if diagnosis.evidence.is_part {
         let calls = diagnosis.evidence.calls;
         writeln!(out, "only the first {calls} calls were looked at")?;
