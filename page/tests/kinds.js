@@ -292,15 +292,23 @@ module.exports = ({ draw, pick, replyOf, keysAfter, paddingAfter }) => {
         return reply;
       }, 4, 2, ["add", "remove", "contains", "contains"]);
     },
-    function firsts() { // two of the first calls of a key each create its bucket, and the one that was created first is lost
-      const buckets = new Map();
-      return madeBy([1, 2, 3, 4, 5, 6, 7, 8], 8, ({ call, set, open }) => {
-        const isFirst = !buckets.has(call.key) || buckets.get(call.key) === 1;
-        const isMet = open.some((one) => one !== call && one.key === call.key);
-        buckets.set(call.key, isMet ? (buckets.get(call.key) ?? 0) + 1 : 2);
-        if (isFirst && isMet && call.operation === "add") set.put(call.key, false);
-        return set.take(call);
-      });
+    function firsts() { // the first two adds of a key overlap, and some of these pairs both return true
+      const [calls, left] = [[], []];
+      let moment = 0;
+      for (let key = 1; key <= 6; key++) {
+        const [both, present] = [draw(3) > 0, [[], [key]]];
+        calls.push({ thread: 0, operation: "add", key, begun: moment + 1, ended: moment + 4, reply: String(both) }, { thread: 1, operation: "add", key, begun: moment + 2, ended: moment + 3, reply: "true" });
+        moment += 4;
+        let isPresent = true;
+        for (let count = 15; count > 0; count--) {
+          const operation = pick(["add", "remove", "contains"]);
+          const reply = replyOf({ operation, key }, present[Number(isPresent)], true);
+          if (reply === "true" && operation !== "contains") isPresent = !isPresent;
+          calls.push({ thread: draw(3), operation, key, begun: ++moment, ended: ++moment, reply });
+        }
+        if (isPresent) left.push(key);
+      }
+      return recordingOf(calls, [], left);
     },
     function neverFound() { // a key that is added is never found
       return madeBy([1, 2, 5, 6].slice(draw(2)), 20, ({ call, set }) => {
@@ -310,10 +318,10 @@ module.exports = ({ draw, pick, replyOf, keysAfter, paddingAfter }) => {
     },
     function broken() { // from one moment on, all replies are arbitrary
       let calls = 0;
-      return madeBy([1, 2, 5, 6], 60, ({ call, set }) => {
+      return madeBy([1, 2, 3, 4, 5, 6, 7, 8, 9, 10], 22, ({ call, set }) => {
         calls++;
-        return calls > 130 ? String(draw(2) === 0) : set.take(call);
-      }, 3, 1);
+        return calls > 105 ? String(draw(2) === 0) : set.take(call);
+      }, 2, 1);
     },
     function borrowed() { // a call returns the reply that was stored last, perhaps by another thread
       let last = null;

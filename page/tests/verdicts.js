@@ -15,8 +15,8 @@ const met = new Set(); // the patterns that some sentence has matched
 const [verdictOnCalls, verdictOnLacking, verdictOn] = ["verdictOnCalls", "verdictOnLacking", "verdictOn"].map(inPage);
 const [OwnAnswer, exerciseOf, readReport, LACKING] = ["OwnAnswer", "exerciseOf", "readReport", "LACKING"].map(inPage);
 const LAST = Infinity;
-const LONG = ["inside", "growing", "unlinked", "outlasted", "ownCopies", "borrowed"]; // kinds with long recordings
-const OF_FACTS = ["inside", "unlinked", "outlasted", "ownCopies", "borrowed"]; // only the facts of these kinds are checked
+const LONG = ["inside", "growing", "unlinked", "outlasted", "ownCopies", "broken", "borrowed"]; // kinds with long recordings
+const OF_FACTS = ["inside", "unlinked", "outlasted", "ownCopies", "broken", "borrowed"]; // only the facts of these kinds are checked
 
 // ---- Random numbers, which are the same each time this script runs with the same seed.
 
@@ -1089,7 +1089,7 @@ async function main() {
     checkOwn(ask);
   }
   for (const drawn of kindsOf({ draw, pick, replyOf, keysAfter, paddingAfter })) {
-    const count = LONG.includes(drawn.name) ? CASES / 3 : CASES;
+    const count = drawn.name === "broken" ? CASES / 50 : LONG.includes(drawn.name) ? CASES / 3 : CASES; // (a case of `broken` takes seconds)
     for (let number = 0; number < count; number++) checkKind(ask, drawn);
   }
   // (few calls contain too few facts to guess a cause)
