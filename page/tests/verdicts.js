@@ -16,6 +16,7 @@ const [verdictOnCalls, verdictOnLacking, verdictOn] = ["verdictOnCalls", "verdic
 const [OwnAnswer, exerciseOf, readReport, LACKING] = ["OwnAnswer", "exerciseOf", "readReport", "LACKING"].map(inPage);
 const LAST = Infinity;
 const LONG = ["inside", "growing", "unlinked", "outlasted", "ownCopies", "broken", "borrowed"]; // kinds with long recordings
+const MOST_LONG = 60; // the most cases of a kind with long recordings: a case takes up to a second, so 4,000 of each kind would take hours
 const OF_FACTS = ["inside", "unlinked", "outlasted", "ownCopies", "broken", "borrowed"]; // only the facts of these kinds are checked
 
 // ---- Random numbers, which are the same each time this script runs with the same seed.
@@ -1089,7 +1090,7 @@ async function main() {
     checkOwn(ask);
   }
   for (const drawn of kindsOf({ draw, pick, replyOf, keysAfter, paddingAfter })) {
-    const count = drawn.name === "broken" ? CASES / 50 : LONG.includes(drawn.name) ? CASES / 3 : CASES; // (a case of `broken` takes seconds)
+    const count = drawn.name === "broken" ? Math.min(CASES / 50, 5) : LONG.includes(drawn.name) ? Math.min(CASES / 3, MOST_LONG) : CASES; // (a case of `broken` takes seconds)
     for (let number = 0; number < count; number++) checkKind(ask, drawn);
   }
   // (few calls contain too few facts to guess a cause)
