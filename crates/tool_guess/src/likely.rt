@@ -95,7 +95,7 @@ fn is_made_again(tally: &Tally) -> bool {
     let replies = tally.missed.saturating_add(tally.found);
     gone >= 2 * ENOUGH
         && tally.both() == 0
-        && is_share(tally.silent, gone, 80)
+        && is_share(tally.silent, gone, 70)
         && !has_crossed_replies(tally)
         && !is_least(replies, tally.places, 10)
 }
