@@ -45,7 +45,10 @@ fn undone_by(key: &KeyCalls, place: &Place) -> Option<Made> {
     match place.symptom {
         Symptom::BothTrue(_) => place.clash.second,
         _ if place.is_gone() => {
-            let shown = place.clash.second.map_or(NEVER, |second| second.begun);
+            let shown = place
+                .clash
+                .second
+                .map_or(NEVER, |second| second.begun.saturating_sub(1));
             key.change_before(place.clash.was, shown)
         }
         _ => None,
