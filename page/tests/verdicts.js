@@ -862,7 +862,7 @@ const OF_WHY = [
     const keys = new Set([...keysOf(it), ...it.padding.map(({ key }) => key)]);
     const isUsed = (key) => calls.some((call) => call.key === key && call.begun < Number(moment)) && calls.some((call) => call.key === key && (call.ended ?? LAST) > Number(moment));
     return Number(from) === it.opening.length && Number(to) === present.size && Number(hit) === keysOf(it).filter((key) => !hasOrderOf(it, key)).length && Number(all) === keys.size
-      && Number(active) <= [...keys].filter(isUsed).length && Number(active) >= 16;
+      && Number(active) <= [...keys].filter(isUsed).length && Number(active) >= 8;
   }],
   [/^because (\d+) adds of an absent key and (\d+) removes of a present key returned false and changed nothing(?:; a change of another key ran during (\d+) of them, but only during (\d+) of 100 adds and removes)?$/,
     (it, [adds, removes, beside, usual], { tally }) => {
