@@ -623,8 +623,7 @@ class Run:
                     if self.there.broken:  # (the run was cut short)
                         return
                     self.save(file, map(line_of, rows), rows[-1].begin)
-                # Does not mark the last lines as saved: if the run is still cut short, they are written again, followed
-                # by `cut`.
+                # Does not mark the last lines as saved: if the run is still cut short, `cut` replaces them.
                 file.write("".join([*left, "end\n"] if None not in left else ["cut\n"]).encode())
         except threading.BrokenBarrierError:
             pass
