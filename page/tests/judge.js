@@ -17,7 +17,7 @@ function check(name, isGood) {
 
 const wordIn = (report) => [...report.matchAll(/^place (\d+) (\S+)$/gm)].map(([, id, reply]) => `${id}-${reply}`);
 
-// Checks at each level that the replayer's order is accepted, and that a reversed order gets the same verdict as from `check`.
+// Checks at each level of difficulty that the order of the replayer is accepted, and that a reversed order gets the same verdict as from `check`.
 function checkLevels(ask, name, report) {
   const places = wordIn(report);
   for (const level in LEVELS) {

@@ -138,7 +138,7 @@ function falseIn(claims, sentence, facts) {
   };
   return claims.filter(isFalse).map(([words]) => words.source);
 }
-const seen = new Set(); // the claims that some sentence has made
+const seen = new Set(); // the patterns that some sentence has matched
 
 // Returns the sentences of a run, each with the patterns of the false statements in it.
 function readRun(trace) {

@@ -3,9 +3,9 @@ import { callText, colourOf, label, letterOf, tag, title } from "../run/markup.j
 
 export const HISTORY_LEFT = 50;
 const HISTORY_RIGHT = 16;
-const LEAST_STEP = 7; // least pixels of one event
+const LEAST_STEP = 7; // minimum width of an event, in pixels
 const BAR = 20; // pixels: the height of a bar
-const BELOW = 6; // pixels between a bar and the labels of the next lane
+const BELOW = 6; // pixels between a bar and the labels of the next thread's bars
 
 // Returns the first and last event to draw: all events if they fit, else a window that moves by a third of its width.
 function windowOf(total, count, room) {

@@ -62,7 +62,7 @@ function foldedChain(chain, important, most) {
   return items.map((item) => (item.names.length === 1 ? { name: item.names[0], names: item.names } : item));
 }
 
-// Returns the largest unit and heights that fit the stage. They depend on the run and not on the current step, so that nothing jumps.
+// Returns the largest scale (pixels per unit of the drawing) that fits the stage, and the heights. They depend on the run and not on the current step, so that nothing jumps.
 function unitsOf(state, room, slots, isFlat) {
   const form = formOf(room);
   const least = Math.max(form.least, room.least ?? 0);

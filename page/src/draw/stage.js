@@ -20,7 +20,7 @@ function nodeInWords(state, name, { aside }, hasNames) {
 
 function drawNode(state, name, place, event, room) {
   const { x, y, width, row, key, aside } = place;
-  const middle = y + key / 2 + 4.5; // the baseline of the key, below the hands on the upper edge
+  const middle = y + key / 2 + 4.5; // the baseline of the key; the labels of threads are above, on the upper edge of the node
   const isNamed = room.names && /^n\d/.test(name);
   const node = state.nodes[name];
   const isMarked = node.link.endsWith("*");

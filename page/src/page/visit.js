@@ -104,7 +104,7 @@ const ADDRESSES = {
   assignment: addressOfAssignment,
 };
 
-// Returns the address of a state, or null if it has none. `given` has the packed course, or null for the book.
+// Returns the address of a state, or null if it has none. `given.course` is the open course, packed for an address, or null for the book's course.
 export function addressIn(state, given) {
   const { place, task, run, exercise } = state;
   if (place.slide > 0) return slideAddress(place.slide);

@@ -73,7 +73,7 @@ function saidHere({ run, spec }, moment) {
   return `${before} <b>${callText(call)} returns ${answer}.</b>`;
 }
 
-const LABEL = 18; // units: the smallest text of a drawing
+const LABEL = 18; // the smallest font size of a drawing, in units of the drawing
 const HIDDEN = { false: ["succ"], true: [] }; // the path shows pred and curr only; the code of the lock-free list also uses succ
 export const lockShown = ({ list, plain, locks = true }) => (!locks || plain ? "" : list === "coarse" ? "list" : list === "lock-free" ? "" : "nodes");
 

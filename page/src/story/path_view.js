@@ -67,7 +67,7 @@ function draw(state) {
   byId("scene").dataset.stage = state.stage;
 }
 
-// Draws the table for the shown event. An unchanged table is not drawn again, so that a screen reader does not read it again.
+// Draws the table of the numbers that the list should have and has, for the shown event. An unchanged table is not drawn again, so that a screen reader does not read it again.
 function redrawLedger() {
   const ledger = part(".ledger");
   const { run } = scene.figure;
