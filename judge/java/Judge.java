@@ -291,28 +291,29 @@ public final class Judge {
         }
     }
 
-    /** No order explains the run. */
+    /** Thrown if no order explains a run. */
     public static final class NotLinearizable extends Failed {
         private static final long serialVersionUID = 1;
 
         NotLinearizable(long seed, String said, Path file, String text) { super(seed, said, file, text); }
     }
 
-    /** The set ended its JVM, hung or threw during the run. The run's earlier calls were judged. */
+    /** Thrown if the set ended its JVM, hung or threw during a run. The run's earlier calls were judged. */
     public static final class CutShort extends Failed {
         private static final long serialVersionUID = 1;
 
         CutShort(long seed, String said, Path file, String text) { super(seed, said, file, text); }
     }
 
-    /** Fewer calls than the options require overlapped a call that changed the same key. */
+    /** Thrown if fewer calls than the options require overlapped a call that changed the same key. */
     public static final class TooFew extends AssertionError {
         private static final long serialVersionUID = 1;
 
         TooFew(String why) { super(why); }
     }
 
-    /** Nothing is known about the set: an option is out of range, no set could be created, or no judge was found. */
+    /** Thrown if nothing is known about the set: an option is out of range, no set could be created, or no judge was
+     * found. */
     public static final class NoVerdict extends RuntimeException {
         private static final long serialVersionUID = 1;
 

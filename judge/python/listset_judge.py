@@ -152,20 +152,20 @@ class Failed(AssertionError):
 
 
 class NotLinearizable(Failed):
-    """No order explains the run."""
+    """Raised if no order explains a run."""
 
 
 class CutShort(Failed):
-    """The set crashed, hung or raised during the run. The run's earlier calls were judged."""
+    """Raised if the set crashed, hung or raised an error during a run. The run's earlier calls were judged."""
 
 
 class TooFew(AssertionError):
-    """Fewer calls than `at_least` requires overlapped a call that changed the same key."""
+    """Raised if fewer calls than `at_least` requires overlapped a call that changed the same key."""
 
 
 class NoVerdict(Exception):
-    """Nothing is known about the set: an option is out of range, no set could be created, the set lacks one of the three
-    calls, or no judge was found.
+    """Raised if nothing is known about the set: an option is out of range, no set could be created, the set lacks one
+    of the three calls, or no judge was found.
     """
 
 
