@@ -7,7 +7,7 @@ import re
 import shutil
 
 TOP = pathlib.Path(__file__).resolve().parent.parent
-# Names of the crates that are tests. ./gate builds them without a proof.
+# Matches the names of the test crates, which ./gate builds without a proof.
 TESTS = re.compile(r"tests_\w+|memory_calls")
 LEFT_OUT = shutil.ignore_patterns(".git", "out", "dist", "target", "__pycache__", "must-fail")
 NO_EDITS = shutil.ignore_patterns("out", "must-fail")
@@ -25,7 +25,7 @@ def lines_of(root=TOP):
 
 
 def tests():
-    """Returns the names of the crates that are tests."""
+    """Returns the names of the test crates."""
     return [it for it in lines_of() if TESTS.fullmatch(it)]
 
 

@@ -50,8 +50,8 @@ def _group():
 
 
 def guarded():
-    """Returns a prefix for a command. When the script ends, even if it is killed, the command and all its child
-    processes are killed.
+    """Returns a prefix for a command. A command with the prefix, and all its child processes, are killed when the
+    script ends, even if the script is killed.
     """
     with _lock:
         if _is_ending:

@@ -139,6 +139,7 @@ def take_program(name, room, began):
     program.parent.mkdir(exist_ok=True)
     shutil.copy2(made, f"{program}.new")
     version_stamp.stamp(f"{program}.new", version_stamp.PROVED)
-    # With the start of the build as its time, the program is older than sources that were edited during the build.
+    # The program gets the time at which the build began, so that it counts as older than sources edited during the
+    # build.
     os.utime(f"{program}.new", (began, began))
     os.replace(f"{program}.new", program)

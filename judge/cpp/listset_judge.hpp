@@ -236,8 +236,8 @@ inline uint64_t number_of(const char *variable, uint64_t other, uint64_t least, 
     return found;
 }
 
-// Applies the environment variables. LISTSET_SECONDS repeats runs for this many seconds, with seeds counting up from
-// the current time. LISTSET_SEED sets the first seed.
+// Applies the environment variables. LISTSET_SECONDS is the number of seconds for which runs are repeated, with seeds
+// that count up from the current time. LISTSET_SEED is the first seed.
 inline options by_environment(options how) {
     const unsigned seconds = unsigned(number_of("LISTSET_SECONDS", 0, 1, RANGES[6].most));
     if (seconds) how.within = seconds, how.runs = RANGES[4].most, how.seed = unsigned(std::time(nullptr));
@@ -1048,8 +1048,8 @@ template <class Make, class Key> struct tester {
         return {best, runs > 1 ? say(REFUSED_OF, refused, runs) : ""};
     }
 
-    // Writes calls on one key that no order explains to a small file beside the recording. Returns the part of the
-    // message that names this file.
+    // Writes a small file beside the recording, with calls on one key that no order explains. Returns the part of the
+    // message that names the file.
     std::string alone(const std::string &path, const std::string &number) const {
         const std::string text = number.empty() || !by.only ? "" : by.only(path, number), file = path.substr(0, path.size() - 6) + "-key-" + number + ".calls";
         return !text.empty() && std::ofstream(file) << text << std::flush ? say(ALONE, file) : "";

@@ -86,8 +86,8 @@ func (o Options) check() error {
 	return nil
 }
 
-// byEnvironment applies the environment variables. LISTSET_SECONDS repeats runs for this many seconds, with seeds
-// counting up from the current time. LISTSET_SEED sets the first seed.
+// byEnvironment applies the environment variables. LISTSET_SECONDS is the number of seconds for which runs are
+// repeated, with seeds that count up from the current time. LISTSET_SEED is the first seed.
 func (o Options) byEnvironment() (Options, error) {
 	seconds, err := numberOf("LISTSET_SECONDS", 0, 1, int64(ranges[6].most))
 	if seconds > 0 {
@@ -216,7 +216,8 @@ func most(a, b int) int {
 	return b
 }
 
-// most returns the maximum of of over the sizes of all presets, as modified by the options.
+// most returns the largest value that the function of returns for the sizes of a preset. The presets are modified by
+// the options.
 func (o Options) most(of func(size) int) (most int) {
 	for i := range presets {
 		if its := of(o.shapeOf(int64(i + 1)).size); its > most {

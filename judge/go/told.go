@@ -143,8 +143,8 @@ func keyLine(a *area, number int) string {
 	return fmt.Sprintf(sayKeyIs, number, a.nameOf(key)) + a.inSet(key)
 }
 
-// alone writes calls on one key that no order explains to a small file beside the recording. It returns the part of the
-// message that names this file.
+// alone writes a small file beside the recording, with calls on one key that no order explains. It returns the part of
+// the message that names the file.
 func (r *recording) alone(by *judgeFound, key string) string {
 	if by.command == nil {
 		return ""

@@ -47,10 +47,9 @@ import java.util.stream.Stream;
  * new sets. The start and the end of each call are recorded. {@code listset judge FILE} decides whether some order of
  * the calls explains their replies.
  *
- * <p>The environment variable LISTSET names the program {@code listset}; if LISTSET is not set, {@code listset} in PATH
- * is used. LISTSET
- * can also name a listset.js, which is run with node. If LISTSET is {@code skip}, the test is skipped the way JUnit or
- * TestNG does it.
+ * <p>The environment variable LISTSET names the program {@code listset}; if LISTSET is not set, {@code listset} in
+ * PATH is used. LISTSET can also name a listset.js, which is run with node. If LISTSET is {@code skip}, the test is
+ * skipped the way JUnit or TestNG does it.
  *
  * <p>The sets are called in a separate JVM, if the method references can be sent to it and a set can be created in it.
  * If a set ends the separate JVM or hangs, the calls made so far are judged.
@@ -173,7 +172,8 @@ public final class Judge {
         public Options withSeed(long it) { return with(made -> made.seed = it); }
 
         /**
-         * Sets after how many seconds in which no call begins or ends a run is cut short: 1 to 3,600.
+         * Sets the time limit for a run that hangs, in seconds: 1 to 3,600. A run is cut short if no call begins or
+         * ends for this time.
          */
         public Options withSeconds(int it) { return with(made -> made.seconds = it); }
 
@@ -235,8 +235,8 @@ public final class Judge {
         }
 
         /**
-         * Applies the environment variables. LISTSET_SECONDS repeats runs for this many seconds, with seeds counting up
-         * from the current time. LISTSET_SEED sets the first seed.
+         * Applies the environment variables. LISTSET_SECONDS is the number of seconds for which runs are repeated, with
+         * seeds that count up from the current time. LISTSET_SEED is the first seed.
          */
         private Options byEnvironment() {
             int seconds = (int) numberOf("LISTSET_SECONDS", 0, 1, RANGES[6].most);
@@ -524,8 +524,8 @@ public final class Judge {
         }
 
         /**
-         * Writes calls on one key that no order explains to a small file beside the recording. Returns the part of the
-         * message that names this file.
+         * Writes a small file beside the recording, with calls on one key that no order explains. Returns the part of
+         * the message that names the file.
          */
         private String alone(Path file, String key) throws IOException {
             Answer answer = program.answer("judge", "--only", key, file.toString());
@@ -656,7 +656,7 @@ public final class Judge {
 
         private int saved() { return SAVES + get(SAVE) * SAVED; }
 
-        /** Writes lines after the saved lines. Returns the length of the file. */
+        /** Writes {@code lines} to the file, after the saved lines. Returns the new length of the file. */
         long write(String lines) throws IOException {
             try (FileChannel file = FileChannel.open(Path.of(text(FILE)), StandardOpenOption.WRITE)) {
                 long length = memory.getLong(saved());

@@ -184,8 +184,8 @@ class Options(collections.namedtuple("Options", "threads calls keys key pauses r
             raise NoVerdict(f"record is {self.record!r}, but must be the path of a folder")
 
     def by_environment(self) -> Options:
-        """Applies the environment variables. LISTSET_SECONDS repeats runs for this many seconds, with seeds counting up
-        from the current time. LISTSET_SEED sets the first seed.
+        """Applies the environment variables. LISTSET_SECONDS is the number of seconds for which runs are repeated, with
+        seeds that count up from the current time. LISTSET_SEED is the first seed.
         """
         most = {name: most for name, _, most in RANGES}
         seconds = number_of("LISTSET_SECONDS", None, 1, most["within"])
@@ -417,8 +417,8 @@ class Tester:
         return lines + (AND_MORE % (len(pending) - MOST_SHOWN) if len(pending) > MOST_SHOWN else "") or " no call"
 
     def alone(self, file: pathlib.Path, key: str) -> str:
-        """Writes calls on one key that no order explains to a small file beside the recording. Returns the part of the
-        message that names this file.
+        """Writes a small file beside the recording, with calls on one key that no order explains. Returns the part of
+        the message that names the file.
         """
         text = self.by.only(file, key) if key else ""
         if not text:

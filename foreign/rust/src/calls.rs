@@ -44,18 +44,19 @@ extern "C" {
 }
 
 pub fn of_room(function: OfRoom) -> Result<String, Wrong> {
-    // SAFETY: `asked` passes pointers to a buffer of this size and to a status. Nothing else uses the buffer or the status.
+    // SAFETY: `asked` passes pointers to a buffer of `size` bytes and to a status. Nothing else uses the buffer or the
+    // status.
     asked(|room, size, status| unsafe { function(room, size, status) })
 }
 
 pub fn of_text(function: OfText, text: &[u8]) -> Result<String, Wrong> {
-    // SAFETY: `asked` passes pointers to a buffer of this size and to a status. Nothing else uses the buffer or the
+    // SAFETY: `asked` passes pointers to a buffer of `size` bytes and to a status. Nothing else uses the buffer or the
     // status. The text is borrowed during the call.
     asked(|room, size, status| unsafe { function(text.as_ptr(), text.len(), room, size, status) })
 }
 
 pub fn of_two_texts(function: OfTwoTexts, text: &[u8], options: &[u8]) -> Result<String, Wrong> {
-    // SAFETY: `asked` passes pointers to a buffer of this size and to a status. Nothing else uses the buffer or the
+    // SAFETY: `asked` passes pointers to a buffer of `size` bytes and to a status. Nothing else uses the buffer or the
     // status. Both texts are borrowed during the call.
     asked(|room, size, status| unsafe {
         function(text.as_ptr(), text.len(), options.as_ptr(), options.len(), room, size, status)

@@ -158,7 +158,7 @@ impl Area {
 
     // ---- its file
 
-    /// Writes lines after the saved lines. Returns the length of the file.
+    /// Writes `lines` to the file, after the saved lines. Returns the new length of the file.
     pub fn write(&self, lines: &str) -> io::Result<u64> {
         let [low, high, _] = self.saved();
         let length = u64::from(high) << 32 | u64::from(low);

@@ -198,8 +198,8 @@ impl Options {
         }
     }
 
-    /// Applies the environment variables. `LISTSET_SECONDS` repeats runs for this many seconds, with seeds counting up
-    /// from the current time. `LISTSET_SEED` sets the first seed.
+    /// Applies the environment variables. `LISTSET_SECONDS` is the number of seconds for which runs are repeated, with
+    /// seeds that count up from the current time. `LISTSET_SEED` is the first seed.
     fn by_environment(&self) -> Result<Options, Failure> {
         let mut it = self.clone();
         let seconds = number_of("LISTSET_SECONDS", 0, 1, RANGES[6].most as u32)?;

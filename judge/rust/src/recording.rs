@@ -137,8 +137,8 @@ impl<'a> Recording<'a> {
         }
     }
 
-    /// Writes calls on one key that no order explains to a small file beside the recording. Returns the part of the
-    /// message that names this file.
+    /// Writes a small file beside the recording, with calls on one key that no order explains. Returns the part of the
+    /// message that names the file.
     fn alone(&self, key: u32) -> String {
         let stem = self.path.file_stem().unwrap_or_default().to_string_lossy();
         let small = self.path.with_file_name(format!("{stem}-key-{key}.calls"));
