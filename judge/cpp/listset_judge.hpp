@@ -1021,7 +1021,7 @@ template <class Make, class Key> struct tester {
         return it;
     }
 
-    // Performs a run with these sizes. Returns no value if the run is cut short or cannot be judged.
+    // Performs and judges a run with the sizes `it`. Returns no value if the run is cut short or cannot be judged.
     std::optional<outcome> further_run(uint64_t seed, const shape &it, clock::time_point until) const {
         try {
             outcome found = judged_run(seed, it, until);
@@ -1076,7 +1076,7 @@ template <class Make, class Key> struct tester {
         return found.said.empty() ? passed(all) : failed(all, found, until);
     }
 
-    // Returns the verdict after a failed run. Further runs end at the time `until`.
+    // Returns the verdict after the failed run `first`. Further runs end at the time `until`.
     verdict failed(verdict all, const outcome &first, clock::time_point until) const {
         const auto [found, refused_of] = first.is_cut_short ? std::pair(first, std::string()) : clearest(first, until);
         found.text->is_kept = true;

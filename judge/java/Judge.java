@@ -488,7 +488,8 @@ public final class Judge {
             return best;
         }
 
-        /** Performs a run with these sizes. Returns null if the run is cut short or cannot be judged. */
+        /** Performs and judges a run with the sizes {@code shape}. Returns null if the run is cut short or cannot be
+         * judged. */
         private Outcome furtherRun(long seed, Shape shape, long most) {
             try {
                 Outcome its = outcome(seed, shape, most);

@@ -373,7 +373,8 @@ class Tester:
         return best, REFUSED_OF % (refused, runs) if runs > 1 else ""
 
     def further(self, seed: int, shape: Shape, until: float) -> Outcome | None:
-        """Performs a run with these sizes. Returns None if the run is cut short or cannot be judged."""
+        """Performs and judges a run with the sizes `shape`. Returns None if the run is cut short or cannot be judged.
+        """
         try:
             its = self.outcome(seed, shape, until)
         except (NoVerdict, OSError):
