@@ -989,8 +989,8 @@ template <class Make, class Key> struct tester {
         return lines.empty() ? " no call" : lines;
     }
 
-    // Returns the part of the message that states that a run has more overlapping calls than its preset, or an empty
-    // string.
+    // Returns the part of the message that states that the run's sizes were changed because few calls overlapped.
+    // Returns an empty string if the run has the sizes of its preset.
     std::string made_harder(uint64_t seed, const shape &it) const {
         const shape first = shape_of(seed);
         return it.threads == first.threads && it.calls == first.calls && it.keys == first.keys ? "" : MADE_HARDER;

@@ -174,8 +174,8 @@ func (o Options) shapeOf(seed int64) shape {
 	return s
 }
 
-// madeHarder returns the part of the message that states that a run has more overlapping calls than its preset, or an
-// empty string.
+// madeHarder returns the part of the message that states that the run's sizes were changed because few calls
+// overlapped. It returns an empty string if the run has the sizes of its preset.
 func (o Options) madeHarder(seed int64, s size) string {
 	first := o.shapeOf(seed)
 	if s.threads == first.threads && s.calls == first.calls && s.keys == first.keys {

@@ -508,8 +508,8 @@ public final class Judge {
             return FAILED_RUN.formatted(its.said, its.seed, shape.name, shape.threads, madeHarder(its.seed, shape) + notes + named, file, alone, program);
         }
 
-        /** Returns the part of the message that states that a run has more overlapping calls than its preset, or an
-         * empty string. */
+        /** Returns the part of the message that states that the run's sizes were changed because few calls overlapped.
+         * Returns an empty string if the run has the sizes of its preset. */
         private String madeHarder(long seed, Shape it) {
             Shape first = how.shapeOf(seed);
             return it.threads == first.threads && it.calls == first.calls && it.keys == first.keys ? "" : MADE_HARDER;

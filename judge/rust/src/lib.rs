@@ -186,8 +186,8 @@ impl Options {
         }
     }
 
-    /// Returns the part of the message that states that a run has more overlapping calls than its preset, or an empty
-    /// string.
+    /// Returns the part of the message that states that the run's sizes were changed because few calls overlapped.
+    /// Returns an empty string if the run has the sizes of its preset.
     fn made_harder(&self, seed: u64, it: Shape) -> String {
         let first = self.shape_of(seed);
         let is_same = (it.threads, it.calls, it.keys) == (first.threads, first.calls, first.keys);
