@@ -124,8 +124,8 @@ def numbers():
 
 
 def apart():
-    """Checks that a seat (one thread's access to the set) never gathers a seat of another set, among more sets than 16 bits
-    can number.
+    """Checks that a seat (one thread's access to the set) cannot be merged with a seat of another set, even among more
+    sets than 16 bits can number.
     """
     mine, found = listset.open_set("lazy", 1, 0), set()
 
