@@ -836,7 +836,7 @@ const OF_WHY = [
     return wrong.length >= Number(all) && wrong.filter(isMet).length >= Number(some) && Number(some) <= Number(all) && Number(usual) <= 100;
   }],
   [/^because they disagree as long as nothing changes the key$/, () => true],
-  [/^fact during (\d+) of (\d+) changes that were undone or reported twice another add or remove of the key ran \(of all changes: (\d+) of 100\), during (\d+) a change of another key \((\d+) of 100\); (\d+) were among the first calls of their key \((\d+) of 100\)$/, (it, [own, all, usual, others, beside, first, early]) =>
+  [/^fact another add or remove of the key ran during (\d+) of (\d+) changes that were undone or reported twice \(of all changes: (\d+) of 100\), a change of another key during (\d+) \((\d+) of 100\); (\d+) were among the first calls of their key \((\d+) of 100\)$/, (it, [own, all, usual, others, beside, first, early]) =>
     isOfUndone(it, "own", own, all, usual) && isOfUndone(it, "others", others, all, beside) && isOfUndone(it, "first", first, all, early)],
   [/^because (another add or remove of the key|a change of another key) ran during (\d+) of (\d+) changes that were undone or reported twice \(of all changes: (\d+) of 100\)$/, (it, [what, some, all, usual]) =>
     isOfUndone(it, what.startsWith("another") ? "own" : "others", some, all, usual)],

@@ -314,12 +314,12 @@ fn put_meets(out: &mut String, meets: &Meets) -> Result<(), AllocError> {
     let (of, own, others, first) = (meets.own.of, meets.own, meets.others, meets.first);
     let (met, usual, beside, usually) = (own.count, own.usual, others.count, others.usual);
     let (early, often) = (first.count, first.usual);
-    if of == 0 {
+    if of < 2 {
         return Ok(());
     }
     writeln!(
         out,
-        "during {met} of {of} changes that were undone or reported twice another add or remove of the key ran (of all changes: {usual} of 100), during {beside} a change of another key ({usually} of 100); {early} were among the first calls of their key ({often} of 100)"
+        "another add or remove of the key ran during {met} of {of} changes that were undone or reported twice (of all changes: {usual} of 100), a change of another key during {beside} ({usually} of 100); {early} were among the first calls of their key ({often} of 100)"
     )
 }
 
