@@ -104,8 +104,7 @@ struct options {
     bool own_process = true;
     /// If true, `contains` is called for each key before all other calls to record the opening keys.
     bool opens_with_keys = false;
-    /// Functions that each thread that creates or calls a set calls at its beginning (`begins`) and at its end
-    /// (`ends`).
+    /// Called in each thread that creates or calls a set: `begins` when the thread begins, `ends` when it ends.
     std::function<void()> begins = nullptr, ends = nullptr;
     /// The folder for the recordings of all runs. If empty, only the recording of a failed run is kept, in the folder that
     /// the variable LISTSET_RECORD names, or else in TMPDIR or /tmp.

@@ -632,7 +632,7 @@ class Run:
             self.there.abort()
 
     def save(self, file, lines, last):
-        """Appends lines to the file, and marks all calls that began at the moment `last` or earlier as saved."""
+        """Appends `lines` to the file, and marks all calls that began no later than the moment `last` as saved."""
         text = "".join(lines).encode()
         file.write(text)
         # If the process ends before the next statement, the calls in `lines` count as not saved, and are read from

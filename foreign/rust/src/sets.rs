@@ -164,8 +164,8 @@ pub struct Seat {
 // SAFETY: the crate ffi_sets proves that the contents of a seat can be passed to another thread.
 unsafe impl Send for Seat {}
 
-// SAFETY: no function has a parameter `&Seat`, so threads that share a `&Seat` cannot use it. (`Sync` is required
-// because `?` converts an error with a seat to `Box<dyn Error + Send + Sync>`.)
+// SAFETY: apart from `Debug`, no function takes a `&Seat`, so threads that share a seat can only print it. (`Sync` is
+// required because `?` converts an error with a seat to `Box<dyn Error + Send + Sync>`.)
 unsafe impl Sync for Seat {}
 
 /// A receipt: proof of the calls that a seat has made so far. In the order of all calls, the calls that a receipt
