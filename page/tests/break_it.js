@@ -101,7 +101,7 @@ function checkTroubles(ask) {
 function checkReasons(ask) {
   const { text } = inPage("scheduleOfDraft")(ask, `${scheduleOf("mark-at-key")}begin 1 add 7\ngo 1 out\n`, "mark-at-key");
   const later = verdictOnLacking(ask, "mark-at-key", text).says;
-  check(`what comes later is not told: ${later}`, later.includes("remove(7) of B answers true, which leaves 7 not there, and contains(7) of A answers true."));
+  check(`what comes later is not told: ${later}`, later.includes("remove(7) of B returns true, which leaves 7 absent, and contains(7) of A returns true."));
 }
 
 // Checks that a draft on a broken list is expanded into a schedule, or is refused as a draft on a correct list would be.

@@ -938,8 +938,8 @@ const OF_LACKING = [
   [/^Broken: (\d+) was added once and never removed, and at the end the set does not have it\.$/, (it, [key]) => isLost(it, Number(key))],
   [/^Broken: no order leaves these keys, which do not increase\.$/, (it) => it.keys.some((key, at) => key <= it.keys[at - 1])],
   [/^Broken: the calls of key (\d+) have no order\.$/, (it, [key]) => !waysLeft(it.calls, Number(key), it.opening.includes(Number(key))).includes(it.keys.includes(Number(key)))],
-  [/^Broken: (\d+) is (there|not there) at first, and (.*)\.$/, (it, [key, state, second]) => it.opening.includes(Number(key)) === (state === "there") && isToldSo(it, Number(key), null, second)],
-  [/^Broken: (.*), which leaves (\d+) (there|not there), and (.*)\.$/, (it, [first, key, state, second]) => isToldSo(it, Number(key), [first, state === "there"], second)],
+  [/^Broken: (\d+) is (present|absent) at first, and (.*)\.$/, (it, [key, state, second]) => it.opening.includes(Number(key)) === (state === "present") && isToldSo(it, Number(key), null, second)],
+  [/^Broken: (.*), which leaves (\d+) (present|absent), and (.*)\.$/, (it, [first, key, state, second]) => isToldSo(it, Number(key), [first, state === "present"], second)],
 ];
 
 // Returns whether the judge can decide a report: each call returned true or false or is pending, and no thread can exceed the quota.
@@ -956,7 +956,7 @@ function isLost({ calls, opening, keys }, key) {
 // Returns whether `first` and `second` contradict each other: no other call could have changed the key between them. Each
 // describes a call; `first` can also be the key's opening state, and `second` its final state.
 function isToldSo(it, key, first, second) {
-  const looks = it.calls.map((call) => ({ ...asLook(call), told: `${nameIn(call)} ${call.ended === null ? "is pending" : `answers ${call.reply}`}` }));
+  const looks = it.calls.map((call) => ({ ...asLook(call), told: `${nameIn(call)} ${call.ended === null ? "is pending" : `returns ${call.reply}`}` }));
   const named = (told) => looks.filter((call) => call.key === key && call.told === told);
   const isPresent = first === null ? it.opening.includes(key) : first[1];
   const end = /^at the end the set (has it|does not have it)$/.exec(second)?.[1];

@@ -44,7 +44,7 @@ function whyNone(text, { key, moment, clash, noSuchReply }) {
   const exercise = readReport(text);
   if (isLeft && isLost(exercise, key)) return `${key} was added once and never removed, and at the end the set does not have it`;
   if (clash === null) return `the calls of key ${key} have no order`;
-  const state = clash.isPresent ? "there" : "not there";
+  const state = clash.isPresent ? "present" : "absent";
   const first = clash.first === null ? `${key} is ${state} at first` : `${callInWords(exercise, clash.first)}, which leaves ${key} ${state}`;
   const left = exercise.keys.includes(key) ? "has it" : "does not have it";
   return `${first}, and ${clash.second === null ? `at the end the set ${left}` : callInWords(exercise, clash.second)}`;
@@ -60,7 +60,7 @@ function isLost({ calls, opening, keys }, key) {
 // Describes a call that the judge names, in the words of the report. (To the judge, a ceiling, and an add that returned `full`, are a contains.)
 function callInWords({ calls }, { thread, begun }) {
   const call = calls.find((one) => one.thread === thread && one.begun === Number(begun));
-  return `${nameOfCall(call)} ${call.ended === null ? "is pending" : `answers ${call.reply}`}`;
+  return `${nameOfCall(call)} ${call.ended === null ? "is pending" : `returns ${call.reply}`}`;
 }
 
 export function departureOf(ask, trace) {
