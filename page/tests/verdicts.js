@@ -473,8 +473,8 @@ const isBeside = (it, call) => runsDuring(it, call, (one) => one.key !== call.ke
 
 // Returns whether a sentence compares a share with that of other answers as it should. The empty text is right if there are no other answers.
 function isRate(rate, count, all) {
-  const [, near, , usual] = /^(?:(, about as often as during other answers) \((\d+) of 100\)| \(during other answers: (\d+) of 100\))$/.exec(rate) ?? [];
-  const [, other] = /(\d+) of 100/.exec(rate) ?? [];
+  const [, near, , usual] = /^(?:(, about as often as during other answers) \((\d+)%\)| \(during other answers: (\d+)%\))$/.exec(rate) ?? [];
+  const [, other] = /(\d+)%/.exec(rate) ?? [];
   const isNear = Math.abs(Math.floor((Number(count) * 100) / Number(all)) - Number(other)) <= 10;
   return rate === "" || (Number(other) <= 100 && isNear === (near !== undefined) && (near !== undefined || usual !== undefined));
 }
@@ -543,7 +543,7 @@ const TALLIED = ["lost", "came back", "two adds true", "two removes true", "one 
 // Maps the words in the sentence that counts contradictions to the kinds of contradictions.
 const KINDS = {
   "where a key was lost": "lost", "where a key came back": "came back", "with two adds that both returned true": "two adds true",
-  "with two removes that both returned true": "two removes true", "with one wrong reply": "one wrong answer", "of no simple kind": "none of these",
+  "with two removes that both returned true": "two removes true", "with one wrong reply": "one wrong answer", "of other kinds": "none of these",
 };
 // Returns whether the calls around an answer are not linearizable with it, but are without it or, for contains, with the other reply.
 const isOnlyWrong = (it, answer) => [...around(it, answer.key, answer)].some(({ calls, isThere, left }) =>
@@ -604,7 +604,7 @@ const OF_WHY = [
   [/^headline (?:key (\d+) (was lost|came back): )?key (\d+) is (present|absent) at the end$/, (it, [key, gone, ofEnd, state]) =>
     it.keys !== null && leftOf(it, Number(ofEnd)) === (state === "present") && !hasOrderOf(it, Number(ofEnd)) && (gone === undefined || (key === ofEnd && isGone(it, Number(key), gone === "was lost", null)))],
   [/^headline the calls of key (\d+) have no order$/, (it, [key], why) => why.shown.length > 0 && !hasOrder(ofKey(it, Number(key)), Number(key), opens(it, Number(key)))],
-  [/^headline (add|remove)\((\d+)\) returned true twice at the same time, expected at most once$/, (it, [operation, key], why) => {
+  [/^headline (add|remove)\((\d+)\) returned true in two overlapping calls, expected in at most one$/, (it, [operation, key], why) => {
     const both = why.shown.filter(({ mark }) => mark === "either").map(({ call }) => call);
     return both.length === 2 && both.every((call) => call.operation === operation && call.key === Number(key) && call.reply === "true") && inTime(both[0], both[1].begun, both[1].ended);
   }],
@@ -641,7 +641,7 @@ const OF_WHY = [
       why.told = wrongAnswers(it, "contains", aside !== undefined);
       return why.told !== null && isTold(it, why.told, ["contains", atLeast, count, of, found, missed]);
     }],
-  [/^fact (?:before moment (\d+) the calls had an order; from then on )?at least (\d+) contradictions?: (\d+ (?:where|with|of no simple) .*)$/, (it, [moment, count, kinds], why) => {
+  [/^fact (?:before moment (\d+) the calls had an order; from then on )?at least (\d+) contradictions?: (\d+ (?:where|with|of other) .*)$/, (it, [moment, count, kinds], why) => {
     const isBefore = moment === undefined || keysOf(it).every((key) => hasOrder(knownBy(ofKey(it, key), Number(moment) - 1), key, opens(it, key)));
     why.tally = Object.fromEntries(TALLIED.map((kind) => [kind, 0]));
     const told = kinds.split(" + ").map((one) => /^(\d+) ([^(]*[^( ])(?: \((.*)\))?$/.exec(one));
@@ -649,13 +649,13 @@ const OF_WHY = [
     const areAnswers = told.every(([, many, kind, answers]) => (KINDS[kind] === "one wrong answer" ? areWrongAnswers(it, Number(many), answers) : answers === undefined));
     return Object.keys(why.tally).length === TALLIED.length && Object.values(why.tally).reduce((sum, many) => sum + many, 0) === Number(count) && areAnswers && isBefore;
   }],
-  [/^fact (\d+) of (\d+) keys are affected; after (\d+) of (\d+) successful adds the next call found the key absent, after (\d+) of (\d+) successful removes present \(only calls with no opposite change in between are counted\)$/, (it, [hit, all, ...counts]) => {
+  [/^fact (\d+) of (\d+) keys are affected; with no opposite change in between, the next call found the key absent after (\d+) of (\d+) successful adds, and present after (\d+) of (\d+) successful removes$/, (it, [hit, all, ...counts]) => {
     const refused = keysOf(it).filter((key) => !hasOrderOf(it, key));
     const seen = ["add", "remove"].map((operation) => refused.flatMap((key) => nextCallsSee(ofKey(it, key), operation)));
     const isOfKeys = Number(hit) === refused.length && Number(all) === new Set([...keysOf(it), ...it.padding.map(({ key }) => key)]).size;
     return isOfKeys && `${counts.map(Number)}` === `${seen.flatMap((some) => [some.filter((isSeen) => !isSeen).length, some.length])}`;
   }],
-  [/^because (\d+) of the (\d+) times that a key was lost or came back, this happened to another key, too, meanwhile \(expected by chance: (\d+) of 100\)$/, (it, [some, all, usual]) =>
+  [/^because (\d+) of the (\d+) times that a key was lost or came back, this happened to another key, too, meanwhile \(expected by chance: (\d+)%\)$/, (it, [some, all, usual]) =>
     Number(some) <= Number(all) && keysOf(it).filter((key) => !hasOrderOf(it, key)).length >= 2 && Number(some) * 100 >= Number(all) * (Number(usual) + 25)],
   [/^fact (?:before moment \d+ the calls had an order; from then on )?(at least )?(\d+) contradictions?: (.*)$/, (it, [atLeast, count, listed], why) => {
     const told = listed.split("; ");
@@ -682,7 +682,7 @@ const OF_WHY = [
   }],
   [/^fact a change of another key ran during it, and no other add or remove of its own key$/, (it, found, { told }) =>
     told.wrong.some((call) => !runsDuring(it, call, (one) => one.key === call.key) && runsDuring(it, call, (one) => one.key !== call.key && one.reply === "true"))],
-  [/^fact the last change that they contradict had ended at most (\d+) moments before them; it was made by the same thread at (\d+) of them, by another thread at (\d+)$/, (it, found, { told }) => {
+  [/^fact they contradict changes that had ended at most (\d+) moments earlier: (\d+) by the same thread, (\d+) by another thread$/, (it, found, { told }) => {
     // (of two changes that overlap, either can be the last one)
     const lastChange = (answer) => {
       const changes = ofKey(it, answer.key).filter((call) => isChange(call) && (call.operation === "add") !== needsKey(answer) && call.begun <= answer.begun).sort((one, other) => one.begun - other.begun);
@@ -694,9 +694,9 @@ const OF_WHY = [
     const latest = Math.max(...changes.map(({ answer, change }) => answer.begun - change.ended));
     return `${[latest, own, changes.length - own]}` === `${found.map(Number)}`;
   }],
-  [/^fact with no change between, the next (add|remove|contains) of the key was right$/, (it, [operation], { told }) =>
+  [/^fact with no change in between, the next (add|remove|contains) of the key was right$/, (it, [operation], { told }) =>
     told.wrong.some((answer) => nextCall(it, answer, operation) !== undefined && !told.wrong.includes(nextCall(it, answer, operation)))],
-  [/^fact with no change between, the next (add|remove|contains) of the key was right (\d+) of (\d+) times$/, (it, [operation, right, all], { told }) => {
+  [/^fact with no change in between, the next (add|remove|contains) of the key was right (\d+) of (\d+) times$/, (it, [operation, right, all], { told }) => {
     const next = told.wrong.map((answer) => [answer, nextCall(it, answer, operation)]).filter(([, one]) => one !== undefined).map(([, one]) => told.wrong.includes(one));
     return told.isAll && next.filter((isWrong) => !isWrong).length === Number(right) && next.length === Number(all);
   }],
@@ -719,7 +719,7 @@ const OF_WHY = [
     const [ones, twos] = [wrong(...found.slice(0, 3)), wrong(...found.slice(3))];
     return found[1] !== found[4] && found[2] !== found[5] && ones.some((one) => twos.some((two) => one.reply !== two.reply && inTime(one, two.begun, two.ended)));
   }],
-  [/^because another call began before and ended after (\d+) of the (\d+) wrong answers, but only (\d+) of 100 other answers$/, (it, [some, all, usual], { told }) => {
+  [/^because another call began before and ended after (\d+) of the (\d+) wrong answers, but only (\d+)% of other answers$/, (it, [some, all, usual], { told }) => {
     const isOutlasted = (answer) => [...it.calls, ...it.padding].some((call) => call.begun < answer.begun && (call.ended ?? LAST) > answer.ended);
     return told.wrong.length === Number(all) && told.wrong.filter(isOutlasted).length === Number(some) && Number(usual) <= 25;
   }],
@@ -766,7 +766,7 @@ const OF_WHY = [
     return told !== null && finds.length > 0 && finds.every(({ key }) => told.wrong.every((call) => call.key !== key));
   }],
   [/^because its wrong answers are of (\d+) keys?, and it is right about all others$/, (it, [keys], { told }) => told.isAll && new Set(told.wrong.map(({ key }) => key)).size === Number(keys)],
-  [/^because before (\d+) of the (\d+) wrong answers the last call of the key by the same thread left it so$/, (it, [some, all], { told }) => {
+  [/^because before (\d+) of the (\d+) wrong answers, the last call of the key by the same thread had left the key in the state that contains returned$/, (it, [some, all], { told }) => {
     const lastOwn = (answer) => it.calls.filter((call) => call.key === answer.key && call.thread === answer.thread && call.begun < answer.begun).at(-1);
     const isSo = (answer) => lastOwn(answer) !== undefined && lastOwn(answer).ended !== null && leaves(lastOwn(answer)) === needsKey(answer);
     return told !== null && told.wrong.length === Number(all) && told.wrong.filter(isSo).length === Number(some);
@@ -779,11 +779,11 @@ const OF_WHY = [
     const isLonely = (answer) => keysOf(it).every((key) => key === answer.key || isAbsent(key, answer.begun));
     return told !== null && told.wrong.length === Number(all) && told.wrong.filter(isLonely).length === Number(some);
   }],
-  ...[/^because before (\d+) of the (\d+) times that a key was lost, a remove was among overlapping changes of the key$/,
-    /^because (\d+) of the (\d+) times that a key was lost or came back, the opposite reply of one call would give an order$/,
-    /^because (\d+) of the (\d+) times that a key was lost or came back, a call that returned false can have done it$/,
-    /^because no change of another key ran during (\d+) of the (\d+) times that a key was lost or came back \(at other times: \d{1,2}0? of 100\)$/,
-    /^because a smaller key was removed during (\d+) of the (\d+) times that a key was lost or came back, (?:and the smallest key is never hit|any other key during \d+)$/].map((pattern) =>
+  ...[/^because before (\d+) of the (\d+) times that a key was lost, a remove was among the overlapping changes of the key$/,
+    /^because (\d+) of the (\d+) times that a key was lost or came back, an order would exist if one call had returned the opposite reply$/,
+    /^because (\d+) of the (\d+) times that a key was lost or came back, a call that returned false can have made this change$/,
+    /^because no change of another key ran during (\d+) of the (\d+) times that a key was lost or came back \(at other times: \d{1,2}0?%\)$/,
+    /^because a smaller key was removed during (\d+) of the (\d+) times that a key was lost or came back, (?:and the smallest key is never affected|any other key during \d+)$/].map((pattern) =>
     [pattern, (it, [some, all], { tally }) => Number(some) <= Number(all) && Number(all) <= tally.lost + tally["came back"]]),
   [/^because keys are lost \((\d+)\)( and never come back)?, and at (\d+)(?: of (\d+))? losses (?:during one|that a call shows)/, (it, [lost, never, some, all], { tally }) =>
     Number(lost) === tally.lost && Number(some) <= Number(all ?? lost) && (never === undefined || (tally["came back"] === 0 && (tally["none of these"] > 0 || !isFoundAgain(it))))],
@@ -811,7 +811,7 @@ const OF_WHY = [
   [/^because (\d+) keys are affected, each once$/, (it, [count]) => keysOf(it).filter((key) => !hasOrderOf(it, key)).length === Number(count)],
   [/^because keys are lost \((\d+)\) and added twice \((\d+)\), none comes back, and none is removed twice$/, (it, [lost, twice], { tally }) =>
     Number(lost) === tally.lost && Number(twice) === tally["two adds true"] && tally["two removes true"] === 0 && tally["came back"] === 0],
-  [/^because a successful (add|remove) of another key ran during the add of (\d+) of the (\d+) lost keys, but only during (\d+) of 100 successful adds$/, (it, [operation, some, all, usual], { tally }) => {
+  [/^because a successful (add|remove) of another key ran during the add of (\d+) of the (\d+) lost keys, but only during (\d+)% of successful adds$/, (it, [operation, some, all, usual], { tally }) => {
     const adds = it.calls.filter((call) => call.operation === "add" && call.reply === "true" && !hasOrderOf(it, call.key));
     const isMet = (add) => it.calls.some((one) => one.key !== add.key && one.operation === operation && one.reply === "true" && inTime(one, add.begun, add.ended));
     return adds.filter(isMet).length >= Number(some) && Number(some) <= Number(all) && Number(all) <= tally.lost && Number(usual) <= 100;
@@ -821,7 +821,7 @@ const OF_WHY = [
   [/^because during (\d+) of (\d+) changes that were undone another key came back or was lost$/, (it, [some, all], { tally }) => Number(some) <= Number(all) && Number(all) <= tally.lost + tally["came back"]],
   [/^because (\d+) of (\d+) undone changes of key (\d+) overlapped changes of key (\d+), and fewer overlapped those of any third key$/, (it, [some, all, one, two], { tally }) =>
     Number(some) <= Number(all) && Number(all) <= tally.lost + tally["came back"] && one !== two && !hasOrderOf(it, Number(one))],
-  [/^(?:because|fact) the last change of the key was by another thread before (\d+) of (\d+) checked wrong answers \(before sampled answers: (\d+) of 100\); before (\d+) of these, the thread of the answer had changed a key since$/, (it, [some, all, usual, since], { told }) => {
+  [/^(?:because|fact) the last change of the key was by another thread before (\d+) of (\d+) checked wrong answers \(before sampled answers: (\d+)%\); before (\d+) of these, the thread of the answer had changed a key since$/, (it, [some, all, usual, since], { told }) => {
     const wrong = (told?.wrong ?? it.calls.filter((call) => call.ended !== null && !isChange(call))).map((answer) => {
       const change = ofKey(it, answer.key).filter((call) => isChange(call) && call.ended !== null && call.ended < answer.begun).sort((one, other) => one.begun - other.begun).at(-1);
       return { answer, change };
@@ -830,17 +830,17 @@ const OF_WHY = [
     const foreign = wrong.filter(({ answer, change }) => answer.thread !== change.thread).length;
     return wrong.length >= Number(all) && foreign >= Number(some) && wrong.filter(isLater).length >= Number(since) && Number(some) <= Number(all) && Number(usual) <= 100;
   }],
-  [/^(?:because|fact) during at least (\d+) of (\d+) checked wrong answers a call of another thread returned the same reply \(during sampled answers, the opposite reply: (\d+) of 100\)$/, (it, [some, all, usual], { told }) => {
+  [/^(?:because|fact) during at least (\d+) of (\d+) checked wrong answers a call of another thread returned the same reply \(during sampled answers, the opposite reply: (\d+)%\)$/, (it, [some, all, usual], { told }) => {
     const wrong = told?.wrong ?? it.calls.filter((call) => call.ended !== null && !isChange(call));
     const isMet = (answer) => [...it.calls, ...it.padding].some((call) => call.thread !== answer.thread && call.reply === answer.reply && inTime(call, answer.begun, answer.ended));
     return wrong.length >= Number(all) && wrong.filter(isMet).length >= Number(some) && Number(some) <= Number(all) && Number(usual) <= 100;
   }],
   [/^because they disagree as long as nothing changes the key$/, () => true],
-  [/^fact another add or remove of the key ran during (\d+) of (\d+) changes that were undone or reported twice \(of all changes: (\d+) of 100\), a change of another key during (\d+) \((\d+) of 100\); (\d+) were among the first calls of their key \((\d+) of 100\)$/, (it, [own, all, usual, others, beside, first, early]) =>
+  [/^fact another add or remove of the key ran during (\d+) of (\d+) changes that were undone or reported twice \(of all changes: (\d+)%\), a change of another key during (\d+) \((\d+)%\); (\d+) were among the first calls of their key \((\d+)%\)$/, (it, [own, all, usual, others, beside, first, early]) =>
     isOfUndone(it, "own", own, all, usual) && isOfUndone(it, "others", others, all, beside) && isOfUndone(it, "first", first, all, early)],
-  [/^because (another add or remove of the key|a change of another key) ran during (\d+) of (\d+) changes that were undone or reported twice \(of all changes: (\d+) of 100\)$/, (it, [what, some, all, usual]) =>
+  [/^because (another add or remove of the key|a change of another key) ran during (\d+) of (\d+) changes that were undone or reported twice \(of all changes: (\d+)%\)$/, (it, [what, some, all, usual]) =>
     isOfUndone(it, what.startsWith("another") ? "own" : "others", some, all, usual)],
-  [/^because among the first calls of their key are (\d+) of (\d+) changes that were undone or reported twice \(of all changes: (\d+) of 100\)$/, (it, found) => isOfUndone(it, "first", ...found)],
+  [/^because among the first calls of their key are (\d+) of (\d+) changes that were undone or reported twice \(of all changes: (\d+)%\)$/, (it, found) => isOfUndone(it, "first", ...found)],
   [/^because after (\d+) of (\d+) successful adds the next call found the key absent$/, (it, [lost, adds]) => {
     const seen = keysOf(it).filter((key) => !hasOrderOf(it, key)).flatMap((key) => nextCallsSee(ofKey(it, key), "add"));
     return lost === adds && seen.length === Number(adds) && seen.every((isSeen) => !isSeen);
@@ -864,7 +864,7 @@ const OF_WHY = [
     return Number(from) === it.opening.length && Number(to) === present.size && Number(hit) === keysOf(it).filter((key) => !hasOrderOf(it, key)).length && Number(all) === keys.size
       && Number(active) <= [...keys].filter(isUsed).length && Number(active) >= 8;
   }],
-  [/^because (\d+) adds of an absent key and (\d+) removes of a present key returned false and changed nothing(?:; a change of another key ran during (\d+) of them, but only during (\d+) of 100 adds and removes)?$/,
+  [/^because (\d+) adds of an absent key and (\d+) removes of a present key returned false and changed nothing(?:; a change of another key ran during (\d+) of them, but only during (\d+)% of adds and removes)?$/,
     (it, [adds, removes, beside, usual], { tally }) => {
       const wrong = (operation) => it.calls.filter((call) => call.operation === operation && call.reply === "false" && isOnlyWrong(it, call));
       const isEach = wrong("add").length >= Number(adds) && wrong("remove").length >= Number(removes);

@@ -49,7 +49,7 @@ fn put_because_of_found(out: &mut String, odd: &Odd, cause: Cause) -> Result<(),
         ),
         Cause::ThreadCache => writeln!(
             out,
-            "before {own} of the {wrong} wrong answers the last call of the key by the same thread left it so"
+            "before {own} of the {wrong} wrong answers, the last call of the key by the same thread had left the key in the state that contains returned"
         ),
         _ => writeln!(
             out,
@@ -165,15 +165,15 @@ fn put_because_of_calls(out: &mut String, tally: &Tally, cause: Cause) -> Result
     match cause {
         Cause::GoesOn => writeln!(
             out,
-            "before {crossed} of the {lost} times that a key was lost, a remove was among overlapping changes of the key"
+            "before {crossed} of the {lost} times that a key was lost, a remove was among the overlapping changes of the key"
         ),
         Cause::EarlierLook | Cause::AddUndone => writeln!(
             out,
-            "{turned} of the {gone} times that a key was lost or came back, the opposite reply of one call would give an order"
+            "{turned} of the {gone} times that a key was lost or came back, an order would exist if one call had returned the opposite reply"
         ),
         Cause::MadeAgain => writeln!(
             out,
-            "{silent} of the {gone} times that a key was lost or came back, a call that returned false can have done it"
+            "{silent} of the {gone} times that a key was lost or came back, a call that returned false can have made this change"
         ),
         Cause::CheckThenAct | Cause::BothCheck => writeln!(
             out,
@@ -229,7 +229,7 @@ fn put_because_of_meets(out: &mut String, meets: &Meets, cause: Cause) -> Result
     let Share { count, of, usual } = share;
     writeln!(
         out,
-        "{what} {count} of {of} changes that were undone or reported twice (of all changes: {usual} of 100)"
+        "{what} {count} of {of} changes that were undone or reported twice (of all changes: {usual}%)"
     )
 }
 
@@ -287,7 +287,7 @@ fn put_because_of_adds(out: &mut String, tally: &Tally, cause: Cause) -> Result<
         ),
         _ => writeln!(
             out,
-            "a successful {word} of another key ran during the add of {count} of the {placed} lost keys, but only during {usual} of 100 successful adds"
+            "a successful {word} of another key ran during the add of {count} of the {placed} lost keys, but only during {usual}% of successful adds"
         ),
     }
 }
@@ -347,7 +347,7 @@ fn put_because_of_refusals(
     match cause {
         Cause::GivesUpBeside => writeln!(
             out,
-            "; a change of another key ran during {beside} of them, but only during {usual} of 100 adds and removes"
+            "; a change of another key ran during {beside} of them, but only during {usual}% of adds and removes"
         ),
         _ => out.push_str("\n"),
     }
@@ -420,15 +420,15 @@ fn put_because_of_gone(
     match cause {
         Cause::ReplacedAtOnce | Cause::OldCopyAtOnce => writeln!(
             out,
-            "{together} of the {timed} times that a key was lost or came back, this happened to another key, too, meanwhile (expected by chance: {usually} of 100)"
+            "{together} of the {timed} times that a key was lost or came back, this happened to another key, too, meanwhile (expected by chance: {usually}%)"
         ),
         Cause::CarriedOutTwice => writeln!(
             out,
-            "keys are lost ({lost}) and come back ({back}), and {silent} of {gone} times a call that returned false can have done it"
+            "keys are lost ({lost}) and come back ({back}), and {silent} of {gone} times a call that returned false can have made this change"
         ),
         Cause::NoLock => writeln!(
             out,
-            "no change of another key ran during {alone} of the {timed} times that a key was lost or came back (at other times: {quiet} of 100)"
+            "no change of another key ran during {alone} of the {timed} times that a key was lost or came back (at other times: {quiet}%)"
         ),
         Cause::OldCopy => writeln!(
             out,
@@ -436,11 +436,11 @@ fn put_because_of_gone(
         ),
         Cause::OldLink => writeln!(
             out,
-            "keys are lost ({lost}) more than they come back ({back}), and a change of another key ran during {beside} of {timed} such contradictions (at other times: {usual} of 100)"
+            "keys are lost ({lost}) more than they come back ({back}), and a change of another key ran during {beside} of {timed} such contradictions (at other times: {usual}%)"
         ),
         Cause::Unlinked if evidence.is_first_spared => writeln!(
             out,
-            "a smaller key was removed during {below} of the {timed} times that a key was lost or came back, and the smallest key is never hit"
+            "a smaller key was removed during {below} of the {timed} times that a key was lost or came back, and the smallest key is never affected"
         ),
         Cause::Unlinked | Cause::WrittenBack => writeln!(
             out,
@@ -501,7 +501,7 @@ fn put_because_of_outlasted(
     let (some, wrong, usual) = (further.outlasted.count, odd.wrong, further.outlasted.usual);
     writeln!(
         out,
-        "another call began before and ended after {some} of the {wrong} wrong answers, but only {usual} of 100 other answers"
+        "another call began before and ended after {some} of the {wrong} wrong answers, but only {usual}% of other answers"
     )
 }
 

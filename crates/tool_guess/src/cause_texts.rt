@@ -14,9 +14,9 @@ fn answers_cause_text(cause: Cause) -> &'static str {
         Cause::TakenLater =>
             "contains still finds a key after its remove has returned (a queue of removals, a copy or an index that is updated late)",
         Cause::Shortcut =>
-            "contains looks at less than the set (a size, a filter or summary bit, a cache of absent keys, a remembered node, adds still in a buffer)",
+            "contains does not look at the whole set (a size, a filter or summary bit, a cache of absent keys, a remembered node, adds still in a buffer)",
         Cause::MovedOrShortcut =>
-            "contains misses a key that a change of another key moves at that time (rotation, split, displacement, growth, a reused node), or looks at less than the set (a size, a filter, a summary bit)",
+            "contains misses a key that a change of another key moves at that time (rotation, split, displacement, growth, a reused node), or does not look at the whole set (a size, a filter, a summary bit)",
         Cause::HalfDone =>
             "contains meets a half done add or remove of its key (a node linked too early, cut out or reused too early)",
         Cause::MarkOrCopy =>
@@ -81,7 +81,7 @@ pub fn cause_text(cause: Cause) -> &'static str {
         Cause::Reused =>
             "the structure is broken from one moment on (a removed node used again too early (ABA), a table or list that two calls change at once)",
         Cause::SameKey =>
-            "calls of one key at the same time undo each other (a lock that lets two in, a failed compare-and-swap taken for success, a second write after the effect)",
+            "calls of one key at the same time undo each other (a lock that two calls hold at once, a failed compare-and-swap taken for success, a second write after the effect)",
         Cause::FirstCalls =>
             "two of the first calls of a key at the same time undo each other (each creates a bucket or node, or a failed compare-and-swap is taken for success)",
         Cause::OtherKeys =>
@@ -101,9 +101,9 @@ pub fn cause_text(cause: Cause) -> &'static str {
         Cause::MadeAgain =>
             "a call is repeated after it took effect, and returns the reply of the second attempt",
         Cause::CheckThenAct =>
-            "check, then act: two calls look before either changes the set (no lock, or one that lets both in)",
+            "check, then act: two calls look before either changes the set (no lock, or one that both can hold)",
         Cause::BothCheck =>
-            "check, then act, in add and in remove: two calls look before either changes the set (no lock, or one that lets both in)",
+            "check, then act, in add and in remove: two calls look before either changes the set (no lock, or one that both can hold)",
         Cause::AddChecks =>
             "add checks, then acts: two adds look before either inserts (a check before the lock, or a failed compare-and-swap tried again without a new search)",
         Cause::RemoveChecks =>

@@ -82,7 +82,7 @@ fn is_often_beside(odd: &Odd) -> bool {
     odd.writing == odd.wrong && is_least(odd.beside, odd.wrong, 65)
 }
 
-/// The minimum number of wrong answers for the guess that `contains` looks at less than the set.
+/// The minimum number of wrong answers for the guess that `contains` does not look at the whole set.
 const LEAST_MISSED: u64 = 3;
 
 /// Returns whether other adds and removes of the key ran during most of many wrong answers, and clearly more often than

@@ -69,7 +69,7 @@ fn cause_of_old_state(evidence: &Evidence) -> Option<Cause> {
     let is_below = evidence.keys <= FEW_KEYS && is_least(tally.below, tally.timed(), 85);
     let is_of_others = !is_least(tally.own, tally.made, 35);
     let least = if is_twice && is_even && is_of_others {
-        62
+        70
     } else {
         75
     };
@@ -288,7 +288,7 @@ pub(crate) fn is_earlier_look(tally: &Tally) -> bool {
     let is_enough = gone >= 2 * ENOUGH && both >= 3 && is_share(both, tally.places, 5);
     let is_each = gone >= 4 * ENOUGH && is_share(tally.turned, gone, 97);
     let is_all = gone >= ENOUGH && both >= 2 && tally.turned == gone;
-    is_each || is_all || (is_enough && is_share(tally.turned, gone, 90))
+    is_each || is_all || (is_enough && is_share(tally.turned, gone, 95))
 }
 
 /// If keys have at least this many calls, it is no coincidence that each key has only one contradiction.

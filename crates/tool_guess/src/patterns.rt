@@ -57,11 +57,11 @@ impl Pattern {
         match self {
             Pattern::Foreign => writeln!(
                 out,
-                "the last change of the key was by another thread before {count} of {of} checked wrong answers (before sampled answers: {usual} of 100); before {refreshed} of these, the thread of the answer had changed a key since"
+                "the last change of the key was by another thread before {count} of {of} checked wrong answers (before sampled answers: {usual}%); before {refreshed} of these, the thread of the answer had changed a key since"
             ),
             Pattern::Borrowed => writeln!(
                 out,
-                "during at least {count} of {of} checked wrong answers a call of another thread returned the same reply (during sampled answers, the opposite reply: {usual} of 100)"
+                "during at least {count} of {of} checked wrong answers a call of another thread returned the same reply (during sampled answers, the opposite reply: {usual}%)"
             ),
         }
     }

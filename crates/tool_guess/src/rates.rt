@@ -13,12 +13,9 @@ pub fn put_rate(out: &mut String, odd: &Odd, count: u64, usual: u64) -> Result<(
     if odd.wrong >= odd.of {
         Ok(())
     } else if share.max(usual).saturating_sub(share.min(usual)) <= 10 {
-        write!(
-            out,
-            ", about as often as during other answers ({usual} of 100)"
-        )
+        write!(out, ", about as often as during other answers ({usual}%)")
     } else {
-        write!(out, " (during other answers: {usual} of 100)")
+        write!(out, " (during other answers: {usual}%)")
     }
 }
 

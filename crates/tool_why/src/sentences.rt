@@ -82,7 +82,7 @@ pub(crate) fn put_headline(out: &mut String, diagnosis: &Diagnosis) -> Result<()
             let word = operation.word();
             writeln!(
                 out,
-                "{word}({key}) returned true twice at the same time, expected at most once"
+                "{word}({key}) returned true in two overlapping calls, expected in at most one"
             )
         }
         Symptom::Lost | Symptom::CameBack => put_gone(out, diagnosis),
@@ -171,8 +171,8 @@ fn put_kinds(out: &mut String, tally: &Tally) -> Result<(), AllocError> {
     let others = tally.others;
     match others {
         0 => Ok(()),
-        _ if others == tally.places => write!(out, ": {others} of no simple kind"),
-        _ => write!(out, " + {others} of no simple kind"),
+        _ if others == tally.places => write!(out, ": {others} of other kinds"),
+        _ => write!(out, " + {others} of other kinds"),
     }
 }
 
@@ -269,7 +269,7 @@ fn put_tally(out: &mut String, diagnosis: &Diagnosis) -> Result<(), AllocError> 
     let (lost, kept) = (tally.unseen_adds, tally.unseen_removes);
     writeln!(
         out,
-        "\n{keys} of {all} keys are affected; after {lost} of {adds} successful adds the next call found the key absent, after {kept} of {removes} successful removes present (only calls with no opposite change in between are counted)"
+        "\n{keys} of {all} keys are affected; with no opposite change in between, the next call found the key absent after {lost} of {adds} successful adds, and present after {kept} of {removes} successful removes"
     )
 }
 
@@ -319,7 +319,7 @@ fn put_meets(out: &mut String, meets: &Meets) -> Result<(), AllocError> {
     }
     writeln!(
         out,
-        "another add or remove of the key ran during {met} of {of} changes that were undone or reported twice (of all changes: {usual} of 100), a change of another key during {beside} ({usually} of 100); {early} were among the first calls of their key ({often} of 100)"
+        "another add or remove of the key ran during {met} of {of} changes that were undone or reported twice (of all changes: {usual}%), a change of another key during {beside} ({usually}%); {early} were among the first calls of their key ({often}%)"
     )
 }
 
@@ -353,7 +353,7 @@ fn put_around_one(out: &mut String, diagnosis: &Diagnosis, odd: &Odd) -> Result<
     if odd.then_right > 0 {
         writeln!(
             out,
-            "with no change between, the next {word} of the key was right"
+            "with no change in between, the next {word} of the key was right"
         )?;
     }
     Ok(())
@@ -410,7 +410,7 @@ fn put_around(out: &mut String, diagnosis: &Diagnosis, odd: &Odd) -> Result<(), 
     if odd.is_exact && all > 0 {
         writeln!(
             out,
-            "with no change between, the next {word} of the key was right {right} of {all} times"
+            "with no change in between, the next {word} of the key was right {right} of {all} times"
         )?;
     }
     Ok(())
@@ -425,7 +425,7 @@ fn put_unseen(out: &mut String, odd: &Odd) -> Result<(), AllocError> {
     }
     writeln!(
         out,
-        "the last change that they contradict had ended at most {latest} moments before them; it was made by the same thread at {own} of them, by another thread at {others}"
+        "they contradict changes that had ended at most {latest} moments earlier: {own} by the same thread, {others} by another thread"
     )
 }
 
