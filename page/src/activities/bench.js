@@ -1,4 +1,4 @@
-// The bench, the part of the page that runs any schedule. Draws the run at the current event, the slider, the question and the parts below them.
+// Draws the bench (the part of the page that runs any schedule): the run at the current event, the slider, the question, and the boxes below the question.
 import { LECTURE } from "../data/lecture.js";
 import { LISTS } from "../../made/rows.js";
 import { loadMore, more } from "../engine/more.js";
@@ -22,7 +22,8 @@ import { LIST_WORDS, titleOfScene } from "../story/scene.js";
 const bench = { key: "", figure: null };
 const HOW_TO_JUDGE = "Press each bar at the moment when its call takes effect. Choose each reply.";
 
-// Returns the sentence about a step for readers who judge the run. The sentence hides the reply, and the effect of the step on the set.
+// Returns the sentence about a step that is shown while the reader judges the run. The sentence reveals neither the reply nor the effect of the step on the
+// set.
 const saidToJudge = (moment) => saidOf(moment).replace(/: <b>.*?<\/b>/, ".").replace(/ returns [^.]*\./, " returns … what?") || HOW_TO_JUDGE;
 
 function figureOfTask(run) {

@@ -1,4 +1,5 @@
-// The activity Compare: two lists side by side run the same calls. A turn is a step of one thread in both lists; the address contains the turns.
+// The Compare activity: two lists run the same calls side by side. In each turn, one thread executes a step in both lists. The activity's address contains the
+// turns.
 import { LISTS } from "../../made/rows.js";
 import { LECTURE } from "../data/lecture.js";
 import { byId, redraw } from "../page/dom.js";

@@ -1,4 +1,4 @@
-// The collapsible parts below the lessons, in which readers hand in their work, and choose, open, write, check and share courses.
+// The collapsible panels below the lessons. In these panels, readers hand in their work, and choose, open, write, check and share courses.
 import { BOOK, BOOK_NAME } from "../../made/book.js";
 import { courseAddress, courseOfAddress } from "../course/course_text.js";
 import { handInText } from "../course/hand_in.js";

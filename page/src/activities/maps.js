@@ -1,4 +1,4 @@
-// The overview of each activity: cards with a list, a question, and a sign of progress.
+// Draws the overview of an activity: cards, each with a list, a question, and a progress mark.
 import { BOOK_NAME } from "../../made/book.js";
 import { LACKING } from "../../made/classics.js";
 import { BREAK_LEVELS, numberOfLevel, TEN, THREE_MORE } from "../data/levels.js";

@@ -1,4 +1,4 @@
-// Opens the activity or the run that an address names, and chooses what a visit opens first.
+// Opens the activity or the run that an address names, and chooses what the page shows first in a visit.
 import { LECTURE } from "../data/lecture.js";
 import { numberOfLevel } from "../data/levels.js";
 import { byId } from "../page/dom.js";
@@ -52,7 +52,8 @@ function openRun(wanted) {
   if (wanted.isJudged) beginJudging();
 }
 
-// Opens the schedule of a link: for a broken list (a list without one of its checks) in its level of Break, otherwise on the bench.
+// Opens the schedule in a link. If the link names a broken list (a list without one of its checks), opens that list's level of the Break activity, otherwise
+// the bench.
 function openLink({ text, event, lacks = null, view = null }) {
   if (lacks !== null) return openStory({ activity: "break", id: String(numberOfLevel(lacks)), given: { text }, view });
   if (text === now.run.text && now.run.isRun && now.place.screen === "stage") return goTo(event);
@@ -100,7 +101,7 @@ export function openCourseFile(text) {
   showCourseText(text);
 }
 
-// Opens the address in the address bar after a link, typing, or a move in the browser's history has changed it.
+// Opens the address in the address bar after this address was changed by a link, by typing, or by a move in the browser's history.
 export async function followAddress(event) {
   clearTimeout(visit.timer);
   const kept = event.state;
@@ -122,5 +123,6 @@ export async function openFirst() {
   keepSoon();
 }
 
-// Returns the stored address of the last visit. The address of a screen of the path also asks for a greeting (`back=yes`).
+// Returns the stored address of the last visit. If the visit ended on the path (the guided tour) after its first screen, adds `back=yes`, so that the page
+// greets the reader.
 const addressBack = () => addressKept().replace(/^#story=(?!1$)\d+$/, "$&&back=yes");

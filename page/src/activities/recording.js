@@ -16,7 +16,7 @@ function threadsInWords(calls) {
   return threads.length === 0 ? [] : [`Threads: ${threads.map((thread) => `${letterOf(thread)} is thread ${thread}`).join(", ")} of the recording.`];
 }
 
-// Returns a remark if a refused recording adds keys but has no `key` line: such a recording states that the final set is empty.
+// Returns a remark if a refused recording has successful adds but no `key` line. (A complete recording without `key` lines states that the final set is empty.)
 function keysInWords(text, { kind }) {
   const isEmptied = kind === "none" && !/^key /m.test(text) && /^call \d+ add \S+ \S+ \S+ true/m.test(text) && /^end$/m.test(text);
   return isEmptied ? ["The recording has no line <code>key</code>, so it says that the set is empty at the end. Add a line <code>key K</code> for each key K of the final set."] : [];

@@ -1,4 +1,4 @@
-// Reads courses of lessons. The first lines of book.course describe the format. Each error names its line.
+// Reads the text of a course (a sequence of lessons). The first lines of book.course describe the format. Each error message names the line with the error.
 import { LACKING } from "../../made/classics.js";
 import { bytesOf, passed } from "../engine/engine.js";
 import { AddressFault, LONGEST_ADDRESS } from "../run/address.js";
@@ -142,7 +142,7 @@ export function readCourse(text) {
   return { name: reader.name, lessons, faults: reader.faults };
 }
 
-// ---- A course in a link: its packed text follows #course=, so nothing is loaded from a network.
+// ---- A course in a link. The compressed text of the course follows `#course=`, so that the page loads nothing from a network.
 export async function courseAddress(text) {
   const lines = text.split("\n").filter((line) => line.trim() !== "" && !line.startsWith("#"));
   const bytes = await passed(new TextEncoder().encode(`${lines.join("\n")}\n`), new CompressionStream("deflate-raw"));

@@ -1,4 +1,5 @@
-// Evaluates goals of lessons: each line asks for a call or an event. A condition (`say ..`) holds if some choice of calls and events satisfies all lines above the condition.
+// Evaluates the goals of lessons. Each line of a goal describes a call or an event. A condition (a line `say ..`) holds if some choice of calls and events
+// satisfies all lines above the condition.
 import { isFailed, isLock, ownerIn } from "../run/outcomes.js";
 import { State } from "../run/state.js";
 
@@ -14,7 +15,8 @@ const endOf = (found) => (found.event ? found.event.number : (found.ended ?? Inf
 const answeredKey = (call) => Number(call.reply?.slice("at-".length));
 const hasSmaller = (call, { keys }) => [...keys].some((key) => call.key <= key && key < answeredKey(call));
 
-// The clauses of a line of a goal. Each has a pattern (X is an earlier name, N a number) and a test for a call or an event.
+// The clauses that a line of a goal can contain. Each clause has a pattern, which can contain the name of an earlier line or a number, and a test of a call or
+// an event.
 const CALL_CLAUSES = [
   [/^(add|remove|contains|ceiling)$/, (call, [operation]) => call.operation === operation],
   [/^key (\d+)$/, (call, [key]) => call.key === Number(key)],
@@ -136,7 +138,7 @@ export function conditionsOf(goal, run) {
   return ends.map(({ says, index }) => ({ says, isMet: canMeet(goal.slice(0, index), run) }));
 }
 
-// ---- A run: for each event, the step-table row of the event's thread before the event, and the state after the event.
+// ---- A run. For each event, it contains the step-table row that the event executes, and the state after the event.
 export class Run {
   constructor(trace) {
     const state = new State(trace);
@@ -153,7 +155,8 @@ export class Run {
     return this.moments[call.ended - 1];
   }
 
-  // Returns the pauses of a thread: the step before each (`step`), and the steps of other threads until its next step (`others`).
+  // Returns the pauses of a thread. A pause consists of the thread's last step before the pause (`step`) and the steps of other threads during the pause
+  // (`others`).
   restsOf(thread) {
     const steps = this.moments.filter(({ event }) => event.thread === thread);
     return steps.map((step, at) => {

@@ -1,6 +1,6 @@
-// A text to hand in: a title, the course and the student, then a line for each solution. The line of a lesson has its name and the address of a schedule
-// (or a whole link that ends with the address). A line `judge` has an order that was judged right. A line `break` has a run that breaks a list, and `named`
-// if the student has also chosen the missing check.
+// Reads and writes hand-ins. A hand-in is a text with a title, the course and the student, followed by a line for each solution. The line for a lesson contains
+// the lesson's name and the address of a schedule (or a link that ends with the address). A line `judge` contains an order that was judged right. A line
+// `break` contains a run that breaks a list, and the word `named` if the student has also chosen the missing check.
 //
 //     listset-lessons 2
 //     course The twelve lessons of the five lists
@@ -11,8 +11,8 @@
 //     break mark-in-add #list=lock-free&threads=2&quota=2&opening=3.7&s=b0.add.5,g0.5&event=6 named
 //     end
 //
-// The text is often sent by mail: lines can be quoted, wrapped or encoded, and surrounded by other lines. One file can contain the texts of a whole class,
-// and also courses.
+// Hand-ins are often sent by mail. Their lines can then be quoted, wrapped or encoded, and can have other lines around them. One file can contain the hand-ins
+// of a whole class, and also courses.
 import { CLASSICS, LACKING } from "../../made/classics.js";
 import { AddressFault, addressOf, readAddress } from "../run/address.js";
 import { askList, isTaskDone, NO_TASK, verdictOnLacking } from "../run/broken.js";
@@ -33,7 +33,7 @@ export function handInText(course, student, solutions, otherLines, assignment = 
   return [HAND_IN_TITLE, `course ${course}`, ...title, `student ${student}`, ...lines, ...otherLines, "end", ""].join("\n");
 }
 
-// Decodes the bytes of a file: UTF-16 if they begin with its mark (some editors write it), else UTF-8, or Windows-1252 if they are not UTF-8.
+// Decodes the bytes of a file: as UTF-16 if they begin with a byte order mark of UTF-16, otherwise as UTF-8 or, if they are not valid UTF-8, as Windows-1252.
 export function textOfBytes(bytes) {
   const coding = { 0xfeff: "utf-16be", 0xfffe: "utf-16le" }[(bytes[0] << 8) | bytes[1]] ?? "utf-8";
   try {
@@ -77,7 +77,8 @@ export function textsIn(text) {
   return found;
 }
 
-// A mail program can wrap a line at a space or within a word. `unwrapped` replaces a break between two words by a space, and deletes other breaks.
+// A mail program can wrap a line at a space or within a word. `unwrapped` replaces a line break between two words by a space, and deletes all other line
+// breaks.
 const broken = (word) => [...word].join("\\n?");
 const JUDGE = new RegExp(`^(judge)[ \\n]+(\\S[^]*?)[ \\n]+(${Object.keys(LEVELS).map(broken).join("|")})[ \\n]+([^]+)$`);
 const BREAK = new RegExp(`^(break)[ \\n]+([a-z0-9\\n-]+?)[ \\n]+((?:<?https?:[^#]+)?#[^]*?)(?:[ \\n]+(${broken(NAMED)}))?$`);
@@ -120,7 +121,8 @@ export function readSchedule(link) {
   }
 }
 
-// Judges a solution. A mail can wrap its line: the texts in `shorter` join fewer of the mail's lines than `line`. The first text that is right counts.
+// Judges a solution. If a mail program has wrapped the solution, `line` joins the most lines of the mail, and the texts in `shorter` join fewer. The first of
+// these texts that is right counts.
 export function judgedSolution(ask, lessons, { line, shorter }) {
   const lines = [line, ...shorter];
   /** @type {any[]} */

@@ -1,4 +1,5 @@
-// Judges schedules by the goal of a lesson. A lesson is checked when it is read: its start must not reach the goal, and its answer must.
+// Judges schedules by the goal of a lesson. A lesson is checked when it is read: the lesson's start must not reach the goal, and the lesson's answer must reach
+// it.
 import { readFault, sentenceOn } from "../engine/answers.js";
 import { askList, TO_BREAK, verdictOnLacking } from "../run/broken.js";
 import { eventsAsked, scheduleOfDraft, scheduleText, versionOf } from "../run/schedule_text.js";
@@ -44,7 +45,7 @@ function withinBound(search) {
   }
 }
 
-// Checks that a goal can be evaluated in bounded time, on a run of about sixty events of the lesson's list and threads.
+// Checks that the goal of a lesson can be evaluated in bounded time. Tries it on a generated run of about sixty events, with the lesson's list and threads.
 function isBounded(ask, { list, threads, goal }) {
   const { text, status } = ask("listset_gen", [list, Math.max(threads, 2), 4, 6, 3, 1].join("\0"));
   const { trace } = status === 0 ? runOfSchedule(ask, text, null) : { trace: null };

@@ -1,5 +1,6 @@
-// The levels of Break it, one for each list that lacks a check. A level states the missing check, wrong guesses at it with a reply to each, the first calls, how many
-// events and calls the shortest known run has, and the code to strike out. A link to a level contains the position of the level, so a new level is added at the end.
+// The levels of the Break activity, one for each list that lacks a check. A level contains the missing check, wrong guesses at this check with a reply to each
+// guess, the first calls, the numbers of events and calls in the shortest known run that breaks the list, and the code to strike out. A link to a level
+// contains the position of the level, so new levels must be added at the end.
 
 export const BREAK_LEVELS = {
   lock: {

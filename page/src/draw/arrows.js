@@ -1,4 +1,4 @@
-// Draws the arrows between nodes. Each is one curve of four points, so any arrow can be animated into any other.
+// Draws the arrows between nodes. Each arrow is one curve with four points, so that any arrow can be animated into any other arrow.
 import { linkTarget } from "../run/state.js";
 import { valueText, tag, title } from "../run/markup.js";
 
@@ -9,7 +9,8 @@ function curve(...numbers) {
   return `M${a} ${b} C${c} ${d} ${e} ${f} ${g} ${h}`;
 }
 
-// The arrow of a marked node begins at the edge of the node, since the node has a cross in place of the dot.
+// Returns the path of the arrow from a node to the next. The arrow begins at the first node's dot or, if the first node is marked, at the node's edge. (A
+// marked node has a cross and no dot.)
 function pathOf(from, to, places, isMarked) {
   const [x, y] = [from.x + from.width - (isMarked ? 0 : linkWidth(from.width) / 2), from.y + from.key / 2];
   if (from === to) return curve(x, y, x + 44, y - 50, from.x + from.width - 10, from.y - 50, from.x + from.width - 24, from.y - 5);

@@ -7,7 +7,8 @@ const LEAST_STEP = 7; // minimum width of an event, in pixels
 const BAR = 20; // pixels: the height of a bar
 const BELOW = 6; // pixels between a bar and the labels of the next thread's bars
 
-// Returns the first and last event to draw: all events if they fit, else a window that moves by a third of its width.
+// Returns the numbers of the first and the last event to draw. If the events do not all fit, the numbers bound a window of events that moves by a third of its
+// width.
 function windowOf(total, count, room) {
   const most = Math.max(30, Math.floor(room / LEAST_STEP));
   if (total <= most) return { first: 1, last: Math.max(total, 1) };
@@ -19,7 +20,8 @@ function windowOf(total, count, room) {
 
 const shownIn = ({ calls }, first, last) => calls.filter(({ begun, ended }) => begun <= last && (ended === null || ended >= first));
 
-// Returns a bar's height, the space below it, and the most rows of labels. With little height (`isLow`), the labels are inside the bars.
+// Returns the height of a bar, the space below a bar, and the maximum number of rows of labels. If the drawing is low (`isLow`), the labels are inside the
+// bars.
 function formOf(threads, isLow) {
   if (isLow && threads <= 6) return { bar: 19, below: 4, mostRows: 1 };
   if (threads > 12) return { bar: 9, below: 1, mostRows: 1 };
@@ -59,7 +61,7 @@ export function scaleOf(trace, count, width, hides = false, isLow = false, grown
   return { first, last, step, lane, bar, width, grown, count, now, edge, height, x, y, spanOf, labels: places, areWhole, isIn: above === 0 };
 }
 
-// Decides whether the point of a call is known after `count` events: once the call has changed the set, or has returned.
+// Returns whether the moment when a call takes effect is known after `count` events, because the call has changed the set or has returned.
 export const isReached = (call, count) => call.at <= count && (call.changes || (call.ended !== null && call.ended <= count));
 
 export function drawLane(scale, thread, place = thread) {
@@ -143,7 +145,7 @@ export function drawCalls(trace, scale) {
   return tag("svg", frame, ...lanes, drawCursor(scale, height, scale.y(0) - scale.bar / 2 - 2), ...stems, ...bars, ...points, signs);
 }
 
-// ---- The labels above the bars. Their places depend on the whole run and not on the current event, so no label jumps.
+// ---- The labels above the bars. The place of a label depends on the whole run and not on the current event, so that no label moves between events.
 const LETTER = 7.1; // pixels of a letter of a label
 const BOLD = 8; // pixels of a letter of a reply
 const BETWEEN = 8; // pixels between two labels of a row
@@ -151,7 +153,8 @@ export const [GROWN, WIDE_GROWN, SMALL_GROWN] = [1.25, 1.34, 1.09]; // factors b
 export const ROW_HEIGHT = 15;
 export const widthOf = (text, reply = "") => LETTER * text.length + (reply === "" ? 0 : LETTER + BOLD * reply.length);
 
-// Returns the place { x, row } of each label, or null if no row has room. The labels are sorted by their left ends, and lie at an end of their bars.
+// Returns for each label its place { x, row }, or null if no row has room for the label. Each label is placed at an end of its bar. `items` must be sorted by
+// their left ends.
 function placeLabels(items, { start, edge, mostRows }) {
   const taken = Array.from({ length: mostRows }, () => start);
   return items.map(({ left, right, wide }) => {
@@ -165,7 +168,7 @@ function placeLabels(items, { start, edge, mostRows }) {
   });
 }
 
-// The short labels of calls, for bars without space for the long label. A line below the drawing explains these signs.
+// The short labels of calls, for bars that are too narrow for the long label. A line below the drawing explains the short labels.
 const SIGNS = {
   add: (key) => `+${key}`,
   remove: (key) => `\u2212${key}`,

@@ -1,4 +1,5 @@
-// Draws the bars of Judge, on which the reader chooses the calls' moments. For the keyboard, a bar is a slider. A refused call is red.
+// Draws the bars of the Judge activity. On the bar of a call, the reader chooses the moment when the call takes effect. For keyboard users, each bar is a
+// slider. The bar of a refused call is red.
 import { lastMoment, nameOfCall } from "../run/judged.js";
 import { callText, chipOf, colourOf, escaped, label, tag, title } from "../run/markup.js";
 import { recordedInWords } from "../run/recorded.js";
@@ -89,7 +90,7 @@ function drawOwnPoint(call, at, y, scale) {
   return tag("g", { class: `point own ${colourOf(call.thread)}` }, stem, tag("circle", { cx: x, cy: y, r: 8 }), drawWhen(call, at, y, scale));
 }
 
-// Labels a point with its moment, if the label fits on the bar. Outside of the bar, it could seem to belong to another call.
+// Draws the number of a point's moment beside the point if the number fits on the bar. (Outside of the bar, the number could seem to belong to another call.)
 function drawWhen(call, at, y, scale) {
   const x = scale.x(at);
   const isRoomy = (room) => room >= SLOT_WIDTH;
@@ -112,7 +113,8 @@ export function drawJudged(judged) {
   return tag("svg", frame, ...lanes, count === 0 ? "" : tag("line", line), ...calls);
 }
 
-// Draws the reader's order as a line of calls. Calls that are not placed yet follow in a pale colour, so that the line keeps its size.
+// Draws the calls in the order that the reader has chosen. Calls that the reader has not placed yet follow in a pale colour, so that the size of the drawing
+// does not change.
 export function drawOwnOrder(answer) {
   const { calls } = answer.exercise;
   const placed = answer.order().map(({ call, at, reply }) => {

@@ -1,4 +1,5 @@
-// Draws the proved code of the pending calls, and marks the current line of each thread. For a call without its own code, shows rows of the step table.
+// Shows the proved code of the pending calls, and marks the current line of each thread. For a call that has no code, shows rows of the list's step table (the
+// numbered atomic steps).
 import { LISTS } from "../../made/rows.js";
 import { more } from "../engine/more.js";
 import { callText, chipOf, escaped, tag } from "../run/markup.js";
@@ -13,7 +14,8 @@ export function codeOf(kind, { operation }) {
   return file === undefined ? null : { file, functions: more.CODE[file] };
 }
 
-// Returns the current line of a thread. If several lines execute the thread's row of the step table, the progress of its call decides.
+// Returns the current line of a thread. If several lines execute the thread's row of the step table, the progress of the thread's call decides between these
+// lines.
 export function stepOf(functions, held) {
   let found = stepsAt(functions, held.pc);
   const came = stepsAt(functions, held.came).map(({ code }) => code.name);

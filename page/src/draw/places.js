@@ -1,4 +1,4 @@
-// Places the nodes of the list on their stage, and the threads' hands (labels) on the nodes. Lengths are in units of `scale` pixels.
+// Computes the places of the list's nodes, and of the hands (the threads' labels at nodes). Lengths are in units of `scale` pixels.
 import { LISTS } from "../../made/rows.js";
 import { ownerIn } from "../run/outcomes.js";
 import { isWritten, keyNumber } from "../run/state.js";
@@ -14,8 +14,9 @@ const BESIDE_HANDS = 2; // distance of two hands in a row, so that their edges m
 const MOST_POINTING = 6; // maximum number of threads with hands
 
 // The measures of a drawing, in units. `least` is the smallest number of pixels per unit at which labels can be read. `key` and `lock` are the heights of
-// a node's two parts. `slot` is the width of a node with its gap, and `gap` is the gap as a share of it. `below` lists how far below the chain other nodes
-// can be drawn, the roomiest first; 0 draws them in the gaps of the chain, and -14 draws them higher there.
+// a node's two parts. `slot` is the width of a node together with the gap beside the node, and `gap` is the gap's share of this width. `below` lists how far
+// below the chain the nodes outside of the chain can be drawn, the largest distance first. (0 draws these nodes in the gaps of the chain, and -14 draws them
+// higher in the gaps.)
 const HANDS = { height: 26, over: -2, left: 28, letter: 10.4, right: 12 };
 const SMALL_HANDS = { height: 24, over: -2, left: 21, letter: 9.8, right: 5 };
 const WIDE = { least: 0.9, key: 56, lock: 32, slot: 100, gap: 0.5, hand: HANDS, kind: "", below: [54, 30, 0, -14] };
@@ -37,7 +38,8 @@ function pointersOf(state, event) {
   });
 }
 
-// Decides whether a register is drawn. A register whose value is the head can be unset, so it is not drawn. The exception is `pred` after the walk has begun.
+// Returns whether a thread's register is drawn. A register that points to the head is not drawn, since it can be unset, unless it is `pred` and the walk has
+// begun.
 export const isPointing = (held, name) => held[name] !== "head" || (name === "pred" && held.curr !== "head");
 
 function importantNodes(state, event, pointers) {
@@ -49,7 +51,7 @@ function importantNodes(state, event, pointers) {
   return important;
 }
 
-// Returns the chain as items to draw: single nodes, and groups of nodes if the stage has no room for all.
+// Returns the chain as items to draw: single nodes, and groups of nodes if the stage has no room for all nodes.
 function foldedChain(chain, important, most) {
   if (chain.length <= most) return chain.map((name) => ({ name, names: [name] }));
   const items = [];
@@ -62,7 +64,8 @@ function foldedChain(chain, important, most) {
   return items.map((item) => (item.names.length === 1 ? { name: item.names[0], names: item.names } : item));
 }
 
-// Returns the largest scale (pixels per unit of the drawing) that fits the stage, and the heights. They depend on the run and not on the current step, so that nothing jumps.
+// Returns the largest scale (pixels per unit) at which the drawing fits on the stage, and the heights of the drawing's parts. Scale and heights depend on the
+// run and not on the current step, so that nothing moves between steps.
 function unitsOf(state, room, slots, isFlat) {
   const form = formOf(room);
   const least = Math.max(form.least, room.least ?? 0);
@@ -76,7 +79,7 @@ function unitsOf(state, room, slots, isFlat) {
   const fits = (at) => heightsOf(form.below[at], lanesAt(least)).height * least <= room.high;
   const first = form.below.findIndex((_, at) => at >= (room.tight ?? 0) && fits(at));
   const tight = first === -1 ? form.below.length - 1 : first;
-  // A larger unit leaves less room for hands side by side. Chooses the number of rows of hands that allows the largest unit.
+  // In larger units, fewer hands (the threads' labels) fit side by side. Chooses the number of rows of hands with which the units can be largest.
   const sizeWith = (lanes) => {
     const high = room.high / heightsOf(form.below[tight], lanes).height;
     const own = form === SMALL ? Math.min(1, high, room.wide / (slots * form.slot)) : Math.min(room.wide / 880, high, room.wide / (slots * 128));
@@ -116,7 +119,8 @@ function placesOfChain(items, room, units, slots) {
   return places;
 }
 
-// Chooses the nodes outside the chain to draw: first important ones, then those that only their thread sees. `more` is the number of the others.
+// Chooses which nodes outside of the chain are drawn: first the important nodes, then the nodes that only one thread can reach. `more` is the number of nodes
+// that are not drawn.
 function nodesAside(state, chain, important, most) {
   const inChain = new Set(chain);
   const aside = Object.keys(state.nodes).filter((name) => !inChain.has(name) && isWritten(state.nodes[name]));
@@ -126,7 +130,8 @@ function nodesAside(state, chain, important, most) {
   return { shown, more: aside.length - shown.length };
 }
 
-// Places each node outside the chain below the gap that its key belongs to. Nodes below one gap are side by side, and are narrow enough for the gap.
+// Places each node that is outside of the chain below the gap in which a node with its key would be. Nodes below the same gap are drawn side by side, and are
+// narrow enough for the gap.
 function placeAside(state, chain, shown, places, { width, down, spare, isLow }) {
   const { width: widest, gap, row, key, y } = places.head;
   const groups = new Map();
@@ -148,7 +153,7 @@ function placeAside(state, chain, shown, places, { width, down, spare, isLow }) 
   }
 }
 
-// Puts the hands (the threads' labels) on a node into rows, each into the lowest row that has room.
+// Arranges the hands (the threads' labels) at a node in rows. Each hand goes into the lowest row that has room for it.
 function rowsOf(hands, most) {
   const rows = [];
   for (const own of hands) {
@@ -181,7 +186,7 @@ function handsOn(pointers, places, { form: { hand }, width }, hides) {
   return all.reduce((placed, own) => [...placed, freeHand(own, placed, places[own.name], hand, width)], []);
 }
 
-// Moves a hand (the label of a thread at a node) that would cover another hand to the nearest free place that still touches its node.
+// If a hand (a thread's label at a node) would cover another hand, moves it to the nearest free place at which it still touches the node.
 function freeHand(own, placed, { x, y, width: node }, { height, over }, width) {
   const isFree = (at) => placed.every((other) => at.x + own.wide <= other.x || other.x + other.wide <= at.x || Math.abs(at.y - other.y) >= height);
   const [least, most] = [Math.max(2, x - own.wide), Math.min(width - 2 - own.wide, x + node)];
@@ -198,7 +203,7 @@ function freeHand(own, placed, { x, y, width: node }, { height, over }, width) {
 /**
  * The space for a drawing, and what to draw: the size of the stage in pixels (`wide`, `high`) and the smallest number of pixels per unit (`least`); the maximum
  * number of nodes in the chain (`slots`); where a lock is shown (`lock` is "list", "nodes" or ""); whether every node stays in the chain (`flat`); how tight
- * the last drawing was (`tight`); the pixels left free at both ends (`ends`); and the registers without a hand (`hides`).
+ * the previous drawing was (`tight`); how many pixels stay free at each end (`ends`); and the registers for which no hand is drawn (`hides`).
  * @typedef {{ wide: number, high: number, least?: number, slots: number, lock: string, flat?: boolean, tight?: number, ends?: number[], hides: string[], names?: boolean, isWhole?: boolean, isSlide?: boolean }} Room
  */
 export function arranged(state, event, room) {

@@ -1,4 +1,4 @@
-// Draws the list on its stage: nodes with their locks, and the threads' labels on the upper edges of the nodes.
+// Draws the list: its nodes with their locks, and the threads' labels at the upper edges of the nodes.
 import { LISTS } from "../../made/rows.js";
 import { callText, colourOf, holderOf, keyText, label, letterOf, tag, title } from "../run/markup.js";
 import { linkTarget, ownerOf } from "../run/state.js";

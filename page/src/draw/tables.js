@@ -1,4 +1,4 @@
-// Draws the contents of the set over time, the order of the calls, and the tables of threads and of rows.
+// Draws the contents of the set over time, the order of the calls, the table of the threads, and the list's step table.
 import { LISTS } from "../../made/rows.js";
 import { callText, chipOf, escaped, keyText, label, openReply, tag, title } from "../run/markup.js";
 import { contentsIn } from "../run/state.js";
@@ -96,7 +96,8 @@ function drawWindow(scale, total, x) {
   return label({ class: "note", y: 42, ...place }, `events ${scale.first} to ${scale.last} of ${total}`);
 }
 
-// Returns the name of the row with the contents of the set. A broken list can contain other keys than the linearization points imply.
+// Returns the label of the row that shows the contents of the set. The label differs for a broken list, which can contain other keys than those that follow
+// from the linearization points.
 function nameOfContents({ lacks }, grown) {
   if (lacks === null) return label({ class: "name", x: 6, y: 17 }, "set");
   const lines = ["should", "have"].map((words, line) => label({ class: "name", x: 0, y: 9 + grown + 12 * line, style: `font-size:${Math.min(14, Math.round(12 * grown))}px;letter-spacing:-.6px` }, words));

@@ -1,15 +1,15 @@
-// Parses the engine's answers into records. Other modules write sentences about these records.
+// Parses the engine's answers into records. Other modules turn the records into sentences.
 
 const linesIn = (text) => text.trimEnd().split("\n");
 
-// Reads a call of a report, `call ID THREAD OPERATION KEY BEGIN END REPLY`. A pending call has no end and no reply.
+// Parses a line of a report, `call ID THREAD OPERATION KEY BEGIN END REPLY`. A pending call has no end and no reply.
 function callOfReport(line) {
   const [, id, thread, operation, key, begun, ended, reply = null] = line.split(" ");
   const end = ended === "open" ? null : Number(ended);
   return { id: Number(id), thread: Number(thread), operation, key: Number(key), begun: Number(begun), ended: end, reply };
 }
 
-// Reads a call of a recording, `call THREAD OPERATION KEY BEGIN END REPLY`. A moment can be too large for an exact Number.
+// Parses a line of a recording, `call THREAD OPERATION KEY BEGIN END REPLY`. BEGIN and END become BigInts, since they can be too large for an exact Number.
 export function callOfRecording(line) {
   const [, thread, operation, key, begun, ended, reply] = line.split(" ");
   const isOpen = ended === "-";
@@ -58,7 +58,8 @@ export function readVerdict({ text }) {
   const why = {
     key: key === null ? null : Number(key),
     moment, // the calls until this moment have no order; null: the calls have one, but no order leaves the key as recorded
-    // Two calls that contradict each other; `isPresent`: the first leaves the key present. Null stands for the opening keys, or for the final keys.
+    // Two calls that contradict each other. `isPresent` is true if the first call leaves the key present. If `first` is null, the opening keys contradict the
+    // second call. If `second` is null, the final keys contradict the first call.
     clash: was === null ? null : { isPresent: was === "true", first: callBehind("first"), second: callBehind("second") },
     noSuchReply: reply === null ? null : Number(reply), // the number of a call with a reply that no set can return, or null
   };
@@ -66,7 +67,8 @@ export function readVerdict({ text }) {
   return { kind, ...ofCalls, order: orderIn(valuesOf("order"), valuesOf("set")), why: kind === "none" ? why : null };
 }
 
-// For each error of an order, the names of the values that the engine returns with the error. An error that is not listed has one value, the call.
+// The errors that the engine can find in an order of calls, each with the names of the values that the engine returns with it. An error that is not listed has
+// one value, `call`.
 const FAULT_VALUES = {
   HistoryReply: ["call", "reply"],
   SetReply: ["call", "reply", "place", "answer"],
@@ -79,7 +81,8 @@ function orderIn([fault, ...values], keys) {
   return { fault, set: `{${keys.join(", ")}}`, ...Object.fromEntries((FAULT_VALUES[fault] ?? ["call"]).map((name, at) => [name, values[at]])) };
 }
 
-// Returns the first sentence of `listset faults` about a cause in texts of these kinds ("a schedule"), for use after a colon, or null.
+// Returns the first sentence that `listset faults` prints about `cause`, in a form that can follow a colon, or null. `kinds` are the kinds of texts to look
+// for, such as "a schedule".
 export function sentenceOn(ask, cause, ...kinds) {
   if (!cause) return null;
   const causes = ask("listset_faults").text;

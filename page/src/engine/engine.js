@@ -1,10 +1,10 @@
-// The engine: the proved replayer as the WebAssembly module listset.wasm. Its functions read texts and return a text.
+// The engine: the proved replayer as the WebAssembly module listset.wasm. The functions of the module take texts as arguments and return a text.
 
 const FIRST_ROOM = 1 << 22; // bytes of the first buffer for an answer of the engine
 const LARGE_MEMORY = 1 << 28; // bytes; an instance with a larger memory is not used again
 
 export class Engine {
-  // The module calls `read` to read a file: `read` copies the file's next bytes to the start of `room`, and returns how many, or -1 after an error.
+  // The module calls `read` to read a file: `read` copies the file's next bytes to the start of `room`, and returns the number of bytes, or -1 after an error.
   /** @param {(input: bigint, room: Uint8Array) => number} read */
   constructor(module, read = () => -1) {
     this.module = module;
@@ -26,12 +26,13 @@ export class Engine {
     return this.answered((exports) => answerOf(exports, name, given));
   }
 
-  // Answers for a recording of any length, which the module reads piece by piece.
+  // Returns the answer of the module's function `name` for a recording of any length. The module reads the recording piece by piece.
   answerFrom(name, input) {
     return this.answered((exports) => answerInRoom(exports, name, [[input]], FIRST_ROOM));
   }
 
-  // Returns the diagnosis that the program prints below a refusal of `used` lines. The module reads the recording again for the diagnosis.
+  // Returns the diagnosis that the program prints after the `used` lines of a verdict that refuses a recording. The module reads the recording a second time
+  // for the diagnosis.
   whyFrom(input, used) {
     return this.answered((exports) => answerInRoom(exports, "listset_why_from", [[input, BigInt(used)]], FIRST_ROOM));
   }
@@ -58,7 +59,7 @@ function answerOf(engine, name, given) {
   return { status: answer.status, text: new TextDecoder().decode(answer.bytes), bytes: answer.bytes };
 }
 
-// Copies the texts into the module's memory, and returns the address and length of each. (Each text takes two of a function's parameters.)
+// Copies the texts into the module's memory, and returns the address and length of each text. (A function of the module has two parameters for each text.)
 function textsOf(engine, parameters, given) {
   return Array.from({ length: (parameters - 3) / 2 }, (_, at) => {
     const text = given[at] ?? new Uint8Array(0);
@@ -92,7 +93,7 @@ export async function passed(bytes, stream) {
 
 export const bytesOf = (base64) => Uint8Array.from(atob(base64), (letter) => letter.charCodeAt(0));
 
-// Compiles the module. The file engine.js contains its packed bytes.
+// Compiles the WebAssembly module. Its compressed bytes are in the file engine.js.
 async function engineModule() {
   if (typeof ENGINE === "undefined") {
     if (document.readyState !== "complete") await new Promise((done) => window.addEventListener("load", done, { once: true })); // first the page is loaded, then the engine

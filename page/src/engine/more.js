@@ -1,4 +1,4 @@
-// Data loaded on demand: the proved code.
+// Data that the page loads on demand: the proved code of the lists.
 import { loadScript } from "./engine.js";
 
 /** @type {{ CODE: any, CODE_OF: any }} */

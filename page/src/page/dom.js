@@ -3,7 +3,7 @@
 /** @type {(id: string) => any} */
 export const byId = (id) => document.getElementById(id);
 
-// Redraws a box. If the focused element is drawn again, it keeps the focus. Otherwise the first button or link gets it, except Undo and Start over.
+// Redraws a box. If the focused element is drawn again, it keeps the focus. Otherwise the first button or link other than Undo and Start over gets the focus.
 export function redraw(box, html) {
   const before = box.contains(document.activeElement) ? document.activeElement : null;
   const keyOf = (part) => JSON.stringify({ ...part.dataset, name: part.tagName });
@@ -15,10 +15,10 @@ export function redraw(box, html) {
   (same ?? box.querySelector("button:not([data-undo], [data-again]), a") ?? box).focus();
 }
 
-// Marks a button as disabled for screen readers. The button can keep the focus.
+// Tells screen readers whether a button is disabled. A button that is disabled in this way can keep the focus.
 export const setAble = (id, isAble) => byId(id).setAttribute("aria-disabled", String(!isAble));
 
-// Hides or shows a part. If the hidden part had the focus, `other` gets it.
+// Hides or shows a part. If the hidden part had the focus, `other` gets the focus.
 export function setHidden(part, isHidden, other) {
   if (part.hidden === isHidden) return;
   if (isHidden && part.contains(document.activeElement)) other.focus({ preventScroll: true });

@@ -28,7 +28,7 @@ export function onFile(input, take) {
   };
 }
 
-// Returns the kind of a file by its first line. An unknown title counts as a schedule, so the engine reports the error.
+// Returns the kind of a file by its first line. A file with an unknown first line counts as a schedule, so that the engine reports the error.
 function kindOfFile(text) {
   if (text.startsWith("listset-trace")) return "trace";
   if (text.startsWith("listset-calls")) return "calls";
@@ -65,7 +65,7 @@ export async function openFile(text, name) {
   showReport(text, `The report in ${name}:`);
 }
 
-// Opens the schedule of a trace. For a broken list (a list without one of its checks), opens its level of the activity Break.
+// Opens the schedule of a trace: in the Break activity if the trace is of a broken list (a list without one of its checks), otherwise on the bench.
 function openTrace(text) {
   const trace = traceIn(text);
   if (trace === null) return sayError("this is not a trace of listset");
@@ -75,7 +75,7 @@ function openTrace(text) {
   if (now.run.isRun) say(comparedTrace(text, now.run.trace.text));
 }
 
-// Opens the report box and waits for its toggle event. The handler of this event first fills the box with the report of the current schedule.
+// Opens the report box and waits for its toggle event, whose handler fills the box with the report of the current schedule.
 async function openReportBox() {
   const box = byId("report-box");
   if (box.open) return;

@@ -20,7 +20,7 @@ export function dispatch(type, given) {
   show();
 }
 
-// The listeners by occasion: `ran` is called after a text was run; `recorded` and `course` are called with the text of a file.
+// The listeners: those in `ran` are called after a schedule was run, and those in `recorded` and `course` are called with the text of a file of this kind.
 const listeners = { ran: [], recorded: [], course: [] };
 export const on = (what, ...deeds) => listeners[what].push(...deeds);
 
@@ -39,7 +39,7 @@ export function goTo(count) {
   dispatch("count", { count });
 }
 
-// Shows one line about the last action, until the next event is shown. If the line is already shown, screen readers do not announce it again.
+// Shows a line of text about the reader's last action, until the next event is shown. If the line is already shown, screen readers do not announce it again.
 export function say(text) {
   if (last.text === text && byId("said").innerHTML === last.html) return;
   byId("said").innerHTML = text;
@@ -66,7 +66,7 @@ export function askNow(name, ...texts) {
 
 export const LONG_TEXT = 200000; // characters; the engine needs some time for a longer text
 
-// Returns the engine's answer. The engine gets a long text after a pause, so that the page is drawn first.
+// Returns the engine's answer about `text`. If `text` is long, waits before calling the engine, so that the browser can draw the page first.
 export async function askSoon(name, text) {
   if (text.length >= LONG_TEXT) await new Promise((done) => setTimeout(done, 100));
   return askNow(name, text);

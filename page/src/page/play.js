@@ -1,4 +1,4 @@
-// Plays the events of a run until its end or a pause. Plays slowly if the system asks for less motion.
+// Plays the events of a run until the run ends or the reader stops it. Plays more slowly if the system asks for less motion.
 import { wantsStill } from "../draw/glide.js";
 import { byId } from "./dom.js";
 import { goTo, isLecture, now, show } from "./now.js";
@@ -46,7 +46,7 @@ export function goToTurn(step) {
   goByHand(count);
 }
 
-// ---- The keys of the keyboard. Letters and digits can be switched off.
+// ---- Keyboard shortcuts. The reader can switch off those that are letters or digits.
 export const keysOf = { scene: (event) => event, slide: (by) => by, next: () => {} }; // handlers: of all keys in a scene, of a presenter's keys on a slide, and of N
 const WAYS = { PageDown: 1, ArrowRight: 1, ArrowDown: 1, " ": 1, PageUp: -1, ArrowLeft: -1, ArrowUp: -1 };
 const isPress = ({ key, target }) => key === " " && target.matches(":is(button, a, summary):focus-visible"); // Space presses the focused button or link

@@ -63,7 +63,7 @@ export function reduce(state, action) {
 }
 
 /**
- * Returns the key of an entry of the browser's history. Each place (a scene or the bench) and each task has its own entry. A step of a run has none.
+ * Returns the key of a state's entry in the browser's history. Each place (a scene or the bench) and each task has its own entry. A step of a run has no entry.
  * @param {State} state
  */
 export function entryOf({ place, task, exercise }) {

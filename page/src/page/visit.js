@@ -12,7 +12,8 @@ import { now, say } from "./now.js";
 import { entryOf } from "./reducer.js";
 
 const MOMENT = 400; // milliseconds without a change before the address bar is updated: browsers refuse frequent updates
-// `entry` is the key of the current entry of the browser's history, `isRead` is true after the first address was read, `course` is the packed course.
+// `entry` is the key of the current entry in the browser's history. `isRead` is true after the first address was read. `course` is the open course, encoded for
+// an address.
 export const visit = { timer: 0, entry: null, isRead: false, course: null };
 const addressHere = () => addressIn(now, visit);
 
@@ -26,7 +27,8 @@ export function keepNow() {
   if (visit.isRead) setAddress();
 }
 
-// Adds an entry to the browser's history for a new task or place, but not for a step. If the state has no address, the entry stores the text of its run.
+// Adds an entry to the browser's history for a new task or place, but not for a step. If the state has no address, the entry stores the text of the state's
+// run.
 function setAddress() {
   const address = addressHere();
   const entry = entryOf(now);
@@ -74,7 +76,7 @@ export const START_OF_CODE = [3, 7];
 export const linesOfCode = (s) => s.split(",").filter((line) => /^(b\d+\.[a-z]+\.\d+|g\d+\.\d+)$/.test(line)).map(longLine);
 export const SET_OF_CODE = { threads: 2, quota: 9 };
 
-// Returns the address of "Step by the code": the list, its initial keys, the lines of a run, and threads and quota.
+// Returns the address of the activity "Step by the code" for a list with initial keys, the lines of a run, and the number of threads and the quota in `set`.
 export function addressOfCode(list, opening, lines, set = SET_OF_CODE) {
   const ofOpening = opening.join() === START_OF_CODE.join() && lines.length === 0 ? "" : `&opening=${opening.join(".")}`;
   const ofSet = ["threads", "quota"].map((name) => (set[name] === SET_OF_CODE[name] ? "" : `&${name}=${set[name]}`)).join("");
@@ -104,7 +106,8 @@ const ADDRESSES = {
   assignment: addressOfAssignment,
 };
 
-// Returns the address of a state, or null if it has none. `given.course` is the open course, packed for an address, or null for the book's course.
+// Returns the address of a state, or null if the state has no address. `given.course` is the open course, encoded for an address, or null for the built-in
+// course.
 export function addressIn(state, given) {
   const { place, task, run, exercise } = state;
   if (place.slide > 0) return slideAddress(place.slide);

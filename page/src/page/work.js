@@ -17,7 +17,7 @@ export function openTask(task, text, at) {
 export const openExample = (name, count) => openTask({ kind: "example", id: name }, askNow("listset_example", name).text, count);
 export const newSchedule = (list, threads, quota) => openTask(OWN_TASK, scheduleText({ list, threads, quota }), 0);
 
-// Runs the text in the box, possibly a draft. Keeps the current event if the events before it are unchanged. A changed text is the reader's own.
+// Runs the schedule or draft in the text box. Keeps the current event if the events before it are unchanged. A changed text becomes the reader's own task.
 export function runBox() {
   const box = byId("schedule").value;
   const { text, fault } = scheduleOfDraft(askNow, box === "" || box.endsWith("\n") ? box : `${box}\n`);

@@ -1,4 +1,5 @@
-// Reads and writes addresses (listed in page/README.md). A broken list has a number there, since its name would reveal the missing check.
+// Reads and writes the addresses that are listed in page/README.md. A written address names a broken list by a number, since the name of the list would reveal
+// the missing check.
 import { LACKING } from "../../made/classics.js";
 import { LISTS } from "../../made/rows.js";
 import { scheduleText, versionOf } from "./schedule_text.js";
@@ -20,7 +21,7 @@ export const isSeed = (word) => ADDRESS_PARTS.seed.test(word);
 
 export class AddressFault extends Error {}
 
-// Returns the address of a schedule at an event, or null if the text is no schedule or too long.
+// Returns the address of a schedule at an event, or null if the text is not a schedule or is too long.
 export function addressOf(text, event, lacks = null) {
   if (text.length > 2 * LONGEST_ADDRESS) return null; // the address of a schedule has more than half the characters of its text
   const [title, list, threads, quota, ...lines] = text.split("\n").slice(0, -1);
@@ -116,7 +117,7 @@ const TRIES = 200;
 const MOST_TRIED_CALLS = 8; // of a seed; for more calls, the first generated schedule is used
 const MOST_SEEN = 60; // events; in a longer run, a reader cannot tell the events apart
 
-// Returns the seed of a numbered run: five calls of two threads on two keys, few enough to judge by eye.
+// Returns the seed of a numbered run that is small enough to judge by eye: five calls of two threads on two keys.
 export const seedOf = (kind, number) => `${kind}.2.5.2.${number}`;
 
 export function partsOfSeed(seed) {
@@ -141,7 +142,7 @@ export function scheduleOfSeed(ask, seed) {
   return joined(text);
 }
 
-// Decides whether a run is interesting: a key is added, a key is removed, and a contains, or a call that returns false, overlaps a call of another thread.
+// Returns whether a run is interesting: it adds a key, it removes a key, and some call that is a `contains` or returns false overlaps a call of another thread.
 function isWorthIt({ calls, changes, total }) {
   const puts = changes.some(({ put }) => put !== undefined) && changes.some(({ took }) => took !== undefined);
   const isBeside = (one, other) => one.thread !== other.thread && one.begun < other.ended && other.begun < one.ended;

@@ -1,4 +1,5 @@
-// Broken lists, each without one check. A run is broken if neither the order of its linearization points nor any other order explains it (both proved).
+// Broken lists, each of which lacks one check. A run breaks its list if neither the order of the linearization points nor any other order explains the calls.
+// (Proved programs decide both.)
 import { LACKING } from "../../made/classics.js";
 import { readReport, readVerdict } from "../engine/answers.js";
 import { nameOfCall } from "./judged.js";
@@ -12,7 +13,8 @@ const UNKNOWN = "Whether another order explains these replies is not known.";
 const UNEXPLAINED = "No order of these calls explains that (proved).";
 export const TO_BREAK = "No order explains the calls and the keys left (proved)."; // the condition of a lesson about a broken list
 
-// The LazyList with a `contains` that ignores marks. In every known run of this list, some order explains the calls, so the list is no task of Break.
+// The LazyList with a `contains` that ignores marks. In every known run of this list, some order explains the calls, so the list is not a task of the Break
+// activity.
 export const NO_TASK = "mark-in-contains";
 export const isTaskDone = (lacks, { kind }) => kind === "broken" && lacks !== NO_TASK;
 
@@ -22,7 +24,7 @@ export const askList = (ask, name, lacks, text) =>
 export const startOfLacking = (name) => scheduleText({ list: LACKING[name], threads: 2, quota: 2, opening: [3, 7] });
 
 // Judges the run of a schedule. The verdict is `explained` if the order of the linearization points explains the calls, `points` if that order is refused
-// and another order explains the calls or could explain them, `broken` if no order does, and `refused` if the schedule cannot be run.
+// and another order explains the calls or could explain them, `broken` if no order explains the calls, and `refused` if the schedule cannot be run.
 export function verdictOnLacking(ask, lacks, schedule) {
   const { status, text } = askList(ask, "listset_replay", lacks, schedule);
   if (status !== 0) return { kind: "refused", says: `The schedule is refused: ${text.trim()}`, report: null };
@@ -57,7 +59,7 @@ function isLost({ calls, opening, keys }, key) {
   return count("add") === 1 && count("remove") === 0 && !isThere;
 }
 
-// Describes a call that the judge names, in the words of the report. (To the judge, a ceiling, and an add that returned `full`, are a contains.)
+// Describes a call that the judge names as the report describes the call. (The judge treats a `ceiling`, and an `add` that returned `full`, as a `contains`.)
 function callInWords({ calls }, { thread, begun }) {
   const call = calls.find((one) => one.thread === thread && one.begun === Number(begun));
   return `${nameOfCall(call)} ${call.ended === null ? "is pending" : `returns ${call.reply}`}`;

@@ -1,4 +1,5 @@
-// An exercise of Judge: the reader chooses the order and the replies. The proved `check` accepts every order that explains the run.
+// An exercise of the Judge activity: the reader chooses the order of the calls and, if the replies are hidden, the replies. The proved `check` accepts every
+// order that explains the run.
 import { readReport, readVerdict } from "../engine/answers.js";
 import { callText, letterOf, openReply } from "./markup.js";
 
@@ -65,7 +66,7 @@ export class OwnAnswer {
     return placed.map(({ call, at }) => ({ call, at, reply: this.replyOf(call) }));
   }
 
-  // Returns what the reader has not stated yet. Two calls with the same name are told apart by the events at which they began.
+  // Returns what is still missing in the reader's answer. Two calls with the same name are distinguished by the events at which they began.
   unsaid() {
     const { calls } = this.exercise;
     const nameIn = (call) => nameOfCall(call) + (calls.filter((other) => nameOfCall(other) === nameOfCall(call)).length > 1 ? ` from event ${call.begun}` : "");
@@ -97,7 +98,7 @@ export function verdictOn(ask, answer) {
 
 const COUNTS = ["", "", "two", "three", "four", "five", "six", "seven", "eight", "nine", "ten"];
 
-// Decides whether the reader's order explains another run: the same calls with the reader's replies, and perhaps other final keys.
+// Returns whether the reader's order explains another run, with the same calls but with the reader's replies and any final keys.
 function isPossible(ask, answer) {
   const { calls, callLines } = answer.exercise;
   const ownLines = callLines.map((line, at) => (calls[at].ended === null ? line : line.replace(/\S+$/, answer.replyOf(calls[at]))));
@@ -126,10 +127,11 @@ function faultInWords(answer, { fault, call, place, reply, set, answer: due, beg
   return `This is not an order of the calls of this run (${fault}).`;
 }
 
-// Returns an answer as the last word of a line to hand in, such as 0-true,2-true,1-false,3-true. Returns "" if no call is placed.
+// Encodes an answer as the last word of a line in a hand-in, such as 0-true,2-true,1-false,3-true. Returns "" if no call is placed.
 export const wordOfAnswer = (answer) => answer.order().map(({ call, reply }) => `${call.id}-${reply}`).join();
 
-// Reads an answer that `wordOfAnswer` has written. Each call is placed at the earliest moment of its bar that keeps the order. Returns null for any other text.
+// Decodes an answer that `wordOfAnswer` has encoded. Places each call at the earliest moment of its bar that keeps the order. Returns null if `word` is not
+// such an answer.
 export function answerOfWord(exercise, word) {
   const answer = new OwnAnswer(exercise);
   let at = 0;

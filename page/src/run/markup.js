@@ -4,7 +4,7 @@ import { LISTS } from "../../made/rows.js";
 const SIGNS = { "&": "&amp;", "<": "&lt;", ">": "&gt;", '"': "&quot;" };
 export const escaped = (text) => String(text).replace(/[&<>"]/g, (sign) => SIGNS[sign]);
 
-// Returns an element as text. Attribute values are escaped, the content is not.
+// Returns the markup of an element. Attribute values are escaped, but the content is not.
 export function tag(name, attributes, ...content) {
   const given = Object.entries(attributes).map(([attribute, value]) => ` ${attribute}="${escaped(value)}"`);
   return `<${name}${given.join("")}>${content.join("")}</${name}>`;

@@ -1,4 +1,4 @@
-// Writes the effects of an event. In the sentence about the event, the effects follow the step.
+// Writes the second part of the sentence about an event: the effects of the event's step.
 import { LISTS } from "../../made/rows.js";
 import { chipOf, keyText, valueText } from "./markup.js";
 import { keyNumber, linkTarget, ownerOf } from "./state.js";
@@ -13,7 +13,7 @@ const isLinkOf = (event) => event.word?.endsWith(".link");
 const lockNames = (words) => `the lock${words.length > 1 ? "s" : ""} of ${words.map(ownerIn).join(" and ")}`;
 export const setsMark = (event) => isLinkOf(event) && event.to?.endsWith("*") === true;
 
-// Returns the event that marked each marked node. A mark is never removed.
+// Returns, for each marked node, the event that marked the node. (A mark is never removed.)
 function marksOf(trace) {
   if (trace.marks !== undefined) return trace.marks;
   trace.marks = new Map();

@@ -37,7 +37,7 @@ function remarksOn({ count, overlapped, isCutOff }) {
 
 const stateInWords = (isPresent) => (isPresent ? "present" : "absent");
 
-// Decides whether two calls that contradict each other overlap. Then they contradict each other in both orders.
+// Decides whether two calls that contradict each other overlap. If they overlap, they contradict each other in both orders.
 const overlap = (first, second) => first !== null && second !== null && BigInt(second.begun) < BigInt(first.ended);
 
 function clashInWords(key, { isPresent, first, second }) {
@@ -83,12 +83,13 @@ export function verdictOnCalls(ask, answer, text) {
 
 // ---- The diagnosis of a refused recording, which the engine returns as a record.
 /**
- * A call on the key that shows the bug. `mark` is a note: the expected answer, the state that the call leaves, or that either answer was allowed.
+ * A call that the diagnosis shows. `mark` is a note about the call: the expected answer, the state of the key after the call, or that either answer was
+ * allowed.
  * @typedef {ReturnType<typeof callOfRecording> & { mark: string }} CallOfBug
  * @typedef {{ headline: string, calls: CallOfBug[], also: CallOfBug[], facts: string[], likely: string | null, because: string | null }} Diagnosis
  */
 
-/** Returns the diagnosis of a record, or null if the record has none. @param {string} text @returns {Diagnosis | null} */
+/** Parses the engine's record of a diagnosis. Returns null if the record contains no diagnosis. @param {string} text @returns {Diagnosis | null} */
 export function diagnosisIn(text) {
   const lines = text.split("\n").filter((line) => line !== "").map((line) => ({ word: line.split(" ")[0], rest: line.slice(line.indexOf(" ") + 1) }));
   const all = (word) => lines.filter((line) => line.word === word).map(({ rest }) => rest);

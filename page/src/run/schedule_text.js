@@ -1,7 +1,7 @@
 // Reads and writes schedules and drafts. A draft can have lines `go T out` (until the call returns) and `go T to ROW` (until a row of the step table).
 import { HEADER_LINES, isTrace, Trace } from "./trace.js";
 
-// Returns the text of a schedule or draft with these lines. Initial keys and ceilings need version 2.
+// Returns the text of a schedule or draft that consists of a header and `lines`. Initial keys and ceilings need version 2 of the format.
 export function scheduleText({ list, threads, quota, opening = [], version = null }, lines = []) {
   const needed = opening.length > 0 || lines.some((line) => line.includes(" ceiling ")) ? 2 : 1;
   const head = [`listset-schedule ${version ?? needed}`, `list ${list}`, `threads ${threads}`, `quota ${quota}`];
@@ -56,7 +56,8 @@ export function scheduleOfDraft(ask, text, lacks = null) {
   return made.status === 0 ? { text: made.text, fault: null } : { text: null, fault: made.text.trim() };
 }
 
-// Returns how many steps a thread of a broken list needs to reach `row`, or to end its call if `row` is undefined. Returns an error if it never does.
+// Returns how many steps a thread of a broken list needs to reach `row`, or to end its call if `row` is undefined. Returns an error if the thread does not get
+// so far.
 function stepsOfLacking(ask, lacks, lines, thread, row) {
   const fault = (cause) => ({ count: null, fault: `listset: line ${lines.length + 1}: ${cause}` });
   const { text } = ask("listset_lacking", lacks, `${[...lines, `go ${thread} ${MOST_TRIED}`].join("\n")}\n`, "trace");

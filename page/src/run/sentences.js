@@ -41,7 +41,8 @@ function openingText(trace) {
   return `Before the first event the set is {${some}${trace.opening.length > 20 ? ", …" : ""}}, and every thread is idle.`;
 }
 
-// Moves a state to the moment after the first `count` events of its trace. Returns the last event and the registers of its thread before the event.
+// Moves a state to the moment after the first `count` events of its trace. Returns the last of these events, and the registers of the event's thread before the
+// event.
 export function momentAt(state, count) {
   const { trace } = state;
   const event = count > 0 ? trace.event(count) : null;

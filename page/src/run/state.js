@@ -59,7 +59,7 @@ export class State {
     if (!target.reached) set(target, "reached", true);
   }
 
-  // Returns the held locks by thread, as { t0: ["head.lock"] }. The locks of nodes are sorted by the keys of the nodes.
+  // Returns the locks that each thread holds, such as { t0: ["head.lock"] }. The locks of nodes are sorted by the keys of the nodes.
   locks() {
     const held = {};
     const add = (lock, word) => lock !== "free" && (held[lock] ??= []).push(word);
@@ -87,7 +87,8 @@ function openingNodes(trace) {
   return Object.fromEntries(names.map((name, at) => [name, { key: keys[at], link: names[at + 1] ?? "tail", lock: "free", reached: true }]));
 }
 
-// A thread's node before its first use. `reached` becomes true when a reached node points to the node. Until then, only its own thread sees the node.
+// A node that is reserved for a thread, before its first use. `reached` becomes true when the node can be reached from the head. Until then, only the thread
+// can see the node.
 const newNode = () => ({ key: "-inf", link: "head", lock: "free", reached: false });
 export const isWritten = (node) => node.key !== "-inf" || node.link !== "head" || node.lock !== "free";
 export const ownerOf = (trace, name) => Math.floor((Number(name.slice(1)) - 2) / trace.quota);
@@ -109,7 +110,8 @@ export function contentsIn(trace, first, last) {
   return parts;
 }
 
-// `promisedKeys` returns the keys in the set by the linearization points, `keysInChain` the keys of the unmarked nodes in the chain.
+// `promisedKeys` returns the keys that should be in the set according to the linearization points. `keysInChain` returns the keys of the unmarked nodes in the
+// chain.
 export const promisedKeys = (trace, count = trace.total) => contentsIn(trace, count + 1, count + 1)[0].keys;
 
 export function keysInChain(state) {

@@ -1,4 +1,4 @@
-// A trace, the text of `listset trace`. Events are parsed on demand.
+// A trace: the text that `listset trace` prints. Its events are parsed on demand.
 
 export const HEADER_LINES = 4;
 export const NODE_REGISTERS = ["pred", "curr", "succ", "node"];
@@ -118,7 +118,8 @@ export function eventsInCommon(one, other) {
   return count;
 }
 
-// Sorts the calls by when they take effect. Of the calls at one moment, the call that changes the set is first; the others follow by number.
+// Sorts the calls by when they take effect. Of several calls that take effect at the same moment, the call that changes the set is first, and the others follow
+// in the order of their numbers.
 function orderOf(calls) {
   const placed = calls.filter((call) => call.at !== null);
   return placed.sort((one, other) => one.at - other.at || Number(other.changes) - Number(one.changes) || one.id - other.id);

@@ -1,4 +1,4 @@
-// The figure of a question: the run of the question, a branch of this run, or a run of a list that lacks a check.
+// The figure that is shown with a question: the run that the question is about, a branch of that run, or a run of a list that lacks a check.
 import { BREAK_LEVELS } from "../data/levels.js";
 import { tag } from "../run/markup.js";
 import { isLecture, now } from "../page/now.js";
@@ -37,7 +37,7 @@ function freshBox() {
   return box;
 }
 
-// ---- "What if": from any event, the reader can continue a run differently. All these branches are stored.
+// ---- "What if": from any event, the reader can continue a run differently. The page keeps all branches that the reader makes.
 function takeOwnBranch(branch) {
   const figure = takeBranch({ ...branch, isFree: true });
   Object.assign(figure, { onFork: fork, onStep: grow });
@@ -90,7 +90,7 @@ export function whatIf() {
   setScene({ stage: "task" });
 }
 
-// Opens the same run on the list without the check or, if the same run does not break this list, another run.
+// Opens the question's run on the list that lacks the check or, if that run does not break the list, the run in `item.without`.
 export function withoutCheck(item) {
   const { branches } = now.scene;
   const known = branches.findIndex(({ isFixed }) => isFixed);

@@ -1,4 +1,4 @@
-// Seven more questions, about ceiling (the smallest key that is at least k) and about the quota of a thread.
+// Seven more questions, about `ceiling` (which returns the smallest key that is at least k) and about a thread's quota (how many adds can succeed).
 export const APPENDIX = [
   {
     name: "ceiling-in-anothers-step", list: "lazy", title: "ceiling, in another’s step", opening: [5],

@@ -65,7 +65,7 @@ async function goes(by) {
   return true;
 }
 
-// Returns the words of the button at the right. On a slide, the button does what a presenter's key does.
+// Returns the text of the button at the right. On a slide, the button has the same effect as a presenter's key.
 function onWords({ slide }, { branches }) {
   if (slide === 0) return "Next question →";
   const { count, trace } = scene.figure.run;

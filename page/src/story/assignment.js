@@ -49,7 +49,7 @@ function seedTask(seed) {
   return { id: `judge ${seed}`, kind: "Judge", title: `Run ${number}, ${LISTS[kind].name}`, says, href: `#seed=${seed}&judge`, seed };
 }
 
-// Returns the last opened assignment if this activity with this id (on the bench: the run to judge) is one of its tasks, otherwise null.
+// Returns the last opened assignment if one of its tasks is this activity with this id (or, on the bench, the run to judge), otherwise null.
 export function homeworkOf({ activity, id }, task = { kind: "", id: "" }) {
   const { homework } = keptStory();
   const isRun = activity === "judge" && task.kind === "seed";
@@ -171,7 +171,7 @@ function fileName() {
   return `${inFileName([student, number, titleOfAssignment(now.place)].join(" "))}.txt`;
 }
 
-// Returns a due day in words. Any other text in the link is returned as it is.
+// Returns a due date in words. Returns any text that is not a date unchanged.
 function dueText(text) {
   const day = new Date(/^\d{4}-\d\d-\d\d$/.test(text) ? `${text}T12:00` : NaN);
   if (Number.isNaN(day.getTime())) return text.slice(0, 40);

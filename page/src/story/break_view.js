@@ -37,7 +37,7 @@ function begin(place) {
   if (place.given.text !== undefined) looked();
 }
 
-// Decides whether the broken run came with the link, so that the reader did not find it alone.
+// Returns whether the run that breaks the list came with the link, which means that the reader did not find it.
 const isShown = (run) => now.place.given.text !== undefined && run.lines.join() === run.first.join() && !isBrokenOnce(nameNow());
 
 function looked() {
@@ -82,7 +82,8 @@ function taskHtml({ hints, note }) {
   return `<p class="ask">${ask}</p>${note === "" ? "" : `<p class="again">${note}</p>`}${list}`;
 }
 
-// Returns the answers to a won level. Sorted by their letters from the tenth on, the right answer is first, second or third about equally often.
+// Returns the answers offered in a won level. They are sorted by the part of their text after the ninth letter, so that the right answer is first, second or
+// third about equally often.
 const optionsOf = (name) => [BREAK_LEVELS[name].lacks, ...Object.keys(BREAK_LEVELS[name].others)].sort((one, other) => (one.slice(9) < other.slice(9) ? -1 : 1));
 
 function wonHtml({ note, wrong }) {

@@ -4,10 +4,10 @@ import { chipOf, colourOf, escaped, letterOf, tag } from "../run/markup.js";
 const WORDS = /\b(while|if|else|return|start again|loop|until|release|lock|find|validate|CAS|new)\b/g;
 
 /**
- * The code to show: the lines of the calls `operations`. A line executes rows of the list's step table. Lines of the rows in `hides` are left out, and
- * `instead` replaces the text of a row. Rows in `fresh` are marked as new in this list (0 stands for lines without a row). A part of a `struck` row is
- * struck out; its `line` replaces the text of the row. `next` has the next row of each thread, and `made` the last executed row. A press on a line lets a
- * thread at this line execute it; if no thread is there, thread `active` runs to the line.
+ * The code to show: the lines for the calls in `operations`. A line executes rows of the list's step table (its numbered atomic steps). Lines of the rows in
+ * `hides` are left out, and `instead` replaces the text of a row. Rows in `fresh` are marked as new in this list (0 stands for lines without a row). A part of
+ * a `struck` row is struck out; its `line` replaces the text of the row. `next` has the next row of each thread, and `made` the last executed row. A press on a
+ * line makes a thread at the line execute it or, if no thread is at the line, makes thread `active` run to the line.
  * @typedef {{ thread: number, row: number }} At
  * @typedef {{ list: string, operations: string[], plain?: boolean, fresh?: number[], hides?: number[], instead?: Record<number, string>,
  *   struck?: { row: number, part: string, line?: string }[], next: At[], made: At | null, canStep: boolean, active: number }} CodeSpec

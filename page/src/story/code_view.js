@@ -1,4 +1,4 @@
-// The activity Step by the code: the reader begins any calls, and each line of the code is a button. The address contains the run.
+// The activity "Step by the code": the reader can begin any call, and each line of the code is a button. The activity's address contains the run.
 import { LISTS } from "../../made/rows.js";
 import { byId } from "../page/dom.js";
 import { now } from "../page/now.js";

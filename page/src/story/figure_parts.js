@@ -60,7 +60,8 @@ function scrollSoon(figure, moved) {
 
 const isOwnRelease = ({ word, deed, thread }, own) => thread === own && deed === "store" && isLock(word);
 
-// Returns the sentence about the shown event. On the path, if the call returns when it releases its locks, the sentence is about the step before.
+// Returns the sentence about the shown event. On the path (the guided tour), if a call returns by releasing its locks, the sentence describes the step before
+// these releases, and the reply.
 function saidHere({ run, spec }, moment) {
   if (spec.sentence) return spec.sentence(moment);
   if (moment.event === null) return spec.says ?? "";

@@ -13,7 +13,7 @@ const MANY = 10; // if at least one in MANY students has a schedule, the schedul
 
 const stripped = (name) => name.replace(/^.*\//, "").replace(/\.[A-Za-z]+$/, "");
 
-// Splits "Ada Lovelace (1234567)" into the name and the number of a student.
+// Splits a text such as "Ada Lovelace (1234567)" into the name and the number of a student.
 function studentOf(text, file) {
   const [, name, number] = /^(.*?)\s*(?:[([#]\s*((?=\D*\d)\w[\w-]{0,20})\s*[)\]]?)?\s*$/.exec(text ?? "") ?? [];
   return { name: name || stripped(file), number: number ?? "" };
@@ -54,7 +54,7 @@ export async function checkAll(files, assignment, sayProgress = (_at, _of) => {}
   return { rows, columns, empty, common: common.map(({ task, rows: same }) => ({ title: titleOf(task, courses), rows: same })) };
 }
 
-// Adds a text to the row of its student, who is found by number and name. A text without a student's number gets a row of its own.
+// Adds a hand-in to the row of the student, who is identified by number and name. A hand-in without a student's number gets a row of its own.
 function takeText(students, text, courses, assignment) {
   const read = readHandIn(text);
   const who = studentOf(read.student, text.file);
@@ -124,7 +124,8 @@ function notesOnNames(row, rows) {
 // Returns a schedule with one step on each line, so that schedules with the same steps are equal as texts.
 const oneByOne = (schedule) => schedule.replace(/^go (\d+) (\d+)$/gm, (_, thread, count) => Array(Number(count)).fill(`go ${thread}`).join("\n"));
 
-// Adds to each row the students with the same schedules. Returns the schedules that many have: no sign of copying. A single shared one can be chance.
+// Notes in each row which students handed in the same schedules. Returns the schedules that many students handed in, which are no sign of copying. (One common
+// schedule can be chance.)
 function noteCopies(rows) {
   const byText = new Map();
   const own = new Map(rows.map((row) => [row, [...row.solved].filter(([, schedule]) => schedule !== null).map((entry) => entry.join("\n"))]));
@@ -165,7 +166,8 @@ export function commonText(common) {
   }).join(" ");
 }
 
-// Returns a table for a spreadsheet. German and French ones need semicolons (`parted`). A cell that would be read as a formula becomes plain text.
+// Returns the table in the CSV format. `parted` separates the cells; German and French spreadsheets need a semicolon. A cell that a spreadsheet would read as a
+// formula becomes plain text.
 export function csvOf({ rows, columns }, parted = ",") {
   const cell = (value) => {
     const text = String(value).replace(/^[=+\-@\t\r]/, "'$&");

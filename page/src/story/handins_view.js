@@ -1,4 +1,4 @@
-// Checks the hand-ins of a class: files are dropped here, and shown as a table of students and tasks, and as CSV.
+// The panel that checks the hand-ins of a class. A teacher drops files on the panel, and gets a table of students and tasks, also as CSV.
 import { textOfBytes } from "../course/hand_in.js";
 import { saveText } from "../page/files.js";
 import { linkTo } from "../page/visit.js";

@@ -1,4 +1,4 @@
-// The state of Solve: the open course, its lesson, the stored attempts, and the verdict on a run.
+// The state of the Solve activity: the open course, the current lesson, the stored attempts, and the verdict on a run.
 import { BOOK, BOOK_NAME } from "../../made/book.js";
 import { courseAddress } from "../course/course_text.js";
 import { judged, triedCourse } from "../course/lesson.js";
@@ -30,7 +30,7 @@ class Learning {
     courseAddress(course.text).then(take, () => null);
   }
 
-  // Returns the lesson of this name: from the open course, else from the book, else from a stored course, which is then opened.
+  // Returns the lesson with this name from the open course, the built-in course, or a stored course. If a stored course contains the lesson, opens that course.
   lessonNamed(name) {
     const find = ({ lessons }) => lessons.find((lesson) => lesson.name === name);
     if (find(this.course) !== undefined) return find(this.course);
@@ -51,7 +51,7 @@ class Learning {
     return this.course.lessons.find(({ name }) => !this.isSolved(name));
   }
 
-  // Judges and stores the reader's attempt. It is no solution if it equals the lesson's answer and the reader has looked at that answer.
+  // Judges and stores the reader's attempt. The attempt is no solution if it equals the lesson's answer and the reader has looked at that answer.
   judge(text, isBegun) {
     const { lesson, own } = this;
     const { name, solution } = lesson;

@@ -95,7 +95,7 @@ export class LiveRun extends ShownRun {
     this.state.moveTo(this.count);
   }
 
-  // Returns what a thread's next press does: the steps, their phase, and the holder of the lock that the thread has tried to take in vain.
+  // Returns what a thread's next press does: the steps, their phase, and the holder of a lock that the thread has tried to acquire without success.
   nextOf(thread, call = null) {
     return (this.nexts[[this.count, thread, call].join()] ??= this.newNextOf(thread, call));
   }
@@ -143,7 +143,8 @@ export class LiveRun extends ShownRun {
     return begun + this.chunk(this.trace, begun, row).steps;
   }
 
-  // Returns how many steps a thread executes until `isThere` holds, its call returns, or it waits for a lock. Returns 1 if it executes too many.
+  // Returns how many steps a thread executes until `isThere` returns true, the thread's call returns, or the thread waits for a lock. Returns 1 if that would
+  // take too many steps.
   stepsUntil(thread, isThere) {
     const { total } = this.trace;
     const trace = this.traceOf([...this.lines, `go ${thread} ${MOST_STEPS}`]);
@@ -181,8 +182,8 @@ function placeOf({ state: { nodes, lock, threads }, trace }) {
 }
 
 /**
- * Searches for the shortest way to break a run. Returns the thread of each press, null if the run cannot be broken any more, or undefined if the search
- * ended after `most` states. `calls` has the calls of each thread.
+ * Searches for the shortest continuation of a run that breaks the list. Returns the threads whose buttons are pressed, in order. Returns null if the run can no
+ * longer break the list, and undefined if the search ended after `most` states. `calls` contains the calls of each thread.
  * @param {RunSpec} spec @param {string[]} lines @param {Record<number, any[]>} calls @returns {number[] | null | undefined}
  */
 export function waysOn(spec, lines, calls, most = Infinity) {

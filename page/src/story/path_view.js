@@ -67,7 +67,8 @@ function draw(state) {
   byId("scene").dataset.stage = state.stage;
 }
 
-// Draws the table of the numbers that the list should have and has, for the shown event. An unchanged table is not drawn again, so that a screen reader does not read it again.
+// Draws a table of the numbers that should be in the list and of those that are in the list at the shown event. Does not redraw an unchanged table, since a
+// screen reader would read it again.
 function redrawLedger() {
   const ledger = part(".ledger");
   const { run } = scene.figure;
@@ -101,7 +102,7 @@ async function guessed(index) {
   return playOn();
 }
 
-// Plays a screen after the guess: presses of the threads in `play`. On a slide, each press waits for a key.
+// Plays the rest of a screen after the guess: presses the buttons of the threads listed in `play`. On a slide, each press waits for the presenter's key.
 async function playOn() {
   const { figure } = scene;
   const { play } = here();
@@ -115,7 +116,7 @@ async function playOn() {
   done();
 }
 
-// Takes the moments that the reader has placed. Once all are placed, `check` accepts or refuses them.
+// Stores the moments that the reader has placed. When all moments are placed, `check` accepts or refuses them.
 function placed(moments) {
   if (now.scene.stage !== "moment") return;
   setScene({ moments, note: "" });

@@ -1,4 +1,5 @@
-// A task of the path: the reader places the moment of each call on its bar. The state has the moments; the proved `check` judges them.
+// A task of the path: on the bar of each call, the reader places the moment when the call takes effect. The page's state contains these moments, and the proved
+// `check` judges them.
 import { drawJudged, drawOwnSet, judgeScale } from "../draw/judged_bars.js";
 import { redraw } from "../page/dom.js";
 import { askNow, now } from "../page/now.js";

@@ -50,7 +50,7 @@ const WORDS = {
   tidytry: ({ key }) => `try to unlink ${key}`,
 };
 
-// Names of presses on a broken list, in words that do not reveal the missing check.
+// Names of button presses on a broken list. The names do not reveal the missing check.
 const WORDS_OF_BROKEN = {
   next: () => "walk to the next node",
   check: () => "check pred and curr",

@@ -13,7 +13,7 @@ const NOTHING = { at: 1, done: {}, asks: {}, student: "", number: "", homework: 
 /** @returns {{ at: number, done: Record<string, boolean>, asks: Record<string, string>, student: string, number: string, homework: any }} */
 export const keptStory = () => ({ ...NOTHING, ...keptUnder(STORY) });
 export const keepStory = (change) => keepUnder(STORY, { ...keptStory(), ...change });
-// Stores the lines of the orders that were judged right, by run and level.
+// The stored orders that were judged right, as lines of a hand-in, by run and level.
 const JUDGED = "listset-judged";
 export const judgedLines = () => Object.fromEntries(textsKept(keptUnder(JUDGED)));
 export const keepJudged = (run, line) => keepUnder(JUDGED, { ...keptUnder(JUDGED), [run]: line });
@@ -24,7 +24,7 @@ export const keepBrokenLine = (name, line) => keepUnder(BROKEN, { ...keptUnder(B
 export const isNamed = (name) => (keptUnder(NAMED) ?? []).includes(name);
 export const keepNamed = (name) => keepUnder(NAMED, [...new Set([...(keptUnder(NAMED) ?? []), name])]);
 
-// Deletes all that the page has stored in this browser, when the button is pressed a second time.
+// Deletes everything that the page has stored in this browser, if the button is pressed for the second time.
 export function startAfresh(button) {
   if (button.dataset.isSure !== "yes") {
     button.dataset.isSure = "yes";

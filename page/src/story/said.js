@@ -1,4 +1,4 @@
-// Writes one short sentence about an event, for readers without the book. It names nodes by their keys, and threads by their letters.
+// Writes a short sentence about an event, for readers who do not know the book. The sentence names nodes by their keys and threads by their letters.
 import { callText, chipOf, keyText } from "../run/markup.js";
 import { isLock, ownerIn } from "../run/outcomes.js";
 import { keyNumber, linkTarget } from "../run/state.js";
@@ -22,7 +22,8 @@ export function saidOf(moment, { plain = false, isPath = false } = {}) {
   return `${chipOf(event.thread)} ${said}${answer}`;
 }
 
-// Returns the sentence that a remove does not lock its node. Only the path shows the sentence: in Break, it would name the missing check.
+// Returns the sentence which says that a remove does not lock its node. Only the path shows the sentence. (In the Break activity, it would name the missing
+// check.)
 function lockLeftOut({ trace, event: { call, word, saw } }) {
   const isFound = trace.lacks === "second-lock" && call.operation === "remove" && word?.endsWith(".key") && Number(saw) === call.key;
   return isFound ? ` It does not lock ${saw}.` : "";
@@ -53,7 +54,7 @@ function isHeld(event, events) {
   return last?.deed === "exchange" && last.thread === event.thread;
 }
 
-// Decides whether a thread releases a lock that it holds, just after another one.
+// Returns whether an event is the second of two releases: the previous step of its thread released another lock, and the thread held both locks.
 function isSecond(event, events) {
   const last = events.slice(0, event.number - 1).findLast(({ thread }) => thread === event.thread);
   return last.deed === "store" && isLock(last.word) && last.word !== event.word && [last, event].every((one) => isHeld(one, events));
@@ -70,7 +71,7 @@ function lockSaid(event, who, plain, waits, moment) {
   return `wants ${what}, but ${chipOf(event.saw.slice(1))} holds it. ${bold(waits ? "It waits." : "It continues all the same.")}`;
 }
 
-// Decides whether the key belongs just before the node `owner` of the chain. Other threads could have changed the list since the walk passed.
+// Decides whether the key belongs just before the node `owner` of the chain. (Other threads can have changed the chain since the thread passed this place.)
 function isPlaceOf(state, key, owner) {
   const chain = state.chain();
   const at = chain.indexOf(owner);
@@ -120,7 +121,7 @@ function linkSaid(moment, owner, who, phase) {
   return owner === "head" ? `starts at the head: curr is at ${to}.` : `moves on: curr is at ${to}.`;
 }
 
-// Describes the last read of a contains or ceiling. Only in a broken list, the reply is true at a marked node, or a removed node has no mark.
+// Describes the last read of a contains or ceiling. Only in a broken list can the reply be true at a marked node, or a removed node be unmarked.
 function lookSaid(state, { answer }, owner, who, isMarked) {
   if (isMarked && /^(true|at-)/.test(answer ?? "")) return `takes ${who} to be in the set: ${bold("it does not look at the mark.")}`;
   if (isMarked) return `sees the mark: ${bold(`this ${who} has been removed.`)}`;

@@ -66,7 +66,7 @@ export function renderScene({ place, scene: state }) {
   scene.isFirst = false; // from now on, the focus moves to the title of each opened place
 }
 
-// Decides whether a click on the button at the right was meant for the screen before, which had a button at the same position.
+// Decides whether a click on the button at the right was meant for the previous screen, which had a button at the same position.
 const isSecondClick = (target) => performance.now() - scene.begun < JUST_OPENED && target.closest("#go-on:not(.ready)") !== null;
 const JUST_OPENED = 700; // milliseconds
 

@@ -1,4 +1,5 @@
-// Two lists side by side run the same calls. A turn executes the next step of a thread in both. A list in which the call has returned waits.
+// Two lists run the same calls side by side. Each turn executes the next step of one thread in both lists, except in a list in which the thread's call has
+// already returned.
 import { letterOf } from "../run/markup.js";
 import { MOST_NUMBER } from "../run/trace.js";
 import { LiveRun, RunFault } from "./live_run.js";

@@ -30,7 +30,8 @@ export function toSlide(by) {
   return isThere;
 }
 
-// The slides of Compare and Judge have no panel for an answer. At their end, a press shows the answer of the notes; a press back hides it.
+// The slides that show Compare or Judge have no panel for the answer. At the end of such a slide, a press of the next key shows the answer from the lecturer's
+// notes, and a press of the key back hides the answer.
 function goesOverAnswer(by) {
   const isShown = now.scene.note !== "";
   if (now.place.slide === 0 || !["judge", "compare"].includes(now.place.activity) || isShown === (by > 0)) return false;
