@@ -1,9 +1,9 @@
-"""Tests every command on inputs of all sizes, up to the limits in docs/TEXTS.md and beyond, and compares the answers with the
-answers of a set in Python.
+"""Runs every command on inputs of all sizes, up to the limits in docs/TEXTS.md and beyond, and compares the output with
+the replies of a set in Python.
 
-A valid input must get the right answer within a few seconds of processor time. An input beyond a limit must get the
-documented error. For eight times as many calls, a command may need at most 24 times as much time and memory. `--few`
-tests a tenth of the inputs.
+For a valid input, a command must print the right output within a few seconds of processor time. For an input beyond a
+limit, the command must print the documented error. For eight times as many calls, a command may need at most 24 times
+as much time and memory. `--few` tests a tenth of the inputs.
 """
 
 import collections
@@ -33,14 +33,14 @@ with open(sys.argv[1], "w") as file: json.dump([os.waitstatus_to_exitcode(status
 
 
 class Asked:
-    """A program to run, with the time and memory that each command needed, by input size."""
+    """The program under test, and the time and memory that each command needed for each input size."""
 
     def __init__(self, program, room):
         self.program, self.room, self.taken = program, room, collections.defaultdict(dict)
 
     def says(self, *words, text="", status=0, error="", size=None, seconds=PROCESSOR_SECONDS):
-        """Runs a command, checks its exit status and returns its output. Stores the seconds and kilobytes that the command
-        needed, under the input size `size`.
+        """Runs a command, checks its exit status and returns its output. Stores, for the input size `size`, the seconds
+        and kilobytes that the command needed.
         """
         taken, given = self.room / "taken", self.room / "text"
         given.write_text(text)
@@ -54,8 +54,8 @@ class Asked:
         return done.stdout
 
     def grows(self, size, greater):
-        """Fails if a command needed more than 3 * TIMES as much time or memory for the size `greater` as for `size`.
-        (`greater` is at most TIMES as large as `size`.)
+        """Fails if a command needed more than 3 * TIMES times as much time or memory for the input size `greater` as
+        for the input size `size`. (`greater` is at most TIMES times as large as `size`.)
         """
         for name in self.taken[size].keys() & self.taken[greater].keys():
             for before, after, little in zip(self.taken[size][name], self.taken[greater][name], LITTLE):
@@ -104,7 +104,9 @@ def head(title, kind, threads, quota, opening=()):
 
 
 def recording_of(opening, calls, left, threads, at_once):
-    """Returns a recording of `calls`. If `at_once`, the calls of all threads overlap, otherwise no calls overlap."""
+    """Returns a recording of `calls`. If `at_once` is true, the calls of all threads overlap, otherwise no two calls
+    overlap.
+    """
     lines = [f"opening {key}\n" for key in opening]
     for number, (word, key, reply) in enumerate(calls):
         turn, thread = divmod(number, threads)
@@ -136,7 +138,9 @@ def test_recordings_of_each_size_are_judged(asked, few, name, at_once):
 
 
 def runs(asked, kind, size, made, words=()):
-    """Runs `draft` on a draft; `replay`, `trace` and `show` on the schedule; and `check` on the report."""
+    """Runs `draft` on a draft, then `replay`, `trace` and `show` on the resulting schedule, and `check` on the
+    resulting report.
+    """
     opening, calls, left = made
     schedule = asked.says("draft", text=draft_of(kind, opening, calls, MOST_THREADS), size=size)
     events = len(calls) + sum(map(int, re.findall("^go [0-9]+ ([0-9]+)$", schedule, re.M)))
@@ -152,7 +156,7 @@ def runs(asked, kind, size, made, words=()):
 
 @pytest.mark.parametrize("kind", KINDS)
 def test_schedules_of_each_size_are_drafted_replayed_and_checked(asked, few, kind):
-    """Runs short schedules of each shape in SHAPES and NEAR, and long schedules of one shape in NEAR."""
+    """Tests short schedules for each shape of history in SHAPES and NEAR, and long schedules for one shape in NEAR."""
     for shape in [*SHAPES.values(), *NEAR.values()]:
         runs(asked, kind, 0, shape(240))
     words = {"coarse": ["--lacks", "lock"], "lazy": ["--lacks", "mark-in-contains"]}.get(kind, ())  # (if calls do not overlap, these broken lists behave like the intact lists)
@@ -164,7 +168,9 @@ def test_schedules_of_each_size_are_drafted_replayed_and_checked(asked, few, kin
 
 @pytest.mark.parametrize("kind", KINDS)
 def test_counts_of_runs_of_each_size_add_up(asked, few, kind):
-    """Tests the counts that `run` prints, with one thread and with several, up to the limits of its arguments."""
+    """Tests the counts that `run` prints for one thread and for several threads, up to the limits of the arguments of
+    `run`.
+    """
     draw = random.Random(kind)
     drawn = [(threads, log_uniform(draw, MOST_QUOTA), log_uniform(draw, 200), log_uniform(draw, 10_000), log_uniform(draw, 2**64 - 1),
               log_uniform(draw, 100 if threads < 9 else 3)) for threads in ([5, 64] if few else [1, 2, 5, 17, 64])]
@@ -184,8 +190,8 @@ def text_of(title, threads=1, quota=0, opening=0, lines=()):
 
 
 def tries_of(title, many):
-    """Returns a schedule with `many` events and two threads. One thread holds the lock, and the other repeatedly tries
-    to acquire it.
+    """Returns a schedule with `many` events and two threads. One thread holds the lock, and the other thread repeatedly
+    tries to acquire the lock.
     """
     goes = [10_000] * ((many - 3) // 10_000) + [it for it in [(many - 3) % 10_000] if it]
     return text_of(title, 2, 1, lines=["begin 0 add 1\ngo 0 1\nbegin 1 add 1\n", *(f"go 1 {it}\n" for it in goes)])

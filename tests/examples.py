@@ -1,11 +1,12 @@
 """Tests that the program turns the schedules in examples/schedules into the reports in that folder, and that
 docs/CLASSIC.md shows the program's output.
 
-`replay` of each NAME.schedule must print NAME.report, and `check` of each report must print `ok`. For a file in
-refused-files.txt, `replay` must print the error listed in that file and no report. `example NAME` prints the schedule
-of each classic interleaving, and `example --broken NAME` the report of its broken list, if the example has one.
-page/tests/break_it.js tests how a broken list reveals its missing check. One test checks that README, the pages in
-docs/ and two more pages show what their commands print (harness/pages.py).
+For each NAME.schedule, `replay` must print NAME.report. For each report, `check` must print `ok`. For a file in
+refused-files.txt, `replay` must print the error listed in that file and no report. `example NAME` must print the
+schedule of a classic interleaving. If the example has a broken list (a list without one of its checks), `example
+--broken NAME` must print the report of the broken list. page/tests/break_it.js tests how a broken list reveals its
+missing check. One test checks that README, the pages in docs/ and two more pages show what their commands print
+(harness/pages.py).
 """
 
 import re
@@ -71,14 +72,14 @@ def test_examples_of_the_program_are_the_files(program):
 
 @pytest.mark.parametrize("file", sorted(EXAMPLES.glob("*.broken.report")), ids=lambda it: it.name)
 def test_no_order_explains_a_broken_report(program, file):
-    """Tests that `show` prints, below the picture of the report, that no order explains the calls."""
+    """Tests that `show` prints, below the picture of a broken list's report, that no order explains the calls."""
     assert "\n\nnot linearizable\nno order explains the calls of key " in "\n".join(lines_of(program, "show", file, status=1))
 
 
 @pytest.mark.parametrize("name, section", zip(NAMES, SECTIONS), ids=NAMES)
 def test_the_page_shows_the_picture_and_the_trace_of_an_example(program, name, section):
-    """Tests that the first code block of a section is the picture without the lines about the order, and that the
-    second block contains lines of the trace.
+    """Tests the two code blocks in a section of docs/CLASSIC.md about an example. The first must be the example's
+    picture without the lines about the order, and the second must consist of lines of the example's trace.
     """
     drawn, traced = (re.sub("^    ", "", block, flags=re.M).strip("\n").split("\n") for block in re.findall(BLOCK, section, re.M))
     schedule, picture = picture_of(program, name)
@@ -89,8 +90,8 @@ def test_the_page_shows_the_picture_and_the_trace_of_an_example(program, name, s
 
 @pytest.mark.parametrize("name, kind, told", LACKING.findall(BROKEN))
 def test_the_page_describes_a_broken_list(program, name, kind, told):
-    """Tests that `check` refuses the order of the report, and that the page states correctly whether another order explains
-    the calls.
+    """Tests that `check` refuses the order in a broken list's report, and that docs/CLASSIC.md states correctly whether
+    some other order explains the calls.
     """
     file = LACKS / f"{name}.schedule"
     assert f"\nlist {kind}\n" in file.read_text()

@@ -1,6 +1,6 @@
-"""Tests how `explain` explains mistakes. A command whose output is a pipe prints exactly one fixed line about a
-mistake. For this fixed line, `explain` prints the wrong line of the input, an explanation, and how to correct the
-input. tests/hints.py tests the lines that a terminal shows below the fixed line.
+"""Tests how `explain` explains mistakes. A command that writes to a pipe reports a mistake in exactly one line. For
+that line, `explain` prints the wrong line of the input, an explanation of the mistake, and how to correct the input.
+tests/hints.py tests the further lines that a command prints at a terminal.
 """
 
 import bz2
@@ -160,8 +160,8 @@ WRITTEN = re.compile(r"(?<!>)> *((?:'[^']*'|\\'|[^\s;'>)])+)")
 
 
 def files_written(program, room, file, text, size=0):
-    """Returns the files that the commands in an explanation write to. `explain` reads a file with the text `text`,
-    extended to `size` bytes.
+    """Runs `explain` on a file with the text `text`, extended to `size` bytes. Returns the files to which the commands
+    in the explanation write.
     """
     (room / file).write_bytes(text if isinstance(text, bytes) else text.encode())
     os.truncate(room / file, max(size, (room / file).stat().st_size))
@@ -192,7 +192,7 @@ def test_a_long_schedule_is_shortened_to_whole_lines(program, room):
 
 def test_the_lines_that_end_a_pending_call_end_it(program, room, few):
     """Tests a thread that begins a second call while its first call is pending. The lines that the explanation suggests
-    must end the first call, even if this call waits for a lock.
+    must end the first call, even if the first call waits for a lock.
     """
     dice, waited = random.Random(13), 0
     for _ in range(20 if few else 100):
@@ -209,8 +209,8 @@ def test_the_lines_that_end_a_pending_call_end_it(program, room, few):
 
 
 def error_in(explanation):
-    """Returns the line and the cause of the error that an explanation names, or the whole explanation if it names
-    none.
+    """Returns the line and the cause of the error that an explanation names. Returns the whole explanation if the
+    explanation names no error.
     """
     found = re.search(r"line (\d+) has an error, (\w+)", explanation)
     return found.groups() if found else explanation
@@ -220,8 +220,8 @@ LINES_OF_KEYS = ["listening 127.0.0.1:1", "sessions 3", "calls 9", "key 1", "key
 
 
 def test_explain_finds_the_errors_in_keys_that_serve_finds(program, room, few):
-    """Tests random texts that mix the lines that a server prints, keys, and wrong lines. In most texts the lines are in
-    the right order. Some texts have no newline at the end.
+    """Tests random texts that consist of lines from a server's output, lines with keys, and wrong lines. In most texts,
+    the lines are in the right order. Some texts do not end with a newline.
     """
     dice = random.Random(11)
     for _ in range(20 if few else 200):

@@ -68,8 +68,8 @@ def ran_where(refuse, number, *words, **how):
 
 def answers(program, refuse):
     """Runs the program CALLS repeatedly. In each run, a different allocation fails, and the program prints the name of
-    the call that made it. Returns the names. Stops at the first run in which all calls end without a failed allocation,
-    and leaves that run out.
+    the call that made it. Returns the names. Stops at the first run in which all calls end without a failed allocation.
+    No name is returned for that run.
     """
     told = []
     for number in range(1, REFUSED):
@@ -83,7 +83,7 @@ def answers(program, refuse):
 
 OUT_OF_MEMORY = 3, "", "listset: out of memory\n"
 SPAWN = 1, "", "listset: work: Spawn\n"
-# The line below a verdict if an allocation for the explanation fails
+# The line that is printed below a verdict if an allocation for the explanation of the verdict fails
 NOT_TOLD = "\nno explanation: memory ran out, or the file has changed since it was judged\n"
 LAST = 10  # after this many consecutive runs without an effect, the program is assumed to have no further allocation
 
@@ -134,8 +134,8 @@ def test_a_command_reports_each_failed_allocation(program, room, once, words):
 
 
 def test_calls_report_each_failed_allocation(once, lacking):
-    """Tests CALLS with each allocation failing in turn. After a failed allocation, `work` must return the set and its
-    seats (the threads' handles on the set).
+    """Tests the program CALLS with each allocation failing in turn. If an allocation fails in the call `work`, `work`
+    must return the set and its seats (the threads' handles on the set).
     """
     if not CALLS.exists():
         lacking(f"{CALLS.relative_to(TOP)} is missing: tests/unproved memory_calls builds it")

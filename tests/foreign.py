@@ -1,4 +1,4 @@
-"""Tests calls of the sets and of the judge from C, C++, Rust and Python, and tests the programs in docs/FOREIGN.md.
+"""Tests the sets and the judge as used from C, C++, Rust and Python, and the programs in docs/FOREIGN.md.
 
 The tests use the libraries that foreign/build installed in the folder LISTSET_PREFIX or in foreign/out. The test
 programs run with the sanitizers for addresses, undefined behaviour and races, if the sanitizers work on the machine.
@@ -59,7 +59,8 @@ class InstalledLibraries:
         return [*flags, f"-Wl,-rpath,{self.library}"]
 
     def page(self, language, ending, name, before=""):
-        """Writes `before` and the program of docs/FOREIGN.md that contains `name` to a file. Returns the file's path.
+        """Writes a file that consists of `before` and the program in docs/FOREIGN.md that contains `name`. Returns the
+        file's path.
         """
         found = re.findall(rf"^```{language}\n(.*?)^```$", (TOP / "docs" / "FOREIGN.md").read_text(), re.M | re.S)
         program, = (it for it in found if name in it)
@@ -72,8 +73,8 @@ class InstalledLibraries:
         assert well(*words, **how) == "2000 keys are left\n"
 
     def first_judge(self, *words, **how):
-        """Runs a program of the folder foreign/first on a linearizable recording and on one that is not linearizable,
-        and checks both verdicts.
+        """Runs a program in the folder foreign/first on two recordings, only one of which is linearizable, and checks
+        both verdicts.
         """
         refused = (TOP / "examples" / "recorders" / "both-true.calls").read_text()
         right = refused.replace("call 1 add 5 2 3 true", "call 1 add 5 2 3 false")
@@ -124,7 +125,9 @@ def words_of_program(program):
 
 @needs("gcc")
 def test_a_c_program_prints_what_the_program_prints(installed, program):
-    """Tests that a C program that is linked with either library prints the same bytes as listset and has the same exit status."""
+    """Tests that a C program, linked with the static or with the shared library, prints the same bytes as listset and
+    has the same exit status.
+    """
     static, shared, run_path = installed.built("words.c"), installed.room / "shared", f"-Wl,-rpath,{installed.library}"
     well("gcc", "-std=c11", *WARN, installed.include, TESTS / "words.c", f"-L{installed.library}", "-llistset", run_path, "-o", shared)
     text = (EXAMPLES / "snip.schedule").read_bytes()
@@ -152,8 +155,8 @@ def test_the_judge_reports_each_failed_allocation_and_leaks_nothing(installed):
 
 @needs("gcc")
 def test_calls_of_threads_agree_with_counts_and_are_judged(installed):
-    """Tests calls of many threads: once with more threads than processors, and once with a million calls. The replies are
-    compared with models and counts, and judged.
+    """Tests calls from many threads: once with more threads than processors, and once with a million calls. The replies
+    are compared with models and counts, and are judged.
     """
     for flags, sizes in (([], [250_000, 4]), ([], [500, 64]), ([MEMORY], [5_000, 4]), ([RACES], [2_000, 4])):
         if all(map(installed.works, flags)):
@@ -243,7 +246,9 @@ def test_programs_in_go_use_sets_and_judge(installed):
 
 
 def in_room(installed):
-    """Returns an environment that puts the recordings of refused sets into the tests' temporary folder."""
+    """Returns the environment variables with which recordings of refused sets are written to the tests' temporary
+    folder.
+    """
     return {**os.environ, "TMPDIR": str(installed.room)}
 
 

@@ -1,5 +1,5 @@
-"""Tests the lines that the script ./listset adds at a terminal: help below an error and, before a command starts, the kind of
-text that it reads. If the output is a pipe, the script adds nothing.
+"""Tests the lines that the script ./listset adds at a terminal: help below an error and, before a command starts, the
+kind of text that the command reads. If the output is a pipe, the script adds nothing.
 """
 
 import os

@@ -2,8 +2,8 @@
 judge/LANGUAGE/tests, judges the set named by SET with the options in HOW, and prints the result and its kind.
 
 With the default options, correct sets must be `ok`, and wrong sets must be refused. If a set hangs or crashes, the
-calls that it has made so far are judged. A long run is one recording, which the program judges again. Scripts that take
-the place of a judge show that a refusal is passed on. All waits are bounded.
+calls that it has made so far are judged. A long run is one recording, which the program judges again. Some tests use a
+script in place of a judge, to check that each language passes a refusal on. All waits are bounded.
 """
 
 import os
@@ -64,7 +64,9 @@ def built_python(_folder):
 
 
 def in_jvm(*words):
-    """Returns a java command that halves the start-up time of short programs and of the programs that they start."""
+    """Returns a java command with options that halve the start-up time of a short program and of the Java programs
+    started by it.
+    """
     return [shutil.which("env"), "JAVA_TOOL_OPTIONS=-XX:TieredStopAtLevel=1 -XX:+UseSerialGC", *words]
 
 
@@ -99,7 +101,7 @@ def each(languages):
 
 
 class Form:
-    """A language's judge: the folder of its tests, and the command that runs them."""
+    """A language's judge: the folder of the judge's tests, and the command that runs the tests."""
 
     def __init__(self, language, room, words):
         self.language, self.room, self.words = language, room, words
@@ -270,7 +272,9 @@ def test_a_correct_set_that_throws_repeatedly_is_not_refused(form, program):
 
 @each(LANGUAGES)
 def test_keys_of_a_run_are_the_keys_that_the_set_got(form, program):
-    """Tests the preset whose keys are multiples of 64: the recording and the message contain the keys 0, 64 .. 448."""
+    """Tests the preset (named options) with multiples of 64 as keys: the recording and the message contain the keys 0,
+    64 .. 448.
+    """
     how = f"threads=4 calls=1000 seed=3 seconds=10 runs=1 record={form.room / 'kept'}"
     said = form.told(program, "hangs", how)[1]
     pending = re.findall(f"\n  thread {PENDING}", said)
@@ -341,7 +345,7 @@ def test_a_seed_repeats_the_calls(form, program):
     assert {tuple(it.split()[2:4]) for it in (first + other).splitlines() if it.startswith("call ")} >= {("add", "4"), ("remove", "0"), ("contains", "3")}
 
 
-# ---- A judge that always refuses, and the message that each language must pass on
+# ---- A judge that refuses every recording, and the message that each language must pass on
 
 REFUSED = "not linearizable\nno order explains the calls of key 1 up to moment 9\n\n  contains(1) returned true, expected false   # %s $HOME 'quoted'\n"
 REFUSES = """#!/bin/sh
@@ -368,8 +372,8 @@ def test_a_refusal_is_passed_on_unchanged(form):
     assert kept[0].read_text() == "listset-calls 1\n# 1\n" and kept[1].read_text().count("\ncall ") == 1000
 
 
-# A judge that refuses the third recording. It accepts the first two as the program does, except for the number of
-# overlapping calls.
+# A judge that refuses the third recording. For the first two recordings, it prints the program's output with a
+# different number of overlapping calls.
 REFUSES_THIRD = """#!/bin/sh
 case $1 in judge) ;; *) exec '%program' "$@" ;; esac
 [ "$2" = --only ] || echo >> '%room/judged'
@@ -447,8 +451,8 @@ def test_a_replay_and_a_test_without_its_own_process_make_no_further_run(form, p
     assert kind == "refused" and re.search(r"\nseed 1 \(few keys\), 4 threads; recorded in ", said), said
 
 
-# In the first run, the set `W later` finds all keys. In later runs, when the file `judged` exists, it acts like the set
-# W.
+# The program, which also writes the file `judged` when it judges. The set `W later` acts like the set `finds all` until
+# the file `judged` exists, and then like the set W.
 JUDGES = """#!/bin/sh
 [ "$1" != judge ] || echo >> '%room/judged'
 exec '%program' "$@"
@@ -468,7 +472,7 @@ def test_a_further_run_that_fails_does_not_hide_the_refusal(form, program, of):
 # ---- Tests of how a judge is found
 
 
-# A judge that acts like the program, except for the number of overlapping calls. Like ./listset with an unproved
+# A judge that prints the program's output with a different number of overlapping calls. Like ./listset with an unproved
 # program, it also prints to standard error.
 OVERLAPS_ALL = """#!/bin/sh
 echo 'listset: without a proof' >&2
@@ -621,8 +625,8 @@ def test_a_set_that_cannot_be_sent_is_called_in_this_jvm(room, once, program):
 
 @pytest.mark.needs("javac", "java")
 def test_java_sets_that_inherit_their_calls_are_judged_by_them(room, once, program):
-    """Tests two sets that inherit their calls. Java 17 deserializes `Second::contains` as `First::contains`, so the
-    judge calls sets that inherit their calls in its own JVM, not in a child process.
+    """Tests two sets that inherit their calls. Java 17 deserializes `Second::contains` as `First::contains`, so for
+    sets that inherit their calls, the judge makes the calls in its own JVM, not in a child process.
     """
     form = Form("Java", room, once(built_java))
     for of in ("inherits first", "inherits second"):

@@ -75,7 +75,7 @@ def call_line(made):
 
 
 def text_of(calls, opening, keys):
-    """Returns the text of a recording. If `keys` is None, the recording was cut off."""
+    """Returns the text of a recording. If `keys` is None, the recording ends with `cut` in place of the final keys."""
     ends = ["cut"] if keys is None else [*(f"key {it}" for it in keys), "end"]
     return "".join(f"{it}\n" for it in [TITLE, *(f"opening {it}" for it in opening), *map(call_line, calls), *ends])
 
@@ -168,8 +168,8 @@ def needs(it):
 
 
 def call_in(line, form, of_key):
-    """Returns the call in `of_key` that a line of the form `form` describes, and the key's states at the end of the
-    line.
+    """Returns the call in `of_key` that `line` describes, and the states of the key that `line` names at its end. If
+    `line` does not match the pattern `form`, returns None and no states.
     """
     found = re.fullmatch(form, line)
     if not found:
@@ -180,8 +180,8 @@ def call_in(line, form, of_key):
 
 
 def may_be_made(of_key, word, since, until):
-    """Returns whether some call of the operation `word` can have changed the key between `since` and `until`. Such a
-    call overlaps the interval and either returned true or is pending.
+    """Returns whether some call of the operation `word` can have changed the key between `since` and `until`, that is,
+    whether some call overlaps the interval and either returned true or is pending.
     """
     return any(it.word == word and changes(it) and it.begin < until and since < (it.end or LAST + 1) for it in of_key)
 

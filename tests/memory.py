@@ -1,9 +1,9 @@
-"""Tests that the program does not keep data in memory that it no longer needs. No contract states this.
+"""Tests that the program does not keep data in memory that it no longer needs. (No contract covers the use of memory.)
 
-Each command runs in a limited address space and uses about two thirds of it. A command would need twice the limit if it
-kept data of one of these kinds: the calls of a recording (`judge`), its text (`trace`), each event (`draft`, `replay`
-and `show`), or the replies of each round (`run`). A server that has served a thousand sessions with many calls may use
-at most a megabyte more than after the first 180.
+Each command runs in a limited address space and uses about two thirds of the limit. A command would need twice the
+limit if it kept one of these kinds of data: the calls of a recording (`judge`), the printed text (`trace`), each event
+(`draft`, `replay` and `show`), or the replies of each round (`run`). A server that has served a thousand sessions with
+many calls may use at most a megabyte more than after the first 180 sessions.
 """
 
 import contextlib
@@ -50,8 +50,8 @@ OPENING, WALKS = 2_000, 100
 
 
 def long_walks():
-    """Returns a draft with one line for each call. All calls traverse all keys, so the schedule that `draft` prints for
-    it has many events in few lines.
+    """Returns a draft with one line for each call. All calls traverse all keys, so the schedule that `draft` prints has
+    many events in few lines.
     """
     opening = "".join(f"opening {key}\n" for key in range(OPENING))
     calls = f"begin 0 contains {OPENING}\ngo 0 out\n" * WALKS
@@ -86,7 +86,7 @@ CALLS_OF_RUN, LIVES = 10_000, 100  # the maximum numbers of calls and of rounds;
 
 
 def test_run_keeps_only_the_replies_of_one_round(program):
-    """Tests that `run` does not keep the replies of all rounds, which need 8,000 KB."""
+    """Tests that `run` does not keep the replies of all rounds. (They would need 8,000 KB.)"""
     said = printed_within(LITTLE, program, "run", "lazy", 1, 1, CALLS_OF_RUN, 1, 1, LIVES)
     assert said.startswith(b"calls %d\n" % (CALLS_OF_RUN * LIVES))
 

@@ -1,5 +1,5 @@
 """Tests the recorder in examples/recorders, which docs/YOUR-SET.md shows, and a script in examples/recordings that
-judges the keys of a recording in separate parts. For any number of parts, the script must have the same verdict as
+judges the keys of a recording in separate parts. For any number of parts, the script must print the same verdict as
 `listset judge`.
 """
 

@@ -18,8 +18,8 @@ READERS = {
     "recording": ("judge", "listset-calls 1\n"),
     "keys": ("serve lazy 1 4 0 0 -", ""),
 }
-# Each line of the table has a kind of text, an error (a line number and a cause), and texts whose first error it is.
-# The lines of a text end with \n.
+# Each line of the table has a kind of text, an error (a line number and a cause), and texts in which the first error is
+# the one named. The lines of a text end with \n.
 TABLE = r"""
 schedule: line 5: Event | take 0 5\n | go  0 1\n | begin 0 add\n | opening 5\n
 schedule: line 5: Number | begin 0 add 05\n | begin 0 add 4294967296\n | go 0 0\n | go 0 10001\n
@@ -99,7 +99,7 @@ def test_the_first_error_of_a_header_is_named(program, title, words):
 
 
 def test_the_first_error_of_each_prefix_of_a_draft_is_named(program):
-    """Tests each prefix of a draft. If a prefix ends within a line, the error is that this line has no newline. If a
+    """Tests each prefix of a draft. If a prefix ends within a line, the error is that the line has no newline. If a
     prefix consists of complete lines, either the next header line is missing, or the prefix is a valid draft.
     """
     text = (DATA / "drafts/opens-with-keys.draft").read_text()

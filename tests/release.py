@@ -1,5 +1,5 @@
 """Tests the packages of a release: the archive, the .deb, the wheel, the crate, and the page in one file. Makes a trial
-release from the current build, unpacks each package without a toolchain in PATH, and uses it as a user would.
+release from the current build, unpacks each package without a toolchain in PATH, and uses the package as a user would.
 """
 
 import os

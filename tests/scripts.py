@@ -1,5 +1,6 @@
 """Tests ./listset as a user would use it: without a program, with only Node, after an edit, and with an interrupted
-command. Also tests `build/take`. The tests use small clones with a program that adds up bytes.
+command. Also tests `build/take`. The tests use small clones of the repository, in which a program that adds numbers
+takes the place of listset.
 """
 
 import importlib.machinery

@@ -408,8 +408,8 @@ def the_key_has_this_state_at_the_end(case, key, state):
 
 
 def may_be_made(case, word, key, since, until):
-    """Returns whether some call of the operation `word` could have changed `key` between `since` and `until`. Such a
-    call overlaps the interval and either returned true or is pending.
+    """Returns whether some call of the operation `word` could have changed `key` between `since` and `until`. (A call
+    can have changed the key if it overlaps the interval and either returned true or is pending.)
     """
     return any((it.word, it.key) == (word, key) and changes(it) and it.begin <= until and since <= (it.end or LAST) for it in case.calls)
 
@@ -505,8 +505,8 @@ def test_traces_and_pictures_have_the_order_of_the_report(program, few, kind):
 
 
 def continued(name, seed):
-    """Returns the schedule that shows the flaw of a broken list (a list without one of its checks). After that
-    schedule, calls on all its keys follow, one after another.
+    """Returns the schedule that shows the flaw of a broken list (a list without one of its checks), followed by calls
+    on all keys of the schedule, one after another.
     """
     text, draw = (TOP / f"examples/schedules/lacks/{name}.schedule").read_text(), random.Random(f"{name} {seed}")
     plan = read_schedule(text)

@@ -1,7 +1,8 @@
-"""Tests how `listset serve` answers clients, at the same time and one after another. A server has one seat (one
-thread's access to the set) for each of its threads, and each seat serves one client at a time.
+"""Tests how `listset serve` answers clients that connect at the same time, and clients that connect one after another.
+A server has one seat (one thread's access to the set) for each of its threads, and each seat serves one client at a
+time.
 
-Only the loopback is used. All waits are bounded, and a server that does not end is killed by its process id.
+Only the loopback is used. All waits are bounded, and a server that does not exit is killed by its process id.
 """
 
 import collections
@@ -35,8 +36,8 @@ LATE = 3
 
 class Sharing:
     """A client. It sends its requests in pieces of random size, byte by byte, or all at once before it reads an answer.
-    It ends with QUIT, in the middle of a line, or with random bytes. `told` has the answers to the client's calls on
-    shared keys, and `own` the keys that only this client uses.
+    It ends with QUIT, in the middle of a line, or with random bytes. `told` contains the answers to the client's calls
+    on shared keys, and `own` contains the keys that only the client uses.
 
     On a LockFreeList, the client sends no CEILING, because a ceiling that reaches a marked node restarts until some add
     or remove has unlinked the node.
@@ -52,7 +53,7 @@ class Sharing:
 
     def turn(self):
         """Returns a line, the line's call (or None), and the set of right answers. For a ceiling, the third value is
-        instead the client's smallest own key that is not less than the call's key.
+        not a set of answers, but the client's smallest own key that is not less than the call's key.
         """
         word, key, is_own = self.draw.choice(self.words), self.draw.randrange(SHARED), self.draw.random() < 0.5
         if self.draw.random() < 0.05:
@@ -172,7 +173,7 @@ def drips(connection, end):
 
 def test_clients_of_one_seat_are_served_in_turn(program):
     """Tests clients that use one seat (one thread's access to the set) one after another. The seat can add 2 keys. The
-    system refuses a connection to an address of the machine where the server does not listen. A client that connects
+    system refuses a connection to an address of the machine on which the server does not listen. A client that connects
     after the last session receives no answer.
     """
     with serving(program, ONE_LIST, 1, 2, 6) as server:

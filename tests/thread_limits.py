@@ -1,8 +1,8 @@
 """Tests how `run` and `serve` end if not all of their threads can be started.
 
-A thread's stack needs address space, so a limit on the program's address space (`ulimit -v`) refuses some or all
-threads. Under each limit, `run` must print its result, or that a thread or an allocation was refused. `serve` must do
-so too, and must serve its client completely or not at all.
+A thread's stack needs address space, so under a limit on the program's address space (`ulimit -v`), the system refuses
+to start some or all threads. Under each limit, `run` and `serve` must print either their result or that a thread or an
+allocation was refused, and `serve` must serve its client completely or not at all.
 """
 
 import collections
@@ -22,12 +22,14 @@ REFUSALS = {
 
 
 def limited(limit, *words, of="-v"):
-    """Returns a command that runs the command `words` with a limit on its address space (in KiB) or its open files."""
+    """Returns a command that runs the command `words` with a limit on its address space (in KiB) or on its number of
+    open files.
+    """
     return ["sh", "-c", f'ulimit -s {STACK} && ulimit {of} "$0" && exec "$@"', str(limit), *map(str, words)]
 
 
 def ended_run(program, limit):
-    """Runs `run` under a limit and returns how it ends."""
+    """Runs `listset run` under a limit and returns how the program ends."""
     made = ran(*limited(limit, program, "run", KINDS[limit % 5], THREADS, QUOTA, CALLS, 8, 1))
     if made.returncode == 0:
         counts = dict(re.findall(r"^(calls|true|false|full|keys) (\d+)$", made.stdout, re.M))
@@ -39,8 +41,8 @@ def ended_run(program, limit):
 
 
 def ended_serve(program, limit):
-    """Runs `serve` with one client under a limit, and returns how the server ends. The server can refuse the client,
-    because it starts its threads after it has printed the first line.
+    """Runs `listset serve` with one client under a limit, and returns how the server ends. The server can refuse the
+    client, because it starts its threads after it has printed the first line.
     """
     with started(*limited(limit, program, "serve", KINDS[limit % 5], THREADS, QUOTA, 0, 1)) as process:
         first, told = process.stdout.readline(), b""
@@ -79,8 +81,8 @@ def test_run_and_serve_end_in_a_documented_way_under_each_limit(program, way, li
 
 
 def test_serve_without_memory_for_the_set_does_not_listen(program):
-    """Tests the largest set in 40 MB, which are too few for the set. The server must not print the line that states
-    that it is ready.
+    """Tests the largest set under a limit of 40 MB, which is too little for the set. The server must not print the line
+    that states that it is ready.
     """
     made = ran(*limited(40_000, program, "serve", "lock-free", 64, 16384, 0, 1))
     assert (made.returncode, made.stdout, made.stderr) == (3, "", "listset: out of memory\n")

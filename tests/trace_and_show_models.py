@@ -1,6 +1,6 @@
 """Compares the output of `trace` and `show` with models that were written independently of the crates
 (tests/harness/traces_model.py, pictures_model.py, reports_model.py and lists_model.py). No contract covers this output.
-For an SVG, the tests compare its texts and its numbers of points and bars.
+Of an SVG, the tests compare only the texts and the numbers of points and bars.
 
 The schedules are the files in examples/schedules/, and random schedules for the lists and the broken lists. The reports have
 random calls; most are damaged, so that every kind of error in an order occurs. The options --from, --to and --width are
@@ -47,8 +47,8 @@ def drawn_schedule(kind, seed, lacks=None, overruns=False):
 
 
 class Compared:
-    """A comparison of the program's output for a text with the models. `words` are the options that name a broken list
-    (a list without one of its checks), if any.
+    """Compares what the program and the models print for the same input. `words` are the options that name a broken
+    list (a list without one of its checks), if any.
     """
 
     def __init__(self, program, name, text, *words):
@@ -70,8 +70,8 @@ class Compared:
             self.compare(words, [*due, status], [*lines, ended])
 
     def picture(self, picture, asked, below=()):
-        """Compares a picture as text with the model's. `asked` has the values of --from, --to and --width; None means
-        that the option is missing.
+        """Compares the program's text picture with the model's. `asked` contains the values of --from, --to and
+        --width; None stands for a missing option.
         """
         words, first, last, width = options("show", asked)
         lines, ended = self.said(*words)
@@ -104,8 +104,8 @@ class Compared:
 
 
 def options(words, asked):
-    """Returns a command with its options. `asked` has the first moment (position in the history), the last moment and
-    the width; None means that an option is missing.
+    """Returns a command with its options. `asked` contains the first moment (position in the history), the last moment
+    and the width; None stands for a missing option.
     """
     given_words = [it for name, value in zip(["--from", "--to", "--width"], asked) if value is not None for it in (name, str(value))]
     first, last, width = (default if it is None else it for it, default in zip(asked, [1, GREATEST, 100]))

@@ -106,7 +106,7 @@ func TestOptions(t *testing.T) { %s }
 
 
 def codes_of(language, heads):
-    """Returns the code in the row of `language` in the page's table whose heading is `heads`."""
+    """Returns the code snippets in the row for `language` of the page's table that has the heading `heads`."""
     table = PAGE.read_text(encoding="utf-8").split(f"| {' | '.join(heads)} |\n")[1].partition("\n\n")[0]
     (row,) = re.findall(rf"^\| {re.escape(language)}[ \d.]*\|(.*)\|$", table, re.M)
     return re.findall(r"`([^`]+)`", row.rpartition(" | ")[2] if len(heads) > 2 else row)

@@ -1,6 +1,6 @@
 // Tests a set of maximum size for each list. A set of maximum size starts with the maximum number of keys. Its seats
 // (one for each thread) then add as many smaller keys as their quotas (successful adds that one thread may make) allow.
-// Calls traverse all keys, and the set is closed.
+// Then the threads make calls that traverse all keys, and the set is closed.
 #include "listset.h"
 
 #include <stdio.h>

@@ -1,5 +1,5 @@
-"""Tests that each command in tests/transcripts/*.md prints exactly the output below it, and that the commands in README
-and other pages print the output that the pages show.
+"""Tests that each command in tests/transcripts/*.md prints exactly the output below the command, and that the commands
+in README and other pages print the output that the pages show.
 
 A heading `## NAME` begins a test. Lines with an indent of four spaces are commands and their output:
 
@@ -36,7 +36,7 @@ INDENT = "    "
 
 @dataclass
 class PageCommand:
-    """A command, its line number, and the lines that the page shows below it."""
+    """A command on a page, the command's line number, and the lines that the page shows below the command."""
 
     command: list
     number: int
@@ -61,7 +61,7 @@ def steps_of(lines, first):
 
 
 def tests_of(page):
-    """Returns the tests on a transcript page, each with its name and steps."""
+    """Returns the tests on a transcript page, each with its name and its steps (commands)."""
     number = 1
     for section in re.split(r"^(?=## )", page.read_text(encoding="utf-8"), flags=re.MULTILINE):
         lines = section.split("\n")
@@ -73,7 +73,8 @@ def tests_of(page):
 
 
 def tests_shown(page):
-    """Yields the tests on a page that shows commands to a reader, each with its line and steps."""
+    """Yields the tests on a page that shows commands to a reader, each with its line number and its steps (commands).
+    """
     text = page.read_text(encoding="utf-8")
     for block in SHOWN_BLOCK.finditer(text):
         shown = re.sub("^```(?:sh)?$|^    ", "", block[0], flags=re.MULTILINE).strip("\n").split("\n")
@@ -92,7 +93,7 @@ def lines_of_transcript(run):
 
 
 def lines_as_shown(run):
-    """Returns the lines of a run's output and then of its standard error."""
+    """Returns the lines of a run's output, followed by the lines of its standard error."""
     return (run.stdout + run.stderr).decode("utf-8", "backslashreplace").splitlines()
 
 
@@ -105,7 +106,7 @@ def repository_in(work, program):
 
 
 def printed_by_commands(page, steps, program, room):
-    """Runs the steps in one folder, and returns the output of each step."""
+    """Runs the commands in `steps` in one folder, and returns the output of each command."""
     is_shown = page.parent != PAGES
     (room / "bin").mkdir()
     (room / "bin/listset").symlink_to(program)

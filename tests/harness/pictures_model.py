@@ -13,8 +13,8 @@ GREATEST = 4294967295
 # keys; why the order is refused, or None; and the refused event, or None.
 Picture = collections.namedtuple("Picture", "kind threads quota events calls ends order sets keys refusal refused")
 Place = collections.namedtuple("Place", "number reply at change")  # an entry of the order; it has no moment if the order is refused
-# The reason to refuse an order: the message, the first moment (position in the history) that the picture shows, and the
-# number of a call that the report does not have.
+# The reason why an order is refused: the message, the first moment (position in the history) that the picture shows,
+# and the number of a call that is in the order but not in the report.
 Refusal = collections.namedtuple("Refusal", "said begun unknown")
 
 
@@ -102,8 +102,8 @@ class Drawn:
 
     def side(self, place):
         """Returns -1, 0 or 1 if `place`, an entry of the order, is before, within or after the drawn moments. The
-        linearization point decides or, if the entry has none, the start and the end of the call. Returns None for an
-        unknown call.
+        entry's linearization point decides. If the entry has no linearization point, the start and the end of its call
+        decide. Returns None for an unknown call.
         """
         first = last = place.at
         if not self.has_points:
@@ -142,7 +142,8 @@ class Drawn:
         return [*told, *self.below(legend)]
 
     def in_svg(self):
-        """Returns the texts that an SVG of the picture must contain, and the SVG's numbers of circles and bars."""
+        """Returns the texts that an SVG of the picture must contain, and how many circles and bars the SVG must have.
+        """
         legend = "filled: changes the set    open: changes nothing, its reply fits there    dashed: pending"
         points = [it for it in self.picture.order if self.has_points and self.first <= it.at <= self.last]
         bars = [it for it in self.picture.calls if it.begun <= self.last and self.picture.ends.get(it.number, [GREATEST])[0] >= self.first]
@@ -159,7 +160,7 @@ def with_rows_of(width, drawn):
 
 def fitted(picture, first, last, width=None):
     """Returns the picture of the moments from `first` to `last`. If all moments are requested but do not fit, the
-    picture of a refused order begins at the call in the refusal.
+    picture of a refused order begins at the call that the refusal names.
     """
     drawn = with_rows_of(width, Drawn(picture, first, last))
     begun = picture.refusal.begun if picture.refusal else None

@@ -17,7 +17,7 @@ PROVED, UNPROVED = TOP / "crates/listset/out/listset", TOP / "crates/listset/out
 KINDS = [it.word for it in lists.lists()]
 SECONDS = 300  # the limit for each wait, even on a busy machine
 LONG = 1800  # seconds, for a compiler and for a whole test
-# cargo with settings for a single build, which halve the time
+# cargo with settings that halve the time of a single build
 QUICK_CARGO = ["env", "CARGO_INCREMENTAL=0", "CARGO_PROFILE_DEV_DEBUG=0", "cargo"]
 
 
@@ -45,7 +45,9 @@ def well(*words, seconds=LONG, **how):
 
 
 def wants(run, status=0, output=None, tells=(), no=()):
-    """Checks the status and the output of a run. Its standard error must contain all texts in `tells` and no text in `no`."""
+    """Checks the exit status and the output of `run`, and that its standard error contains all texts in `tells` and no
+    text in `no`.
+    """
     found = f"{' '.join(run.args)}: status {run.returncode}, output {run.stdout[:300]!r}, standard error {run.stderr[-600:]!r}"
     assert run.returncode == status and output in (None, run.stdout), found
     for text in tells:

@@ -13,7 +13,7 @@ from harness.set_model import CHANGES, SetModel
 Report = collections.namedtuple("Report", "kind threads quota opening calls ends order keys")
 HEADER = 4  # the number of lines in the header of a report
 
-# ---- Reads the text of a report
+# ---- The text of a report
 
 
 def read_report(text):
@@ -31,7 +31,7 @@ def read_report(text):
     return report
 
 
-# ---- Finds the errors of an order
+# ---- The errors in an order
 
 
 def faults_of(report):
@@ -56,8 +56,8 @@ def faults_of(report):
 
 
 def wrong_replies(report):
-    """Yields each call that has a wrong reply in the order of a report, with a message. A reply is wrong if it differs
-    from the call's reply in the history, or from the set's reply.
+    """Yields each call whose reply in the order of a report is wrong, with a message. A reply in the order is wrong if
+    it differs from the call's reply in the history, or from the reply that a set would return.
     """
     held, after = SetModel(report.quota, report.opening), {0: "at first", 1: "after place 1", 2: "after places 1 and 2"}
     for place, (it, says) in enumerate(report.order):
@@ -85,7 +85,7 @@ def first_fault(report):
     return next(faults_of(report), None)
 
 
-# ---- Makes the picture of a report
+# ---- The picture of a report
 
 
 class Sets:
@@ -117,7 +117,7 @@ def picture_of_report(it):
     return Picture(it.kind, it.threads, it.quota, None, it.calls, it.ends, places, Sets(it, places), it.keys, refusal, None)
 
 
-# ---- Spreads the moments of a report, and damages reports
+# ---- Reports with larger moments, and damaged reports
 
 
 def spread(it):

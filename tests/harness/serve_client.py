@@ -1,5 +1,5 @@
 """A client of `listset serve`: sends lines, reads one answer for each line, and disconnects in several ways. `serving`
-starts the server, and `started` stops it. tests/serve_clients.py uses this module.
+starts a server, and `started` stops the server. tests/serve_clients.py uses the functions in this file.
 """
 
 import contextlib
@@ -62,7 +62,7 @@ def read_all(connection):
 
 
 def read_lines(connection, count):
-    """Reads and returns `count` answers, and checks that no byte follows them."""
+    """Reads and returns `count` answers, and checks that no byte follows the last answer."""
     text = b""
     while text.count(b"\n") < count:
         piece = connection.recv(4096)
@@ -72,7 +72,7 @@ def read_lines(connection, count):
 
 
 def asks(connection, lines, answers):
-    """Sends lines, and checks the answers and the end of the connection after `BYE`."""
+    """Sends lines, and checks the answers, and that the connection ends after the answer `BYE`."""
     connection.sendall(lines)
     assert read_lines(connection, answers.count(b"\n")) == answers, lines
     assert not (answers.endswith(b"BYE\n") and connection.recv(1)), lines

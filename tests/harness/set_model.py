@@ -25,7 +25,7 @@ def fits_without_change(word, key, reply, keys, has_room=True):
 
 
 class SetModel:
-    """A set. Each thread can add as many keys as its quota, or any number of keys if the set has no quota."""
+    """A set. Each thread can add as many keys as its quota allows, or any number of keys if the set has no quota."""
 
     def __init__(self, quota=None, keys=()):
         self.keys, self.quota, self.added = set(keys), quota, collections.Counter()

@@ -71,14 +71,14 @@ class Tracing:
         self.lines, self.calls, self.ends, self.points = [], [], {}, {}
 
     def cause(self, t, is_begin):
-        """Returns the cause if thread `t`'s next event is refused, otherwise None."""
+        """Returns the name of the error (its cause) if the next event of thread `t` is refused, otherwise None."""
         if t >= self.plan.threads:
             return "NoThread"
         is_busy = self.list.threads[t].pc != 0
         return ("Busy" if is_begin else "Idle") if is_busy == is_begin else None
 
     def event(self, number, pieces):
-        """Executes the event of a line: the start of a call, or one step."""
+        """Executes the event on line `number` of the schedule: the start of a call, or one step."""
         t, moment = int(pieces[1]), len(self.sets)
         told = f"event {moment} line {number} thread {t} "
         if pieces[0] == "begin":
