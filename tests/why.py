@@ -130,7 +130,7 @@ class OneSet:
 
 
 class AddLooksFirst(OneSet):
-    likely = ("add checks, then acts", "check, then act", "the reply does not come from the change itself")
+    likely = ("add checks, then acts", "check, then act", "the reply does not come from the change itself", "calls of one key at the same time undo each other")
 
     def add(self, thread, key):
         yield
