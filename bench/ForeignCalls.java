@@ -12,7 +12,7 @@ import java.util.concurrent.CyclicBarrier;
 import java.util.stream.IntStream;
 
 /**
- * Executes the calls of foreign_calls.c from Java, through Java's Foreign Function API, and the same calls on a
+ * Makes the same calls as foreign_calls.c, on a set of liblistset through Java's Foreign Function API, or on a
  * ConcurrentSkipListSet.
  */
 final class ForeignCalls {
@@ -142,7 +142,8 @@ final class ForeignCalls {
 
     public static void main(String[] words) throws Throwable {
         int threads = Integer.parseInt(words[1]), calls = Integer.parseInt(words[2]), keys = Integer.parseInt(words[3]);
-        // Makes three runs to warm up. They are not timed, because the virtual machine compiles the calls during them.
+        // Makes three runs to warm up, which are not timed: the virtual machine compiles the calls during the first
+        // runs.
         for (int at = 0; at < 3; at++) {
             nanoseconds(opened(words[0], threads, WARM_UP_KEYS), WARM_UP_CALLS / threads, WARM_UP_KEYS);
         }

@@ -1,5 +1,5 @@
-"""Measures the calls of a set in liblistset from C, C++, Rust, Java and Python, and compares each with a set that the
-language's threads can share.
+"""Measures how long calls on a set of liblistset take from C, C++, Rust, Java and Python, and compares the times with
+those of a different set that the language's threads can share.
 """
 
 import os
@@ -38,9 +38,9 @@ path = "{source}"
 
 
 def foreign():
-    """Prints the nanoseconds per call on sets of several sizes, with one thread and with four threads. Nanoseconds per
-    call are the elapsed time divided by the number of calls of all threads. Each number is the median of several runs,
-    which alternate between the sets.
+    """Prints the nanoseconds per call (the elapsed time divided by the number of calls of all threads) on sets of
+    several sizes, with one thread and with four threads. Each number is the median of several runs, which alternate
+    between the sets.
     """
     if not (OUT / "lib" / "liblistset.a").exists():
         sys.exit("bench: foreign/out is missing: build it with foreign/build")
@@ -57,7 +57,7 @@ def foreign():
 
 
 def medians_of(sets, many, size):
-    """Runs all sets in turn, several times. Returns the median time of each set."""
+    """Measures all sets in turn, several times. Returns the median time of each set."""
     runs = [[nanoseconds(words, many, size) for words in sets.values()] for _ in range(RUNS_OF_TABLE)]
     return [statistics.median(times) for times in zip(*runs)]
 

@@ -1,6 +1,6 @@
-// Calls a set of liblistset from C. Arguments: SET THREADS CALLS KEYS; CALLS is the number of calls of each thread.
-// Prints the elapsed nanoseconds, divided by the number of calls of all threads. A third each of the calls are add,
-// remove and contains, with random keys. About half of the keys are in the set.
+// Makes calls on a set of liblistset from C. Arguments: SET THREADS CALLS KEYS; CALLS is the number of calls of each
+// thread. Prints the elapsed nanoseconds, divided by the number of calls of all threads. One third of the calls are
+// adds, one third removes, and one third contains, with random keys. About half of the keys are in the set.
 #define _POSIX_C_SOURCE 200809L
 #include <listset.h>
 #include <pthread.h>

@@ -1,4 +1,4 @@
-"""Executes the calls of foreign_calls.c from Python, on a set of liblistset or on a Python set under a lock."""
+"""Makes the same calls as foreign_calls.c, on a set of liblistset or on a Python set that a lock protects."""
 
 import random
 import sys
@@ -7,7 +7,7 @@ import time
 
 
 class Locked:
-    """A Python set under a lock."""
+    """A Python set that a lock protects."""
 
     def __init__(self, keys):
         self.keys, self.lock = keys, threading.Lock()

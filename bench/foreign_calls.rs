@@ -1,4 +1,4 @@
-//! Executes the calls of foreign_calls.c from Rust, and the same calls on a `BTreeSet` under a lock.
+//! Makes the same calls as foreign_calls.c, on a set of liblistset or on a `BTreeSet` that a lock protects.
 
 use std::collections::BTreeSet;
 use std::sync::{Barrier, Mutex};

@@ -34,10 +34,10 @@ RECORDINGS = {
 
 
 def judge():
-    """Prints the table of recordings. A time is the minimum of several runs, which alternate between the two judges. A
-    size is the peak memory. The instructions per call are counted in a recording with a tenth of the calls. The last
-    column is the number of instructions for the whole recording divided by the number for the recording with a tenth of
-    the calls.
+    """Prints the table of recordings. Each time is the minimum of several runs, which alternate between the two judges.
+    Each size is the peak memory. The instructions per call are counted in a recording with a tenth of the calls. The
+    last column is the number of instructions for the whole recording divided by the number for the recording with a
+    tenth of the calls.
     """
     measures = "`judge`, s", "KB", "by hand, s", "KB", "ratio of s", "of KB", "instructions a call", "by hand", "ratio", "ten times"
     heading("Recording", *measures)

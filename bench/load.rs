@@ -1,11 +1,11 @@
-//! Loads a set server on the loopback, and measures how fast it answers.
+//! Puts a set server on the loopback under load, and measures how fast the server answers.
 //!   rustc -O load.rs;  load PROTOCOL PORT CLIENTS AT_ONCE REQUESTS KEYS
 //! PROTOCOL is `listset`, or `redis` with a set named `s`. Each client has its own thread and connection and sends
-//! REQUESTS requests on KEYS keys: a third each of add, remove and contains. All requests are prepared before the first
-//! one is sent. A client sends AT_ONCE requests in one write, waits for the answers, and then sends the next AT_ONCE
-//! requests. Prints three numbers: the requests per second, from the first write to the last answer of all clients; and
-//! the median and the 99th percentile of the microseconds from a write to the last of its answers. A read fails after
-//! ten seconds.
+//! REQUESTS requests on KEYS keys: one third adds, one third removes, and one third contains. All requests are prepared
+//! before the first one is sent. A client sends AT_ONCE requests in one write, waits for the answers, and then sends
+//! the next AT_ONCE requests. Prints three numbers: the requests per second, from the first write to the last answer of
+//! all clients; and the median and the 99th percentile of the microseconds from a write to the last of its answers. A
+//! read times out after ten seconds.
 
 use std::io::{Read, Write};
 use std::net::TcpStream;
@@ -64,7 +64,7 @@ impl Wanted {
         Wanted { protocol, port: port as u16, clients, at_once: at_once as usize, requests: requests as usize, keys }
     }
 
-    /// Returns the writes of a client. Each write has the bytes of `at_once` requests.
+    /// Returns what a client writes, as a list of byte strings. Each byte string contains `at_once` requests.
     fn writes(&self, client: u64) -> Vec<Vec<u8>> {
         let mut drawn = 0x2545_f491_4f6c_dd1d ^ ((client + 1) << 32);
         let mut request = |_| {

@@ -1,4 +1,4 @@
-//! The baseline for sets that threads call: the lists of `lists.rs`, and std's tree under one lock.
+//! The baseline for sets that several threads call: the lists in `lists.rs`, and std's tree, which one lock protects.
 //!   rustc -O peer.rs
 //!   peer each KIND THREADS QUOTA CALLS KEYS SEED     times each call, like `bench_calls KIND each ..`
 //!   peer whole KIND ..                               times rounds of all calls, like `bench_calls KIND whole ..`; here KIND can also be
@@ -16,7 +16,7 @@ use std::sync::Mutex;
 use std::time::{Duration, Instant};
 
 const LONGEST: u64 = 200_000;
-/// The least total time of all rounds: rounds are repeated until they have lasted this long.
+/// The minimum total time of the rounds. Rounds are repeated until their total time reaches the minimum.
 const ENOUGH: Duration = Duration::from_millis(100);
 const OPS: [(Op, &str); 3] = [(Op::Add, "add"), (Op::Remove, "remove"), (Op::Contains, "contains")];
 

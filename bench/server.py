@@ -62,7 +62,9 @@ def redis(program, _kind, _clients):
 
 
 def loaded(load, protocol, server, clients, at_once):
-    """Returns the requests per second, and the 99th percentile of the microseconds from a write to its last answer."""
+    """Returns the requests per second, and the 99th percentile of the microseconds from a write to the last of its
+    answers.
+    """
     with server(clients) as port:
         words = [load, protocol, port, str(clients), str(at_once), REQUESTS[at_once], KEYS]
         told = subprocess.run(words, stdout=subprocess.PIPE, text=True, check=True, timeout=LOAD_ENDS_WITHIN).stdout
@@ -72,7 +74,7 @@ def loaded(load, protocol, server, clients, at_once):
 
 def server():
     """Prints the table of servers: thousands of requests per second, and the 99th percentile of the microseconds from a
-    write to its last answer. Each number is the median of several rounds, which alternate between the servers.
+    write to the last of its answers. Each number is the median of several rounds, which alternate between the servers.
     """
     tool = built("listset")
     servers = {kind: ("listset", lambda clients, kind=kind: listset(tool, kind, clients)) for kind in KINDS}

@@ -68,7 +68,7 @@ def add_exercises(root):
 
 
 def missing(one, places, root=TOP):
-    """Returns a line with the file's path and the text for each text that is missing. `places` maps each file to the
+    """Returns, for each missing text, a line with the path of the file and the text. `places` maps each file to the
     texts that it must contain, with placeholders for the names of the list `one`.
     """
     texts = {path: (root / path).read_text() for path in places}

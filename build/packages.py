@@ -1,7 +1,7 @@
-"""Makes the package formats of a release: a .tar.gz, a .deb for dpkg, a wheel for pip, and SHA256SUMS. The input is a
-dict from names to bytes. Equal files make equal packages, because a package contains only the times and owners that the
-caller passes. (The usual packaging tools write the current date, the owners of files and their own version into a
-package.)
+"""Makes the packages of a release: a .tar.gz, a .deb for dpkg, a wheel for pip, and SHA256SUMS. The input is a dict
+from names to bytes. Packages of equal files are equal byte for byte, because a package contains only the times and
+owners that the caller passes. (The usual packaging tools write the current date, the owners of files and their own
+version into a package.)
 """
 
 import base64

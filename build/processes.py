@@ -28,7 +28,7 @@ def script(main):
 
 
 def become(program, words):
-    """Replaces the current process by `program` with the arguments `words`."""
+    """Replaces the current process with the program `program`, run with the arguments `words`."""
     # Python ignores SIGPIPE and SIGXFSZ. Without SIG_DFL, the program would ignore both signals too.
     for it in (signal.SIGPIPE, signal.SIGXFSZ):
         signal.signal(it, signal.SIG_DFL)

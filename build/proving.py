@@ -24,12 +24,12 @@ IS_ERROR = re.compile(r"(^|: )error[:[]|it is not proved that|^rt: \w+ NOT PROVE
 
 
 def note_of(room, name):
-    """Returns the path of a file that exists exactly if the crate `name` has been proved in the folder `room`."""
+    """Returns the path of a file that exists if and only if the crate `name` has been proved in the folder `room`."""
     return room / ".git" / "proved" / name
 
 
 def end_of(room):
-    """Returns the path of a file that exists exactly if build/prove --in has ended."""
+    """Returns the path of a file that exists if and only if build/prove --in has ended."""
     return room / ".git" / "ended"
 
 

@@ -41,7 +41,7 @@ class Block:
 
     @property
     def ghosts(self):
-        """Returns the block's ghost items: definitions that are no functions and that only contracts use."""
+        """Returns the block's ghost items: definitions that are not functions and that only contracts use."""
         return "".join(self.text[it.start() : braced(self.text, it.start())] for it in GHOST.finditer(self.text))
 
 

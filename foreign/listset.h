@@ -3,7 +3,7 @@
 // THE JUDGE: each function reads a text, and returns a text and the exit status of the program `listset`. A recording
 // has the recorded calls of any set. A schedule has calls to one of the lists, and the order of the threads' steps. A
 // report is the result of a schedule: the calls with their replies, and an order that explains the replies. A draft is
-// a schedule that states where threads stop instead of how many steps they make.
+// a schedule that states where threads stop rather than how many steps they make.
 //
 // A function writes the program's output, or the line about its error, to the start of `room`. It returns the length of
 // the text in bytes and sets `*status`. If the length is greater than `size`, nothing is written to `room`. In that
@@ -33,8 +33,8 @@
 //     if (fault != LISTSET_OK) puts(listset_fault_text(fault));
 //     if (listset_add(&seat, 7).is == LISTSET_TRUE) ..
 //
-// A seat has a quota (the number of successful adds that it may make), which a remove does not restore. `listset_renew`
-// closes a set and opens a new set with the same keys.
+// A seat has a quota (the number of successful adds that it may make). A remove does not restore the quota.
+// `listset_renew` closes a set and opens a new set with the same keys.
 //
 // Compare the field `is` of a reply with LISTSET_TRUE, because LISTSET_FULL and LISTSET_NO_SEAT are not 0 either. A
 // reply itself is a struct, and does not compile as a condition. With -Wextra, gcc and clang warn if a reply or a fault
@@ -50,7 +50,7 @@
 // The caller has three further duties, which no function checks:
 // - A seat is initialized with LISTSET_NONE, written only by the functions of listset.h, passed by its address, and
 //   never copied.
-// - Only one thread at a time calls from a seat. A seat passes from one thread to another when a thread is started or
+// - Only one thread at a time uses a seat. A seat passes from one thread to another when a thread is started or
 //   joined, or under a lock.
 // - Sets that are open at the same time have different numbers, and the number of a new set is not the number of a set
 //   with a remaining receipt. The two seats, or the seat and the receipt, that are passed to one function are different
@@ -107,7 +107,7 @@ size_t listset_judge_from(int32_t file, char *room, size_t size, uint8_t *status
 /// some order explains the recording, or if the text is not a recording. Tested, not proved.
 size_t listset_why(const char *recording, size_t length, char *room, size_t size, uint8_t *status);
 
-/// Returns `ok` if the order in a report explains the report's calls, otherwise the first error of the order.
+/// Returns `ok` if the order in a report explains the report's calls, otherwise the first error in the order.
 size_t listset_check(const char *report, size_t length, char *room, size_t size, uint8_t *status);
 
 /// Returns the trace of a schedule: a line for each event (a step, or the start of a call).
@@ -117,7 +117,7 @@ size_t listset_trace(const char *schedule, size_t length, char *room, size_t siz
 /// after each event that changed the chain.
 size_t listset_trace_with_chains(const char *schedule, size_t length, char *room, size_t size, uint8_t *status);
 
-/// Expands a draft (a schedule that states where threads stop instead of numbers of steps) into a schedule.
+/// Expands a draft (a schedule that states where threads stop rather than how many steps they make) into a schedule.
 size_t listset_draft(const char *draft, size_t length, char *room, size_t size, uint8_t *status);
 
 /// The part of a run to draw: the first and the last moment (numbers of events in the run), and the number of columns.

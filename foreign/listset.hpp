@@ -1,5 +1,5 @@
-// listset.hpp: sorted-list sets that threads share, and the judge of their calls, for C++17, as a wrapper of listset.h.
-// listset.h documents each function of the judge and the duties of the caller.
+// listset.hpp: sorted-list sets that threads share, and the judge of their calls, for C++17: a wrapper around
+// listset.h. listset.h documents each function of the judge and the duties of the caller.
 //
 //     listset::said verdict = listset::judge_text(recording);
 //     if (!verdict.is_ok()) std::cerr << verdict.text;
@@ -67,15 +67,15 @@ inline said of_text(listset_function *function, std::string_view given) {
 /// and an order that explains them).
 inline said replay(std::string_view schedule) { return of_text(listset_replay, schedule); }
 /// Judges a recording (calls of any set, with their replies and times). Returns `ok N calls` if some order explains the
-/// recorded calls, otherwise calls that show that no order does.
+/// recorded calls, otherwise calls that show why no order explains the recording.
 inline said judge_text(std::string_view recording) { return of_text(listset_judge, recording); }
 /// Diagnoses a recording that `judge_text` refuses. The result has the status LISTSET_WRONG_TEXT and a text that names
 /// calls that show the error, the wrong operation, how often it is wrong, and a likely cause. The text is empty if some
 /// order explains the recording, or if the argument is not a recording.
 inline said why(std::string_view recording) { return of_text(listset_why, recording); }
-/// Returns `ok` if the order in a report explains the report's calls, otherwise the first error of the order.
+/// Returns `ok` if the order in a report explains the report's calls, otherwise the first error in the order.
 inline said check(std::string_view report) { return of_text(listset_check, report); }
-/// Expands a draft (a schedule that states where threads stop instead of numbers of steps) into a schedule.
+/// Expands a draft (a schedule that states where threads stop rather than how many steps they make) into a schedule.
 inline said draft(std::string_view draft) { return of_text(listset_draft, draft); }
 /// Returns the schedule of the example called `name`.
 inline said example(std::string_view name) { return of_text(listset_example, name); }
@@ -119,7 +119,7 @@ enum class list : uint8_t { coarse, fine, optimistic, lazy, lock_free };
 enum class [[nodiscard]] added : uint8_t { is_false, is_true, is_full };
 
 /// Thrown if a call is refused; `code` is the reason. LISTSET_NONE_THERE means that the seat was moved from, dropped,
-/// gathered or closed, or that another thread is in a call from the seat.
+/// gathered or closed, or that another thread is making a call through the seat.
 struct fault : std::runtime_error {
   listset_fault code;
 
@@ -158,8 +158,8 @@ private:
 inline uint64_t most_reads(uint32_t seats, uint32_t quota, uint32_t opening) { return listset_most_reads(seats, quota, opening); }
 
 /// A thread's seat (its access to a set), or nothing. A seat can be moved but not copied, and only one thread at a time
-/// may use it. A call throws `fault` if another thread is in a call from the same seat. Seats are aligned to cache
-/// lines, because each call writes to its seat.
+/// may use it. A call throws `fault` if another thread is making a call through the same seat. Seats are aligned to
+/// cache lines, because each call writes to its seat.
 class alignas(128) seat {
 public:
   seat() = default;
@@ -171,7 +171,7 @@ public:
   }
   ~seat() { listset_drop(&raw); }
 
-  /// Splits a seat (one thread's access to the set) off this seat, for one more thread.
+  /// Splits a seat (one thread's access to the set) off this seat, so that one more thread can call the set.
   seat split() {
     use held(*this);
     seat made;

@@ -1,6 +1,6 @@
 """Sorted-list sets that threads share, and the judge of their calls, implemented by liblistset.so.
 
-The judge reads a text and returns a text:
+Each function of the judge reads a text and returns a text:
 
     import listset
 
@@ -128,7 +128,7 @@ def replay(schedule):
 
 def judge_text(recording):
     """Judges a recording (calls of any set, with their replies and times). Returns `ok N calls` if some order explains
-    the recorded calls. Otherwise raises `Wrong` with calls that show that no order does.
+    the recorded calls. Otherwise raises `Wrong` with calls that show why no order explains the recording.
     """
     return _asked("judge", recording)
 
@@ -170,7 +170,8 @@ def trace(schedule, with_chains=False):
 
 
 def draft(text):
-    """Expands a draft (a schedule that states where threads stop instead of numbers of steps) into a schedule."""
+    """Expands a draft (a schedule that states where threads stop rather than how many steps they make) into a schedule.
+    """
     return _asked("draft", text)
 
 
@@ -325,7 +326,7 @@ class Receipt:
 
 class Seat:
     """A thread's seat (its access to a set). After the seat was merged into another seat or closed, it is empty. Only
-    one thread at a time may use a seat: a call raises `Fault` if another thread is in a call from the same seat.
+    one thread at a time may use a seat: a call raises `Fault` if another thread is making a call through the same seat.
     """
 
     def __init__(self):
@@ -353,8 +354,8 @@ class Seat:
         return reply
 
     def split(self):
-        """Splits a seat (one thread's access to the set) off this seat, for one more thread. No seat can be split off a
-        seat into which another seat was merged.
+        """Splits a seat (one thread's access to the set) off this seat, so that one more thread can call the set. No
+        seat can be split off a seat into which another seat was merged.
         """
         made = Seat()
         with self._used():

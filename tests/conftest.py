@@ -157,8 +157,7 @@ def room(tmp_path):
 
 
 def made_with_tools(make, *words):
-    """Calls the function `make`. Returns its result and, with --tools, the names of the commands that the function ran.
-    """
+    """Calls the function `make`. Returns its result and, with --tools, the names of the commands that `make` ran."""
     of_test = os.environ.get("TOOLS_USED")
     if not of_test:
         return make(*words), ""

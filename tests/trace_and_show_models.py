@@ -1,6 +1,6 @@
 """Compares the output of `trace` and `show` with models that were written independently of the crates
-(tests/harness/traces_model.py, pictures_model.py, reports_model.py and lists_model.py). No contract covers this output.
-Of an SVG, the tests compare only the texts and the numbers of points and bars.
+(tests/harness/traces_model.py, pictures_model.py, reports_model.py and lists_model.py). No contract covers the output
+of `trace` and `show`. Of an SVG, the tests compare only the texts and the numbers of points and bars.
 
 The schedules are the files in examples/schedules/, and random schedules for the lists and the broken lists. The reports have
 random calls; most are damaged, so that every kind of error in an order occurs. The options --from, --to and --width are

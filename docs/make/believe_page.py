@@ -157,7 +157,7 @@ OF_ROWS = {"check_order": "lset_history::check_order$", "laws": "lset_steps::law
 
 
 def wrong_numbers(page):
-    """Yields the rows of the page's table of line counts whose number is wrong by more than a twentieth. The right
+    """Yields the rows, in the page's table of line counts, whose number is wrong by more than five percent. The right
     number is the number of lines of the definitions that the row's contracts reach.
     """
     said = {row: int(number) for row, number in re.findall(r"^\| (.*) \| (\d+) \|$", page, re.M)}

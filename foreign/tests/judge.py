@@ -15,7 +15,7 @@ THREADS = 4
 
 
 def pairs(folder):
-    """Yields each schedule with its report, as texts, except the schedules that must be refused."""
+    """Yields the texts of each schedule and of its report, except for the schedules that must be refused."""
     refused = {line.split(":")[0] for line in (folder / "refused-files.txt").read_text().splitlines()}
     for it in sorted(folder.glob("*.schedule")):
         if (report := it.with_suffix(".report")).exists() and it.name not in refused:

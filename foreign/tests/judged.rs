@@ -1,4 +1,4 @@
-//! Judges `Shared` sets of the five lists, as docs/YOUR-SET.md describes. Each set has eight seats (each serves one
+//! Judges `Shared` sets of the five lists, as docs/YOUR-SET.md describes. Each set has eight seats (a seat serves one
 //! call at a time).
 use listset::{Added, List, Shared};
 use listset_judge::Options;

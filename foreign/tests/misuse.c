@@ -203,7 +203,7 @@ static void one_renewal(uint8_t kind, size_t refused) {
 }
 
 // Requests a receipt (proof of the calls that a seat has made) while the receipt's allocation fails. A second request
-// must return the receipt.
+// must succeed and return the receipt.
 static void one_receipt(uint8_t kind) {
   listset_seat seat = LISTSET_NONE;
   listset_receipt receipt = LISTSET_NONE;

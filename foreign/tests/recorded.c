@@ -1,4 +1,4 @@
-// Records the calls of four threads to each list, in the format of docs/YOUR-SET.md, and judges the recordings in the
+// Records the calls of four threads on each list, in the format of docs/YOUR-SET.md, and judges the recordings in the
 // same process.
 #define _POSIX_C_SOURCE 200809L
 #include "listset.h"

@@ -1,6 +1,6 @@
-// Tests, for each list, threads that call one set. For its own keys, a thread compares the replies with a model. For
-// shared keys, it counts the changes: the number of adds minus the number of removes that returned true must be 1 if
-// the set has the key at the end, otherwise 0.
+// Tests each list with threads that share one set. For its own keys, a thread compares the replies with a model. For
+// shared keys, the thread counts the changes: the number of adds minus the number of removes that returned true must be
+// 1 if the set has the key at the end, otherwise 0.
 //
 //     sets CALLS THREADS     at most 64 threads
 #include "listset.h"

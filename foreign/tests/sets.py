@@ -178,7 +178,9 @@ def reads_and_receipts(kind):
 
 
 def renewed_by_hand():
-    """Replaces a set by a set of another list with the same keys (`renew`). Checks that a refused renewal loses nothing."""
+    """Replaces a set with a set of another list that has the same keys (`renew`). Checks that a refused renewal loses
+    nothing.
+    """
     first = listset.open("lazy", 3, 1, [5])
     seats = [first, first.split(), first.split()]
     assert seats[0].add(7) and seats[1].add(8) and raised(seats[0].add, 9)[0] is listset.Full
@@ -235,8 +237,8 @@ def seats_of_a_renewed_set():
 
 
 def waits_without_patience(kind):
-    """Checks that a call without a time limit waits while another thread stays in a call, and succeeds after the other
-    thread's call has ended.
+    """Checks that a call without a time limit waits during a long call of another thread, and succeeds after the long
+    call has ended.
     """
     of = listset.RenewedSet(kind, 2, 1)
     mine, rests = of.split(), of.split()
@@ -257,7 +259,7 @@ def shared(kind):
 
 
 def two_users():
-    """Checks that a call from a seat raises an error while another thread is in a call from the same seat."""
+    """Checks that a call through a seat raises an error while another thread is making a call through the same seat."""
     mine = listset.open("lazy", 1, 1)
     with mine._used():
         text = "no seat is here: it was moved, dropped, gathered or closed, or another thread is in a call from it"
@@ -272,7 +274,7 @@ def pages():
 
 
 def memory():
-    """Checks that sets without references are freed. Each set in the test needs about 3 MB."""
+    """Checks that sets to which no reference remains are freed. Each set in the test needs about 3 MB."""
     before = pages()
     for _ in range(60):
         listset.open_set("lazy", 8, 16384).split()

@@ -1,5 +1,5 @@
-// Judges the texts in the files in several threads at the same time. Each thread must get the same verdicts as a single
-// thread.
+// Runs `replay`, `check` and `trace` on the texts in the given files, in eight threads at the same time. Each thread
+// must get the same results as a single thread.
 //
 //     threads FILE ..
 #include "listset.h"

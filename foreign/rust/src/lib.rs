@@ -74,7 +74,7 @@ pub fn replay(schedule: impl AsRef<[u8]>) -> Result<String, Wrong> {
 }
 
 /// Judges a recording (calls of any set, with their replies and times). Returns `ok N calls` if some order explains the
-/// recorded calls, otherwise an error with calls that show that no order does.
+/// recorded calls, otherwise an error with calls that show why no order explains the recording.
 pub fn judge_text(recording: impl AsRef<[u8]>) -> Result<String, Wrong> {
     of_text(calls::listset_judge, recording.as_ref())
 }
@@ -89,7 +89,7 @@ pub fn why(recording: impl AsRef<[u8]>) -> Result<String, Wrong> {
     }
 }
 
-/// Checks a report. If the report's order does not explain the calls, returns the first error of the order.
+/// Checks a report. If the order in the report does not explain the calls, returns the first error in the order.
 pub fn check(report: impl AsRef<[u8]>) -> Result<(), Wrong> {
     of_text(calls::listset_check, report.as_ref()).map(|_| ())
 }
@@ -105,7 +105,7 @@ pub fn trace_with_chains(schedule: impl AsRef<[u8]>) -> Result<String, Wrong> {
     of_text(calls::listset_trace_with_chains, schedule.as_ref())
 }
 
-/// Expands a draft (a schedule that states where threads stop instead of numbers of steps) into a schedule.
+/// Expands a draft (a schedule that states where threads stop rather than how many steps they make) into a schedule.
 pub fn draft(draft: impl AsRef<[u8]>) -> Result<String, Wrong> {
     of_text(calls::listset_draft, draft.as_ref())
 }

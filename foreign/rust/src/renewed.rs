@@ -83,7 +83,7 @@ struct All<'a> {
     _wanted: Wanted<'a>,
 }
 
-/// The right to lock all places (seats with their locks), which only one thread has at a time.
+/// The right to lock all places (seats with their locks). Only one thread at a time has the right.
 struct Wanted<'a> {
     set: &'a RenewedSet,
     _one: MutexGuard<'a, ()>,
@@ -334,8 +334,8 @@ mod tests {
 
     use super::*;
 
-    /// Tests calls of other threads while one thread stays in a call: the calls time out and have no effect. After the
-    /// long call has ended, calls succeed again.
+    /// Tests calls of other threads during a long call of one thread: the calls of the other threads time out and have
+    /// no effect. After the long call has ended, calls succeed again.
     #[test]
     fn a_call_that_does_not_return_makes_others_time_out() {
         let set = RenewedSet::open(List::Lazy, 2, 1, &[]).unwrap().with_patience(Duration::from_millis(20));
@@ -351,8 +351,8 @@ mod tests {
         assert_eq!((set.close(), set.keys()), (Err(Fault::Closed), Err(Fault::Closed)));
     }
 
-    /// Tests a call without a time limit while another thread stays in a call: the call waits, and succeeds after the
-    /// other thread's call has ended.
+    /// Tests a call without a time limit during a long call of another thread: the call waits, and succeeds after the
+    /// long call has ended.
     #[test]
     fn a_call_without_patience_waits() {
         for list in [List::Lazy, List::LockFree] {

@@ -104,8 +104,8 @@ impl Display for Fault {
 
 impl Error for Fault {}
 
-/// An error that returns the refused argument. `?` converts it to a boxed error, or to its [`Fault`]; a conversion to a
-/// [`Fault`] drops the argument.
+/// An error that hands the refused argument back to the caller. `?` converts it to a boxed error, or to its [`Fault`];
+/// a conversion to a [`Fault`] drops the argument.
 #[derive(Debug)]
 pub struct Refused<B> {
     /// The refused argument.
@@ -288,8 +288,8 @@ pub(crate) fn keys_of(closed: &mut Raw) -> Option<Vec<u32>> {
 
 // SAFETY of each call in the functions of `Seat`: `&mut self` is a seat that only the current thread uses.
 impl Seat {
-    /// Splits a seat (one thread's access to the set) off this seat, for one more thread. Returns [`Fault::NoMore`] if
-    /// all seats have been split off, or if a seat was [merged](Seat::gather) into this seat.
+    /// Splits a seat (one thread's access to the set) off this seat, so that one more thread can call the set. Returns
+    /// [`Fault::NoMore`] if all seats have been split off, or if a seat was [merged](Seat::gather) into this seat.
     pub fn split(&mut self) -> Result<Seat, Fault> {
         let mut made = Seat { raw: NONE };
         told(unsafe { listset_split(&mut self.raw, &mut made.raw) })?;

@@ -8,7 +8,7 @@ use listset::*;
 
 const THREADS: usize = 4;
 
-/// Returns each schedule with its report, as texts. Leaves out the schedules that must be refused.
+/// Returns the texts of each schedule and of its report. Leaves out the schedules that must be refused.
 fn pairs() -> Vec<(String, String)> {
     let folder = std::env::var_os("LISTSET_EXAMPLES").map(PathBuf::from);
     let folder = folder.unwrap_or_else(|| PathBuf::from(env!("CARGO_MANIFEST_DIR")).join("../../examples/schedules"));
