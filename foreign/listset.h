@@ -193,8 +193,8 @@ typedef enum LISTSET_BYTE listset_answer {
   LISTSET_NO_SEAT = 255    ///< The seat is empty or a closed set; or the call gave up after 2^64 - 1 rounds, and the seat is lost.
 } listset_answer;
 
-/// The reply of a call. Compare it like `reply.is == LISTSET_TRUE`. A reply is a struct, so code that uses one as a
-/// condition or as a fault does not compile.
+/// The reply of a call. Compare the field `is`, as in `reply.is == LISTSET_TRUE`. A reply is a struct, so code that
+/// uses one as a condition or as a fault does not compile.
 typedef struct listset_reply {
   listset_answer is;
 } listset_reply;

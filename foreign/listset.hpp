@@ -312,7 +312,7 @@ inline void renew(std::vector<seat> &seats, list kind, uint32_t count, uint32_t 
 /// A thread gets its own seat from `split`; the seat's destructor returns the seat to the set. Calls wait during a
 /// renewal. The renewal waits for pending calls, but not for threads that are between two calls. A call waits for other
 /// calls for at most `patience`. After that, the call throws with LISTSET_TIMED_OUT and has no effect. docs/FOREIGN.md
-/// states the promises about the order of calls.
+/// states what is promised about the order of calls.
 class renewed_set {
   // A place in the set: a seat with its lock, and whether a thread has the seat.
   struct alignas(128) place {

@@ -26,8 +26,8 @@ of quota.
 Keys, numbers of seats and quotas are integers from 0 to 4294967295. An integer out of range raises ValueError, and
 anything else raises TypeError. In both cases the set is unchanged.
 
-The library is loaded from the folder named by LISTSET_LIB if that variable is set. Otherwise it is loaded from the
-folder of this file, or from lib of an installation by foreign/build.
+If the environment variable LISTSET_LIB is set, the library is loaded from the folder that LISTSET_LIB names. Otherwise
+the library is loaded from the folder of this file, or from the folder lib of an installation by foreign/build.
 """
 
 import builtins
@@ -597,7 +597,7 @@ class RenewedSet:
     A thread gets its own seat from `split`, and returns it with `drop` or at the end of a `with` block. Calls wait
     during a renewal. The renewal waits for pending calls, but not for threads that are between two calls. A call waits
     for other calls for at most `patience` seconds (without limit if `patience` is None). After that, the call raises
-    `TimedOut` and has no effect. docs/FOREIGN.md states the promises about the order of calls.
+    `TimedOut` and has no effect. docs/FOREIGN.md states what is promised about the order of calls.
     """
 
     def __init__(self, kind, seats, quota, keys=(), *, patience=None):

@@ -5,7 +5,7 @@
     pytest-3 --program=PROGRAM        tests this program; by default the most recently built program, proved or unproved
     pytest-3 --few                    tests a tenth of the random inputs
     pytest-3 --show PAGE              prints PAGE, a file in tests/transcripts, with the current output of its commands
-    pytest-3 --tools                  also fails a test that runs a command of build/needs.txt without a mark `needs` for it
+    pytest-3 --tools                  also fails a test that runs a command of build/needs.txt but has no mark `needs` for it
 
 A test that needs a missing tool or program is skipped with a message. If it was selected by -k or as FILE::NAME, it
 fails.

@@ -24,7 +24,8 @@ RIGHT_REPORT = REPORT + "call 0 0 add 5 1 8 true\nplace 0 true\nkey 5\nend\n"
 ADD = "call 0 add 5 1 4 true\n"
 RIGHT_CALLS = f"{CALLS}{ADD}key 5\nend\n"
 
-# Mistakes, keyed by name: the command, its input, the error line in a pipe, and parts of the explanation
+# Mistakes, keyed by name: the command, its input, the error line that the command prints to a pipe, and parts of the
+# explanation
 ROWS = {
     "no bytes": ("replay", "", "line 1: Header", ["no bytes", "command before a pipe"]),
     "no bytes of a recording": ("judge", "", "line 1: Header", ["no bytes"]),

@@ -46,7 +46,8 @@ LAST_CALL = "still to be refused"
 
 
 def refuser(folder):
-    """Builds the library that refuses an allocation. The library must be loaded before the C library."""
+    """Builds the library that makes one allocation of a program fail. The library must be loaded before the C library.
+    """
     rt = shutil.which("rt")
     assert rt, "the command rt is missing"
     clang = pathlib.Path(rt).resolve().parent.parent / "toolchain/bin/clang"

@@ -121,7 +121,7 @@ def options_of(language):
 
 
 def block_of(first):
-    """Returns the lines of the page's code block whose first line is `first`."""
+    """Returns the lines of the code block that begins, on the page, with the line `first`."""
     return re.search(rf"^ {{4}}{re.escape(first)}.*\n(?: {{4}}.*\n)*", PAGE.read_text(encoding="utf-8"), re.M)[0]
 
 

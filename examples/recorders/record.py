@@ -1,4 +1,4 @@
-"""Records a run of a set in threads as a text that `listset judge FILE` reads: python3 record.py FILE."""
+"""Records the calls of several threads on a set, in a file that `listset judge FILE` reads: python3 record.py FILE."""
 import itertools, random, sys, threading
 
 sys.setswitchinterval(1e-6)  # threads switch often, so that calls overlap

@@ -15,9 +15,9 @@ ENDS = [0, 2**32 - 1]  # the smallest and the largest key
 
 
 def calls_of(seat, number, kinds):
-    """Calls operations with keys that all threads use, and with keys that only thread `number` uses. Returns the
-    thread's adds minus removes that returned true for each shared key, and those of its own keys that the set still
-    contains. `kinds` is the number of operations: 4, or 3 without `ceiling`.
+    """Calls operations with keys that all threads use, and with keys that only thread `number` uses. Returns, for each
+    shared key, the thread's number of adds minus its number of removes that returned true, and those of the thread's
+    own keys that the set contains at the end. `kinds` is the number of operations: 4, or 3 without `ceiling`.
     """
     draws, net, own = random.Random(number), [0] * KEYS, set()
     for _ in range(CALLS):

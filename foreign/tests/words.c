@@ -1,4 +1,4 @@
-// Those commands of the program that need no threads, implemented with liblistset, for tests/foreign.py.
+// Implements, with liblistset, the commands of the program that need no threads. tests/foreign.py uses this file.
 #include "listset.h"
 
 #include <stdbool.h>

@@ -20,20 +20,20 @@ SECTIONS = {it.split("\n")[0]: re.sub(r"`|\*\*", "", it) for it in PAGE}
 
 
 def row_of(step, then):
-    """Parses a table row: its step, and the actions after the step."""
+    """Parses a row of a step table: a step, and the actions after the step."""
     then = then.replace("if pred is", "pred is").replace(" that there is none", " nothing").removesuffix(" whatever was seen")
     return step.split(), [it.strip() for it in then.split(";")]
 
 
 def rows_of(text):
-    """Parses the rows of a table. A row consists of a number, a step, and the actions after the step."""
+    """Parses the rows of a step table. A row consists of a number, a step, and the actions after the step."""
     cells = re.findall(r"^\|? *(\d+) \|([^|]*)\|([^|\n]*)", text, re.M)
     return {int(number): row_of(step.strip(), then.strip()) for number, step, then in cells}
 
 
 def table(one):
-    """Returns a list's table: its rows, the first row of each operation, and the rows where a call adds its key, removes its
-    key, and exits. (On some lists, a call exits by returning and has no row for the exit.)
+    """Returns the step table of a list: the rows, the first row of each operation, and the rows where a call adds its
+    key, removes its key, and exits. (On some lists, a call exits by returning and has no row for the exit.)
     """
     own, reads = SECTIONS[one.type], SECTIONS["Reads without locks"] if one.has_reads() else ""
     places = {word: int(row) for text in (own, reads) for word, row in re.findall(r"(begin|begins|add|remove|leave|ceiling) at row (\d+)", text)}

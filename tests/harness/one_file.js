@@ -1,4 +1,5 @@
-// Prints the report of the schedule on standard input, with the engine in the file PAGE (the page as one HTML file):
+// Replays the schedule on standard input with the engine in the file PAGE (the page as one HTML file), and prints the
+// report:
 //
 //     node one_file.js PAGE replay
 //

@@ -5,9 +5,9 @@ A heading `## NAME` begins a test. Lines with an indent of four spaces are comma
 
     $ COMMAND     run by bash, in a new folder with the files of tests/transcripts/data; `listset` is the program
     > LINE        the next line of the command (as in a here-document)
-    ! LINE        a line of standard error; ! alone is an empty one
-    ? N           the exit status; 0 if there is no such line
-    .             after a command: its output has no newline at its end
+    ! LINE        a line of standard error; ! alone is an empty line
+    ? N           the exit status; if no line begins with ?, the status must be 0
+    .             after a command: the command's output does not end with a newline
     LINE          any other line: a line of the output
 
 All other lines are prose. The commands of a test run one after another in the same folder. A command that runs for 300

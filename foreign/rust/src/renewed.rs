@@ -19,7 +19,7 @@ const MOST_OPENING: u64 = 1 << 20;
 /// A thread gets its own seat from [`RenewedSet::split`], and returns the seat by dropping it. Calls wait during a
 /// renewal. The renewal waits for pending calls, but not for threads that are between two calls. A call waits for other
 /// calls for at most [`patience`](RenewedSet::with_patience). After that, the call returns [`Fault::TimedOut`] and has
-/// no effect. The page FOREIGN.md states the promises about the order of calls.
+/// no effect. The page FOREIGN.md states what is promised about the order of calls.
 ///
 /// ```
 /// use listset::{List, RenewedSet};

@@ -20,8 +20,8 @@ impl<S> Once<()> for S {}
 impl<S: Clone> Once<u8> for S {}
 const _: fn() = <Seat as Once<_>>::is_once;
 
-/// Calls random operations with keys that no other thread uses. Returns those keys that the set still contains. `kinds`
-/// is the number of operations: 4, or 3 without `ceiling`.
+/// Calls random operations with keys that no other thread uses. Returns the keys among them that the set contains at
+/// the end. `kinds` is the number of operations: 4, or 3 without `ceiling`.
 fn calls_of(seat: &mut Seat, thread: u32, kinds: u64) -> BTreeSet<u32> {
     let (mut left, mut drawn) = (BTreeSet::new(), u64::from(thread) + 88172645463325252);
     for _ in 0..CALLS {
