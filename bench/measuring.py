@@ -98,5 +98,5 @@ def row(*cells):
 
 
 def least(rows):
-    """Returns the minimum of each column."""
+    """Returns the minimum of each column of `rows`."""
     return [min(column) for column in zip(*rows)]

@@ -51,7 +51,7 @@ impl Pcg {
     }
 }
 
-/// The arguments, in the order in which `listset run` has them.
+/// The arguments, in the order in which `listset run` takes them.
 struct Wanted {
     threads: u64,
     quota: u64,

@@ -1,5 +1,5 @@
-"""Measures sets that threads call at the same time, and compares them with lists written by hand: calls by operation, and
-rounds of calls on sets of several sizes.
+"""Measures sets that threads call at the same time, and compares them with lists written by hand. The table `calls`
+compares the calls of each operation; the table `sizes` compares rounds of calls on sets of several sizes.
 """
 
 import statistics

@@ -1,5 +1,5 @@
-"""Stores the verdict of the last complete gate run in the git folder, for build/release. Stores nothing if the clone
-has uncommitted changes.
+"""Stores, in the git folder, the verdict of the last complete run of ./gate. build/release reads the verdict. Nothing
+is stored if the clone has uncommitted changes.
 """
 
 import datetime

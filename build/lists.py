@@ -30,8 +30,8 @@ def lists(root=TOP):
     return [List(it.removeprefix("lset_").replace("_", "-")) for it in found]
 
 
-# Maps each source file that must name every list to the lines or items that contain the name. build/new_list writes
-# these lines.
+# Maps each source file that must name every list to the lines or items that contain the name. build/new_list writes the
+# lines and items.
 CODE = {
     "crates/lset_words/src/lib.rt": ["    {kind},"],
     "crates/lset_text/src/words.rt": ['Kind::{kind} => "{word}"', "is_word_of(piece, Kind::{kind})"],

@@ -38,7 +38,7 @@ class Help:
         return [it for text in self.pages.values() for it in re.findall(r"^Example: (.*)$", text, re.M)]
 
     def broken_lists(self):
-        """Returns the names that --lacks accepts."""
+        """Returns the names that the option --lacks accepts."""
         about = next(about for option, _, about in self.options("replay") if option == "lacks")
         return re.findall(r"([\w-]+) \([\w-]+\)", about)
 
@@ -85,8 +85,8 @@ def entry(name, text):
 
 
 def filled(text):
-    """Returns the lines of a help text in roff: paragraphs, and lists of names, each with a text. A text can continue
-    on more deeply indented lines.
+    """Converts a help text to lines of roff. A help text consists of paragraphs and lists. Each entry of a list is a
+    name and a text, and the text can continue on more deeply indented lines.
     """
     for line in text.splitlines():
         if not line:

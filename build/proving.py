@@ -92,7 +92,7 @@ def minutes_since(began):
 
 @contextlib.contextmanager
 def telling_each_minute(room, tell, began):
-    """Prints the crates in progress once a minute until the block ends."""
+    """Prints the crates in progress once a minute until the `with` block ends."""
     ended = threading.Event()
 
     def tell_crates():

@@ -134,13 +134,12 @@ typedef struct {
 } listset_plan;
 
 /// Draws a schedule or a report as text. `options` contains the values of --from, --to and --width, separated by zero
-/// bytes. Each value is empty, or `=` and a number. `listset_draw` has a `listset_window` as argument in place of
-/// `options`.
+/// bytes. Each value is empty, or `=` and a number. `listset_draw` takes a `listset_window` in place of `options`.
 size_t listset_show(const char *text, size_t length, const char *options, size_t options_length, char *room, size_t size,
                     uint8_t *status);
 
-/// Draws a schedule or a report as an SVG. For `options`, see `listset_show`. `listset_draw_svg` has a `listset_window`
-/// as argument in place of `options`.
+/// Draws a schedule or a report as an SVG. For `options`, see `listset_show`. `listset_draw_svg` takes a
+/// `listset_window` in place of `options`.
 size_t listset_show_svg(const char *text, size_t length, const char *options, size_t options_length, char *room, size_t size,
                         uint8_t *status);
 

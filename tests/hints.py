@@ -266,7 +266,7 @@ def test_a_long_line_of_a_long_recording_is_shown(script):
 
 
 # Matches arguments that the engine in Node cannot handle: commands that only a built program has, errors to which clap
-# adds a tip, and a wrong command line with a hint.
+# (the parser of the command line) adds a tip, and a wrong command line with a hint.
 NOT_OF_NODE = re.compile(r"(run|serve) |shwo|--prov|show --from (-5|5 --from)|trace --chain=")
 
 

@@ -451,8 +451,8 @@ def test_a_replay_and_a_test_without_its_own_process_make_no_further_run(form, p
     assert kind == "refused" and re.search(r"\nseed 1 \(few keys\), 4 threads; recorded in ", said), said
 
 
-# The program, which also writes the file `judged` when it judges. The set `W later` acts like the set `finds all` until
-# the file `judged` exists, and then like the set W.
+# A judge that acts like the program and, for each command `judge`, appends a line to the file `judged`. The set `W
+# later` acts like the set `finds all` until the file `judged` exists, and then like the set W.
 JUDGES = """#!/bin/sh
 [ "$1" != judge ] || echo >> '%room/judged'
 exec '%program' "$@"

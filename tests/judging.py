@@ -109,8 +109,8 @@ def ways_left(calls, is_there):
 
 
 def known_at(calls, moment):
-    """Returns `calls` as a judge knows them at `moment` (a time in the recording). An add or remove that has begun but
-    not ended by `moment` is pending. Other calls that have not ended are left out.
+    """Returns `calls` as they are known at `moment` (a time in the recording). An add or remove that has begun but not
+    ended by `moment` is pending. Other calls that have not ended are left out.
     """
     ended = [it for it in calls if it.end and it.end <= moment]
     return ended + [it._replace(end=None, reply=None) for it in calls if it.begin <= moment and it not in ended and changes(it)]

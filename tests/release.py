@@ -69,7 +69,7 @@ def made_packages(folder, program):
 
 
 class Release:
-    """The packages, shared by all tests."""
+    """The packages of a trial release, which all tests share."""
 
     def __init__(self, folder, room):
         self.folder, self.room = folder, room

@@ -87,7 +87,7 @@ def left_by_orders(calls, opening, quota):
     return left
 
 
-# ---- Random reports, and the properties of the lines of `check`
+# ---- Random reports, and the properties of the lines that `check` prints
 
 
 def drawn_calls(rng, quota, opening):
@@ -245,7 +245,7 @@ def test_each_line_of_check_about_a_report_is_true(program, cases, few, seed):
     assert few or len(met) >= 5, met
 
 
-# ---- The properties of the lines in a picture of a report
+# ---- The properties of the lines that `show` prints about a report
 
 of_show = Sentences()
 

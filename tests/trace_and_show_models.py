@@ -89,8 +89,9 @@ class Compared:
         assert texts <= {it.text for it in svg.iter()}, f"{' '.join(words)} of {self.text!r}"
 
     def pictures(self, picture, below=()):
-        """Compares three text pictures and two SVGs. One text picture and one SVG show the whole run. The others begin
-        or end near the start, effect or end of some call. Options are left out at random.
+        """Compares three text pictures and two SVGs. One text picture and one SVG show the whole run. The other
+        pictures and the other SVG begin or end near the start, effect or end of some call. Options are left out at
+        random.
         """
         draw = random.Random(self.name)
         moments = Drawn(picture, 1, GREATEST).all or [1]

@@ -39,7 +39,7 @@ def table_of_causes(top):
 
 
 def table_of_orders(top):
-    """Returns the table of the errors for which `listset check` refuses an order, taken from `listset faults`."""
+    """Returns the table, taken from `listset faults`, of the errors for which `listset check` refuses an order."""
     return table(["Fault", "When"], [[f"`{name}`", when] for name, when in faults_below(top, "refused FAULT ID").items()])
 
 

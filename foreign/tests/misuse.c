@@ -111,7 +111,7 @@ static void refused_calls(uint8_t kind) {
   calls_without_a_seat("a dropped seat", &a);
 }
 
-// Tests receipts (proofs of the calls that a seat has made) and `contains_now` on a list.
+// Tests receipts (proofs of the calls that a seat has made) and `contains_now` on a list of the kind `kind`.
 static void reads_and_receipts(uint8_t kind) {
   const bool blocks = kind < LISTSET_LAZY;
   listset_seat a = LISTSET_NONE, b = LISTSET_NONE, other = LISTSET_NONE;

@@ -126,8 +126,8 @@ class List:
             self.words[4 + 3 * node] = 2 * after
 
     def chain(self):
-        """Returns the keys from the head to the tail, each with its mark. (On a broken list, which lacks a check, the
-        chain can be a cycle, and can contain a slot, a reserved node, that has no key.)
+        """Returns the keys from the head to the tail, each with its mark. On a broken list (a list without one of its
+        checks), the chain can be a cycle, and can contain a reserved node without a key.
         """
         node, told = self.words[4] // 2, []
         while node > 1 and len(told) < len(self.words) // 3:

@@ -1,4 +1,4 @@
-//! Compares the lists, called by four threads, with sets of std, and tests the errors of refused calls.
+//! Compares the lists, which four threads call, with sets of std, and tests the errors of refused calls.
 
 use std::collections::BTreeSet;
 use std::sync::Barrier;
