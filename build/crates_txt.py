@@ -49,8 +49,8 @@ def below(names, root=TOP, lines=None):
 
 def lay_out(to, names, is_whole=False):
     """Creates, in the folder `to`, a copy of the repository that has only the crates `names`, without their must-fail
-    edits (edits that the prover must refuse). If `is_whole`, the copy also has the files outside of the crates, so that
-    rt ci checks these files.
+    edits (edits that the prover must refuse). If `is_whole` is true, the copy also has the files outside of the crates,
+    so that rt ci checks the whole repository.
     """
     to.mkdir(parents=True, exist_ok=True)
     (to / ".git").mkdir()

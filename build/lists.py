@@ -1,4 +1,4 @@
-"""The lists in crates.txt: the names of each list, and the files outside of its crate that contain these names."""
+"""The lists in crates.txt: the names of each list, and the files outside of the list's crate that contain the names."""
 
 import os
 import re

@@ -68,8 +68,8 @@ def events_of(schedule):
 @pytest.mark.parametrize("words", ["draft", "trace", "replay", "show --from 400000", "show --svg --from 400000", "replay --lacks mark-in-contains",
                                    "show --lacks mark-in-contains --from 400000"])
 def test_no_command_keeps_its_events(program, words):
-    """Tests that the commands need little memory for a schedule with hundreds of thousands of events, even on a broken
-    list (a list without one of its checks). (For this schedule, `trace` prints tens of megabytes.)
+    """Tests that the commands need little memory for a schedule with hundreds of thousands of events (for which `trace`
+    prints tens of megabytes), even on a broken list (a list without one of its checks).
     """
     schedule = well(program, "draft", text=long_walks())
     many = events_of(schedule)

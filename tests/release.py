@@ -63,7 +63,9 @@ def trial_of(program):
 
 
 def made_packages(folder, program):
-    """Returns the folder of the packages, or the reason why they cannot be made on this machine or in this clone."""
+    """Returns the folder of the packages, or the reason why the packages cannot be made on this machine or in this
+    clone.
+    """
     done = ran(*trial_of(program), folder / "dist", seconds=LONG)
     return folder / "dist" if done.returncode == 0 else done.stderr.strip()
 

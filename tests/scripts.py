@@ -22,7 +22,7 @@ from harness.programs import LONG, SECONDS, TOP, comes, is_running, ran, wants, 
 
 BUILDING = "building the program once WITHOUT A PROOF"
 NO_NODE = "no program is built here, and Node is missing. Install Debian's package nodejs (18 or later), or put the folder bin of the Rattle toolchain in PATH"
-# Arguments that ask for a help text, each with the command of the transcripts that prints this text
+# Arguments that ask for a help text, each with the command of the transcripts that prints the help text
 HELP = {"--help": "--help", "help": "--help", "-V": "--version", "help judge": "help judge", "judge --help": "help judge", "judge -h": "help judge"}
 # The source of a small program. For each argument, the program looks up the table entry for the argument's length, adds
 # one, and prints the sum. For the argument "show" the addition overflows (255 + 1), and for "replay" the table has no

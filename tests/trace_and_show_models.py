@@ -23,8 +23,8 @@ GREATEST = 4294967295
 
 
 def drawn_schedule(kind, seed, lacks=None, overruns=False):
-    """Returns a random schedule for a list. If `overruns`, it has steps after the end of a call, and the first such step is
-    refused.
+    """Returns a random schedule for a list. If `overruns` is true, the schedule has steps after the end of a call, and
+    the first of these steps is refused.
     """
     draw = random.Random(f"{kind} {seed}")
     version, threads, quota = draw.choice([1, 2, 2]), draw.choice([64, 9]) if seed % 10 == 9 else draw.choice([1, 2, 3]), draw.randrange(5)

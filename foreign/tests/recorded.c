@@ -53,7 +53,7 @@ static size_t written(const uint32_t *keys, size_t count) {
   return at + sprintf(at, "end\n") - text;
 }
 
-// Returns whether the judge gives the recording in a file the same output and status as the recording in memory.
+// Returns whether the judge's output and status for the recording in a file equal those for the recording in memory.
 static int is_judged_from_file(size_t length, uint8_t due, const char *said) {
   char room[8192];
   uint8_t status;

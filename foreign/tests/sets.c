@@ -25,7 +25,7 @@ typedef struct {
 } task;
 
 // The number of operations that threads choose from. Several threads on the lock-free list do not call ceiling, because
-// such a call could wait for a remove that no thread calls.
+// a ceiling could wait for a remove that no thread calls.
 static uint32_t kinds;
 
 static uint64_t draw(uint64_t *drawn) {

@@ -98,7 +98,7 @@ def lines_as_shown(run):
 
 
 def repository_in(work, program):
-    """Creates a folder with the files of the repository. In this folder, ./listset is the program."""
+    """Creates a folder with the files of the repository, in which ./listset is the program under test."""
     work.mkdir()
     for it in TOP.iterdir():
         (work / it.name).symlink_to(program if it.name == "listset" else it)

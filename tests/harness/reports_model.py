@@ -37,7 +37,7 @@ def read_report(text):
 def faults_of(report):
     """Yields each reason to refuse the order of a report. The checks run in the same sequence as in the program."""
     def about(said, number):
-        """Returns a refusal that concerns call `number`. The picture begins at the start of this call."""
+        """Returns a refusal that concerns call `number`: the picture begins at the start of the call."""
         return Refusal(said, report.calls[number].begun, None)
 
     numbers = [it for it, _ in report.order]

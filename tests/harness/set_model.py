@@ -1,5 +1,5 @@
-"""A Python model of the sequential set. The model returns the reply to each call, as written in a report. All tests
-that need replies use this model. It was written independently of the crates.
+"""A Python model of the sequential set. The model returns the reply to each call, as written in a report. The model was
+written independently of the crates. All tests that need replies use the model.
 """
 
 import collections
