@@ -12,7 +12,8 @@ MILLION = 1_000_000
 THREADS, KEYS = 16, 64
 RUNS = 3
 
-# The recordings: the name, the numbers of calls, threads and keys, and whether one more call overlaps all calls.
+# The recordings: the name, the numbers of calls, threads and keys, and whether one additional call overlaps all other
+# calls.
 RECORDINGS = {
     "2 threads": (MILLION, 2, KEYS, False),
     "8 threads": (MILLION, 8, KEYS, False),
@@ -92,8 +93,8 @@ def lines_of(calls, threads, keys, has_spanning):
 
 
 def overlapping(draw, calls, threads, keys, there):
-    """Yields each call when the call begins, and None when a call has ended. A call changes `there`, the keys of the
-    set, when it takes effect.
+    """Yields each call when the call begins, and None when a call has ended. When a call takes effect, the call changes
+    `there`, the keys of the set.
     """
     pending, left, moment = {}, calls, 1
     while left or pending:

@@ -92,7 +92,7 @@ fn read_answers(stream: &mut TcpStream, protocol: Protocol, many: usize) {
     }
 }
 
-/// The times of a client: when it began, when it ended, and how long each write waited for its last answer.
+/// The times of a client: when it began, when it ended, and how long each write waited for the last of its answers.
 struct Seen {
     began: Instant,
     ended: Instant,

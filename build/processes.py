@@ -13,8 +13,8 @@ import time
 
 
 def script(main):
-    """Runs a script's main function and exits with the status that it returns. On a signal, first ends the started
-    processes and deletes the temporary folders, then ends the script.
+    """Runs a script's main function and exits with the status that the function returns. On a signal, first ends the
+    started processes and deletes the temporary folders, then ends the script.
     """
     def end(number, _):
         global _is_ending

@@ -66,7 +66,8 @@ def prove(room, names, tell, is_whole=False):
     if is_whole:
         lists.add_exercises(room)
     how = {"stdin": subprocess.DEVNULL, "stdout": subprocess.PIPE, "stderr": subprocess.STDOUT, "text": True, "errors": "replace"}
-    # If rt is killed, it does not delete its temporary files, so it writes them to a folder that the script deletes.
+    # If rt is killed, it does not delete its temporary files. Therefore rt writes the files to a folder that the script
+    # deletes.
     with processes.room("rt-ci") as temporary:
         environment = {**os.environ, "TMPDIR": str(temporary)}
         with subprocess.Popen([*processes.guarded(), "rt", "ci"], cwd=room, env=environment, **how) as running:

@@ -69,8 +69,8 @@ def ran_where(refuse, number, *words, **how):
 
 def answers(program, refuse):
     """Runs the program CALLS repeatedly. In each run, a different allocation fails, and the program prints the name of
-    the call that made it. Returns the names. Stops at the first run in which all calls end without a failed allocation.
-    No name is returned for that run.
+    the call that made the allocation. Returns the names. Stops at the first run in which all calls end without a failed
+    allocation. No name is returned for that run.
     """
     told = []
     for number in range(1, REFUSED):

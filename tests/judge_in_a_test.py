@@ -1,8 +1,8 @@
 """Tests the judges in judge/ with the same cases for each installed language. The language's test program,
 judge/LANGUAGE/tests, judges the set named by SET with the options in HOW, and prints the result and its kind.
 
-With the default options, correct sets must be `ok`, and wrong sets must be refused. If a set hangs or crashes, the
-calls that it has made so far are judged. A long run is one recording, which the program judges again. Some tests use a
+With the default options, the result must be `ok` for correct sets and a refusal for wrong sets. If a set hangs or
+crashes, the calls made so far are judged. A long run is one recording, which the program judges again. Some tests use a
 script in place of a judge, to check that each language passes a refusal on. All waits are bounded.
 """
 
@@ -692,7 +692,8 @@ def test_a_project_uses_the_package_of_python(room, program, lacking):
 
 
 def missing_of_maven():
-    """Returns how to install Maven's plugins and JUnit, which are separate packages, if one is missing."""
+    """Returns how to install Maven's plugins and JUnit (which are separate packages) if one of the packages is missing.
+    """
     plugins = [pathlib.Path(f"/usr/share/maven-repo/org/apache/maven/plugins/maven-{it}-plugin") for it in ("compiler", "jar", "resources", "surefire")]
     is_here = all(it.exists() for it in [*plugins, pathlib.Path("/usr/share/java/junit4.jar")])
     return "" if is_here else f"a plugin of mvn, or JUnit, is not installed: {NEEDS['mvn']}"
@@ -728,7 +729,7 @@ def test_a_project_uses_the_package_of_rust(room):
 # ---- Tests with published sets
 
 
-# The parts of judge/real-sets/run, with the commands that each part needs, and how many of its sets are correct.
+# The parts of judge/real-sets/run, with the commands that each part needs, and how many of the part's sets are correct.
 PUBLISHED = {"libcds": (["g++"], 9), "others": (["g++"], 3), "java": (["javac", "java"], 9), "go": (["go"], 2), "redis": (["redis-server"], 1), "erlang": ([], 1)}
 WRONG = r"libcds .* SkipList|JCTools NonBlocking|without a lock|read at a replica"
 

@@ -120,8 +120,8 @@ def test_a_release_is_reproducible(release, program, room):
 
 @pytest.mark.skipif(os.geteuid() != 0, reason="only root may chroot")
 def test_the_program_needs_no_other_file(release, program):
-    """Tests the program in a root folder that contains only its package: it replays a schedule, runs four threads, and serves
-    a session.
+    """Tests the program in a root folder that contains only the program's package: the program replays a schedule, runs
+    four threads, and serves a session.
     """
     enter = [shutil.which("chroot"), release.unpacked("*-linux-x86_64.tar.gz"), "/bin/listset"]
     assert well(*enter, "--version", "--long", env={}) == version_stamp.told(proof_of(program))

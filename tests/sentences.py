@@ -455,7 +455,7 @@ def test_each_line_of_show_about_a_report_is_true(program, cases, few, seed):
 
 def ends_of_trace(trace):
     """Returns, for each call in a trace, its reply and the moment of its effect (a number of events). A pending call
-    has a moment if it has changed the set.
+    has a moment only if the call has changed the set.
     """
     ends, begun = {}, {}
     for line in trace.splitlines():

@@ -35,9 +35,9 @@ LATE = 3
 
 
 class Sharing:
-    """A client. It sends its requests in pieces of random size, byte by byte, or all at once before it reads an answer.
-    It ends with QUIT, in the middle of a line, or with random bytes. `told` contains the answers to the client's calls
-    on shared keys, and `own` contains the keys that only the client uses.
+    """A client, which sends its requests in pieces of random size, byte by byte, or all at once before it reads an
+    answer. The client ends with QUIT, in the middle of a line, or with random bytes. `told` contains the answers to the
+    client's calls on shared keys, and `own` contains the keys that only the client uses.
 
     On a LockFreeList, the client sends no CEILING, because a ceiling that reaches a marked node restarts until some add
     or remove has unlinked the node.
@@ -223,8 +223,8 @@ def test_a_server_listens_on_the_port_in_its_arguments(program):
 @pytest.mark.parametrize("group", [1, 1023, 6000])
 def test_answers_to_a_group_of_lines_arrive_before_the_next_group(program, group):
     """Tests a client that sends a group of lines and reads all answers before it sends the next group. Every kind of answer
-    and keys of every length occur. The answers arrive although no further line is sent, even if they fill the server's buffer
-    (4,096 bytes). The answers to many lines arrive in few pieces.
+    and keys of every length occur. The answers arrive although no further line is sent, even if the answers fill the
+    server's buffer (4,096 bytes). The answers to many lines arrive in few pieces.
     """
     keys = [10**digits for digits in range(10)]
     turns = [(f"CEILING {key}", f"AT {key}") for key in keys] + [("MOVE 7", "BAD")] * 5

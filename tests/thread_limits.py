@@ -42,7 +42,7 @@ def ended_run(program, limit):
 
 def ended_serve(program, limit):
     """Runs `listset serve` with one client under a limit, and returns how the server ends. The server can refuse the
-    client, because it starts its threads after it has printed the first line.
+    client, because the server starts its threads after it has printed the first line.
     """
     with started(*limited(limit, program, "serve", KINDS[limit % 5], THREADS, QUOTA, 0, 1)) as process:
         first, told = process.stdout.readline(), b""

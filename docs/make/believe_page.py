@@ -126,7 +126,7 @@ def contracts_in_sources():
 @functools.cache
 def reached(items=""):
     """Returns the definitions that public contracts reach, as pairs of module and name. If the pattern `items` is given,
-    considers only the contracts of functions that it matches, as LIBRARY::NAME.
+    considers only the contracts of functions whose name, in the form LIBRARY::NAME, matches the pattern.
     """
     contracts = [it for it in public_contracts() if re.match(items, f"{it[0]}::{it[1]}")]
     found, waiting = set(), [it for _, _, text, can_be in contracts for it in named(text, "//", *can_be)]

@@ -74,9 +74,9 @@ LACKING = {
     "mark-at-key": ("lock-free", "22 | load curr.link | answers true"),
     "new-slot": ("lock-free", ""),  # (each add uses the first slot)
 }
-# The broken list second-lock: a remove locks only pred. It reads the key of a node first, and locks the node only to
-# move past it. ROWS_OF_ONE_LOCK maps a row to which the intact table sends a remove to the row at which the remove of
-# second-lock continues.
+# The broken list second-lock: a remove locks only pred. The remove first reads the key of a node, and locks the node
+# only to move past the node. ROWS_OF_ONE_LOCK maps a row to which the intact table sends a remove to the row at which
+# the remove of second-lock continues.
 ROWS_OF_ONE_LOCK = {3: 4, 4: 5, 5: 3, 12: 13}
 
 # The conditions in the step tables, as functions of a thread, the value s that the thread's step loaded, the key word

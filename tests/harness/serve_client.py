@@ -37,7 +37,7 @@ class Server:
 
 @contextlib.contextmanager
 def started(*words):
-    """Starts a process. Kills the process at the end of the context, if it still runs."""
+    """Starts a process. Kills the process at the end of the `with` block if the process is still running."""
     process = subprocess.Popen([*map(str, words)], stdout=subprocess.PIPE, stderr=subprocess.PIPE, text=True)
     watch = threading.Timer(2 * SECONDS, process.kill)
     watch.start()
