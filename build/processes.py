@@ -96,7 +96,9 @@ def status_and_words(words, cwd, **environment):
 
 
 class Failed(Exception):
-    """Raised if a command exits with a status other than 0. Has the command, the status, and the end of the output."""
+    """Raised if a command exits with a status other than 0. Contains the command, the status, and the end of the
+    output.
+    """
 
 
 def output_of(*words, cwd=None):

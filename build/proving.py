@@ -59,7 +59,7 @@ def wait_for_those_below(room, names):
 def prove(room, names, tell, is_whole=False):
     """Proves the crates `names` in the folder `room` and returns the exit status of rt ci. Each line of output is
     passed to `tell`, with the folder of the copy replaced by the folder of this repository. The libraries remain in
-    `room`. If `is_whole`, the copy also has the lists of examples/lists.
+    `room`. If `is_whole` is true, the copy also has the lists of examples/lists.
     """
     toolchain.folder()
     crates_txt.lay_out(room, names, is_whole)

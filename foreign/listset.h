@@ -144,7 +144,7 @@ size_t listset_show_svg(const char *text, size_t length, const char *options, si
                         uint8_t *status);
 
 /// Generates a schedule. `values` are KIND THREADS QUOTA CALLS KEYS SEED, separated by zero bytes. `listset_generate`
-/// has a `listset_plan` as argument in place of `values`.
+/// takes a `listset_plan` in place of `values`.
 size_t listset_gen(const char *values, size_t length, char *room, size_t size, uint8_t *status);
 
 /// Returns the names of all examples, each with its list and a description.
@@ -226,7 +226,7 @@ LISTSET_USED listset_fault listset_open(listset_list kind, uint32_t seats, uint3
                                         size_t count, listset_seat *out);
 
 /// Splits a seat (one thread's access to the set) off `seat` and stores it in `out`, which must be empty. Returns
-/// LISTSET_NO_MORE if no seat can be split off: all have been split off, or a seat was merged into `seat`.
+/// LISTSET_NO_MORE if no seat can be split off, because all seats have been split off or a seat was merged into `seat`.
 LISTSET_USED listset_fault listset_split(listset_seat *seat, listset_seat *out);
 
 /// Adds a key. Replies LISTSET_TRUE if the key was absent, LISTSET_FALSE if the key was present, and LISTSET_FULL if
@@ -267,17 +267,18 @@ uint64_t listset_seats_within(listset_seat *seat, uint32_t *all);
 /// Merges `from`, including all seats (one for each thread) that it contains, into `into`. `from` is empty afterwards.
 LISTSET_USED listset_fault listset_gather(listset_seat *into, listset_seat *from);
 
-/// Closes the set. All seats of the set (one for each thread) must be in `seat`: never split off, or merged back.
-/// Afterwards, `seat` contains the final keys. If the allocation for the final keys fails, the set stays open.
+/// Closes the set. Every seat of the set (one for each thread) must be part of `seat`, that is, either never split off
+/// or merged back. Afterwards, `seat` contains the final keys. If the allocation for the final keys fails, the set
+/// stays open.
 LISTSET_USED listset_fault listset_close(listset_seat *seat);
 
 /// Copies the keys of a closed set to `room` in strictly increasing order, if they fit into the `places` elements of
 /// `room`. Returns the number of keys, or SIZE_MAX if `closed` is not a closed set.
 size_t listset_keys(listset_seat *closed, uint32_t *room, size_t places);
 
-/// Merges all seats (one for each thread) in the array `seats`, which has `places` elements, into its first element,
-/// and closes the set. Elements of the array may be empty. If a seat of the set is missing, returns LISTSET_SEATS_OUT
-/// and changes nothing. After LISTSET_OUT_OF_MEMORY nothing is lost, and the call can be repeated.
+/// Merges all seats (one for each thread) in the array `seats`, which has `places` elements, into the first element of
+/// the array, and closes the set. Elements of the array may be empty. If a seat of the set is missing, returns
+/// LISTSET_SEATS_OUT and changes nothing. After LISTSET_OUT_OF_MEMORY nothing is lost, and the call can be repeated.
 LISTSET_USED listset_fault listset_close_all(listset_seat *seats, size_t places);
 
 /// Closes a set, and opens a set of the list `kind` with the same keys. The array `seats` must contain all seats of the

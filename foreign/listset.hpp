@@ -229,8 +229,8 @@ public:
     tell(listset_gather(&raw, &from.raw));
   }
 
-  /// Closes the set and returns its final keys. All seats of the set (one for each thread) must be in this seat: never
-  /// split off, or merged back. If `close` throws, nothing is lost, and the call can be repeated.
+  /// Closes the set and returns its final keys. Every seat of the set (one for each thread) must be part of this seat,
+  /// that is, either never split off or merged back. If `close` throws, nothing is lost, and the call can be repeated.
   std::vector<uint32_t> close() {
     use held(*this);
     const listset_fault code = listset_close(&raw);

@@ -431,8 +431,9 @@ class Seat:
             _told(_GATHER(self.raw, other.raw))
 
     def close(self):
-        """Closes the set and returns its final keys. All seats of the set (one for each thread) must be in this seat:
-        never split off, or merged back. If `close` raises, nothing is lost, and the call can be repeated.
+        """Closes the set and returns its final keys. Every seat of the set (one for each thread) must be part of this
+        seat, that is, either never split off or merged back. If `close` raises, nothing is lost, and the call can be
+        repeated.
         """
         with self._used():
             code = _CLOSE(self.raw)

@@ -21,7 +21,7 @@ def copy(room):
 
 
 def code_in(crate):
-    """Returns the code in a crate's files without comments."""
+    """Returns the contents of a crate's files, without the comments."""
     files = [it for it in crate.rglob("*") if it.suffix in (".rt", ".antt")]
     return "\n".join(re.sub(r"(^|\s)(--|//).*", "", line) for it in files for line in it.read_text().splitlines())
 

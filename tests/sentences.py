@@ -497,7 +497,7 @@ def compare_run(program, text, *words):
 
 @pytest.mark.parametrize("kind", KINDS)
 def test_traces_and_pictures_have_the_order_of_the_report(program, few, kind):
-    """Tests `trace` and `show` against the report of `replay`. (`replay` is proved.)"""
+    """Compares what `trace` and `show` print with the report that `replay` prints. (`replay` is proved.)"""
     for seed in range(2 if few else 12):
         text = drawn_schedule(kind, 1000 + seed)
         if not ran(program, "replay", text=text).returncode:

@@ -50,7 +50,7 @@ def uses(text):
 
 
 def definitions_in(text):
-    """Returns a dict with the name and the text of each definition in a file, without comments."""
+    """Returns a dict that maps the name of each definition in a file to its text without comments."""
     found, lemmas, into = {}, {}, None
     for line in text.split("\n"):
         if not line.strip() or line.strip().startswith("--"):

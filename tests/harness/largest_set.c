@@ -22,7 +22,7 @@ static void fill(int kind, listset_seat *seat, uint32_t first) {
 }
 
 // Splits all other seats off the first seat, uses up the quota of each seat, and merges each seat back into the first
-// one. After the first merge, no more seats can be split off.
+// seat. After the first merge, no more seats can be split off.
 static void fill_all(int kind, listset_seat *first) {
   listset_seat others[SEATS] = {LISTSET_NONE};
   for (uint32_t number = 1; number < SEATS; number++) expect(kind, "split", listset_split(first, &others[number]), LISTSET_OK);

@@ -354,8 +354,9 @@ impl Seat {
         told(code).map_err(|fault| Refused { back: from, fault })
     }
 
-    /// Closes the set and returns its final keys. All seats of the set (one for each thread) must be in this seat:
-    /// never split off, or merged back. If some are not, or if an allocation fails, the error contains the seat.
+    /// Closes the set and returns its final keys. Every seat of the set (one for each thread) must be part of this
+    /// seat, that is, either never split off or merged back. If a seat is missing, or if an allocation fails, the error
+    /// contains this seat.
     pub fn close(mut self) -> Result<Vec<u32>, Refused<Seat>> {
         match told(unsafe { listset_close(&mut self.raw) }) {
             Ok(()) => Ok(keys_of(&mut self.raw).expect("the set is closed")),
