@@ -70,8 +70,7 @@ class Judging {
     this.count = now.run.count;
     const isSlide = isLecture() && !isNarrow();
     const zoom = isSlide ? innerHeight / 450 : 1;
-    judgePart("bars").style.setProperty("--zoom", String(zoom));
-    this.scale = judgeScale(this.exercise, Math.max(300, judgePart("bars").clientWidth / zoom), isSlide ? { bar: 20, grown: GROWN } : { grown: isNarrow() ? SMALL_GROWN : WIDE_GROWN });
+    this.scale = judgeScale(this.exercise, Math.max(300, judgePart("bars").clientWidth / zoom), isSlide ? { bar: 20, grown: GROWN, zoom } : { grown: isNarrow() ? SMALL_GROWN : WIDE_GROWN });
     judgePart("of").textContent = itemOf({ id: exampleShown() })?.question ?? `Your answer is right if the replies${calls.some(({ ended }) => ended === null) ? " and the last set" : ""} are those of this run, and each reply is correct in the order of your moments.`;
     judgePart("task").textContent = `${now.task.kind === "seed" && !isSlide ? `Run ${partsOfSeed(now.task.id).number}. ` : ""}${LEVELS[level].task}`;
     redraw(judgePart("bars"), drawJudged(this));

@@ -47,8 +47,7 @@ function showVerdict({ kind, says, reasons, calls }) {
   recordedPart("reasons").innerHTML = reasons.map((reason) => tag("li", {}, reason)).join("");
   const wide = recordedPart("picture").clientWidth;
   const zoom = wide > WIDEST ? 1.25 : 1;
-  recordedPart("picture").style.setProperty("--zoom", String(zoom));
-  recordedPart("picture").innerHTML = calls.length > 0 ? drawRecorded(calls, Math.min(Math.max(300, wide / zoom), WIDEST)) : "";
+  recordedPart("picture").innerHTML = calls.length > 0 ? drawRecorded(calls, Math.min(Math.max(300, wide / zoom), WIDEST), zoom) : "";
   if (kind !== "") recordedPart("verdict").scrollIntoView({ block: isNarrow() ? "start" : "nearest" });
 }
 

@@ -130,8 +130,11 @@ export function drawCursor(scale, bottom, top = 0) {
   return tag("line", { class: "cursor", x1: x, x2: x, y1: top, y2: bottom });
 }
 
+// Returns the attributes of a drawing that is `zoom` times as large on the screen. (CSS has `zoom` too, but WebKit then measures the bars wrongly.)
+export const frameOf = ({ width, height, zoom = 1 }) => ({ width: zoom * width, height: zoom * height, viewBox: `0 0 ${width} ${height}` });
+
 export function drawCalls(trace, scale) {
-  const { first, last, width, height } = scale;
+  const { first, last, height } = scale;
   const shown = shownIn(trace, first, Math.min(last, scale.now));
   const placed = shown.filter((call) => call.at !== null && call.at >= first && call.at <= last && isShown(call, scale));
   const lanes = Array.from({ length: trace.threads }, (_, thread) => drawLane(scale, thread));
@@ -140,7 +143,7 @@ export function drawCalls(trace, scale) {
   const stems = placed.map((call) => drawStem(call, scale));
   const begun = shown.filter((call) => call.begun <= scale.count);
   const words = begun.length === 0 ? "no call has begun" : begun.slice(-20).map((call) => callInWords(call, scale.now)).join("; ");
-  const frame = { width, height, viewBox: `0 0 ${width} ${height}`, role: "img", "aria-label": `the history of the calls: ${words}` };
+  const frame = { ...frameOf(scale), role: "img", "aria-label": `the history of the calls: ${words}` };
   const signs = scale.areWhole ? "" : label({ class: "note", x: 2, y: height - 4 }, SIGNS_IN_WORDS);
   return tag("svg", frame, ...lanes, drawCursor(scale, height, scale.y(0) - scale.bar / 2 - 2), ...stems, ...bars, ...points, signs);
 }

@@ -4,7 +4,7 @@ import { lastMoment, nameOfCall } from "../run/judged.js";
 import { callText, chipOf, colourOf, escaped, label, tag, title } from "../run/markup.js";
 import { recordedInWords } from "../run/recorded.js";
 import { drawContents } from "./tables.js";
-import { drawLane, HISTORY_LEFT, layLabels, ROW_HEIGHT, signOf, SMALL_GROWN, widthOf } from "./history.js";
+import { drawLane, frameOf, HISTORY_LEFT, layLabels, ROW_HEIGHT, signOf, SMALL_GROWN, widthOf } from "./history.js";
 
 const JUDGE_RIGHT = 20;
 const JUDGE_BAR = 30;
@@ -21,7 +21,7 @@ function widthOfCall(call) {
   return Math.max(...replies.map((reply) => widthOf(callText(call), reply)));
 }
 
-export function judgeScale({ last, threads, calls }, width, { bar = JUDGE_BAR, grown = 1 } = {}) {
+export function judgeScale({ last, threads, calls }, width, { bar = JUDGE_BAR, grown = 1, zoom = 1 } = {}) {
   const step = (width - HISTORY_LEFT - JUDGE_RIGHT) / last;
   const across = { step, last, x: (moment) => HISTORY_LEFT + (moment - 0.5) * step };
   const itemOf = (call) => ({ left: leftOf(call, across), right: rightOf(call, across), wide: grown * widthOfCall(call) });
@@ -31,7 +31,7 @@ export function judgeScale({ last, threads, calls }, width, { bar = JUDGE_BAR, g
   const lane = above + bar + JUDGE_BELOW;
   const y = (thread) => 2 + thread * lane + above + bar / 2;
   const momentAt = (x) => (x - HISTORY_LEFT) / step + 0.5;
-  return { ...across, width, bar, edge: width - JUDGE_RIGHT, labels, height: 4 + threads * lane, y, momentAt };
+  return { ...across, width, zoom, bar, edge: width - JUDGE_RIGHT, labels, height: 4 + threads * lane, y, momentAt };
 }
 
 const momentInWords = (at) => (Number.isInteger(at) ? `at ${at}` : `after ${Math.floor(at)}`);
@@ -64,17 +64,15 @@ function drawJudgedBar(call, reply, scale, y) {
   return tag("rect", rect) + tag("text", above, words);
 }
 
-const frameOf = ({ width, height }) => ({ width, height, viewBox: `0 0 ${width} ${height}` });
-
 // Draws recorded calls as bars. The moments at which calls begin or end are drawn at equal distances.
-export function drawRecorded(calls, width) {
+export function drawRecorded(calls, width, zoom) {
   const inOrder = (numbers) => [...new Set(numbers)].sort((one, other) => (one < other ? -1 : 1));
   const threads = inOrder(calls.map(({ thread }) => thread));
   const moments = inOrder(calls.flatMap(({ begun, ended }) => (ended === null ? [begun] : [begun, ended])));
   const momentOf = (at) => (at === null ? null : moments.indexOf(at) + 1);
   const laneOf = ({ thread }) => threads.indexOf(thread);
   const placed = calls.map((call, id) => ({ ...call, id, thread: laneOf(call), begun: momentOf(call.begun), ended: momentOf(call.ended) }));
-  const scale = judgeScale({ calls: placed, last: moments.length + 1, threads: threads.length }, width, { grown: SMALL_GROWN });
+  const scale = judgeScale({ calls: placed, last: moments.length + 1, threads: threads.length }, width, { grown: SMALL_GROWN, zoom });
   const bars = placed.map((call) => {
     const bar = drawJudgedBar(call, call.reply ?? OPEN, scale, scale.y(call.thread));
     const still = { class: `bar own still ${colourOf(threads[call.thread])}${call.ended === null ? " open" : ""}` };

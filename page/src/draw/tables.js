@@ -2,7 +2,7 @@
 import { LISTS } from "../../made/rows.js";
 import { callText, chipOf, escaped, keyText, label, openReply, tag, title } from "../run/markup.js";
 import { contentsIn } from "../run/state.js";
-import { drawCursor, HISTORY_LEFT, isReached } from "./history.js";
+import { drawCursor, frameOf, HISTORY_LEFT, isReached } from "./history.js";
 
 const MOST_ROWS = 8; // if a run has more threads, only threads with a pending call are shown
 
@@ -113,7 +113,7 @@ export function drawContents(trace, scale) {
   const number = scale.count > 0 ? label({ class: "number", x, y: 42 }, `event ${scale.count}`) : "";
   const what = trace.lacks === null ? "the set" : BY_POINTS;
   const words = `${what} after event ${scale.count}: {${now.keys.slice(0, 40).join(", ")}}`;
-  const frame = { width: scale.width, height: 50, viewBox: `0 0 ${scale.width} 50`, role: "img", "aria-label": words };
+  const frame = { ...frameOf({ ...scale, height: 50 }), role: "img", "aria-label": words };
   return tag("svg", frame, nameOfContents(trace, scale.grown), drawCursor(scale, 24), ...parts, number, drawWindow(scale, trace.total, x));
 }
 

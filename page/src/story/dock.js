@@ -59,13 +59,14 @@ function chooser(figure, thread, own) {
 
 export function showStrip(figure) {
   const { run } = figure;
-  const wide = Math.max(250, figure.stripWide / zoomOf(figure));
+  const zoom = zoomOf(figure);
+  const wide = Math.max(250, figure.stripWide / zoom);
   const grown = isLecture() ? GROWN : figure.spec.isPath ? 1 : wide < 450 ? SMALL_GROWN : WIDE_GROWN;
-  figure.part("strip").style.cssText = `--zoom:${zoomOf(figure)};--grown:${grown}`;
-  if (figure.spec.places) return figure.placing?.draw(figure.part("strip"), wide);
+  figure.part("strip").style.cssText = `--zoom:${zoom};--grown:${grown}`;
+  if (figure.spec.places) return figure.placing?.draw(figure.part("strip"), wide, zoom);
   const room = 26 + 9 * grown * `{${run.promised().join(", ")}}`.length; // pixels right of the last event, for the keys of the set
   const scale = scaleOf(run.trace, run.count, wide - room, figure.hides, isLow(figure), grown);
-  Object.assign(scale, { edge: scale.edge + room, width: wide });
+  Object.assign(scale, { edge: scale.edge + room, width: wide, zoom });
   figure.scale = scale;
   setHtml(figure.part("strip"), tag("div", { class: "calls" }, drawCalls(run.trace, scale)) + drawContents(run.trace, scale) + legendOf(figure.spec));
 }

@@ -77,9 +77,9 @@ export class Placing {
     return now.scene.moments.filter(([id]) => id !== call.id);
   }
 
-  draw(box, width) {
+  draw(box, width, zoom) {
     if (this.box === null) listenToBars((this.box = box), this);
-    this.scale = judgeScale(this.exercise, width, { bar: 20 });
+    this.scale = judgeScale(this.exercise, width, { bar: 20, zoom });
     const bars = drawJudged({ exercise: this.exercise, answer: this.answer, scale: this.scale, verdict: this.verdict(), count: 0 });
     redraw(box, tag("div", { class: "calls" }, bars) + drawOwnSet(this.answer, this.scale));
   }

@@ -14,12 +14,11 @@ const isSeen = (it) => it.getClientRects().length > 0 && getComputedStyle(it).vi
 const nameOf = (it) => `${it.tagName} ${it.id || it.getAttribute("class") || ""} "${(it.textContent ?? "").trim().slice(0, 24)}"`;
 const sizeOf = (it) => parseFloat(getComputedStyle(it).fontSize) * it.getScreenCTM().a;
 const boxOf = (it) => it.getBoundingClientRect();
-const barSizeOf = (it) => parseFloat(getComputedStyle(it).fontSize) * boxOf(it.ownerSVGElement).width / it.ownerSVGElement.viewBox.baseVal.width; // (Firefox leaves the zoom of the bars out of getScreenCTM)
 const all = (what) => [...document.querySelectorAll(what)].filter(isSeen);
 const foot = all(".foot").map((it) => boxOf(it).top)[0] ?? innerHeight;
 const isStage = document.querySelector(".on-stage") !== null;
 for (const it of all(".list svg text")) if (sizeOf(it) < least - .05) found.push(`${sizeOf(it).toFixed(1)} px: ${nameOf(it)}`);
-for (const it of all(".strip svg text")) if (barSizeOf(it) < Math.min(least, 16) - .05 && !["should", "have"].includes(it.textContent) && !it.matches(".note")) found.push(`${barSizeOf(it).toFixed(1)} px: ${nameOf(it)}`);
+for (const it of all(".strip svg text")) if (sizeOf(it) < Math.min(least, 16) - .05 && !["should", "have"].includes(it.textContent) && !it.matches(".note")) found.push(`${sizeOf(it).toFixed(1)} px: ${nameOf(it)}`);
 for (const list of all(".list:has(svg)")) {
   const box = boxOf(list), nodes = [...list.querySelectorAll(".node .box")];
   for (const [at, one] of nodes.entries()) for (const other of nodes.slice(at + 1)) {
