@@ -117,6 +117,6 @@ export const MAPS = {
   "ask map": mapOf(() => "Guess, then see", askHtml),
   "break map": mapOf(() => "Break it", breakHtml),
   "learn map": mapOf(() => learning.panel.course.name, learnHtml, { begin: beginLearn, end: endLearn, deeds: { book: () => (learning.panel.takeCourse(bookCourse()), drawLearnMap()) } }),
-  judge: mapOf(() => "Judge", judgeHtml, { begin: listenToRecorded, deeds: { seed: openSeed, recorded: () => part("#recorded-box").scrollIntoView({ behavior: "smooth" }) } }),
+  judge: mapOf(() => "Judge", judgeHtml, { begin: listenToRecorded, deeds: { seed: openSeed, recorded: () => part("#recorded-box").scrollIntoView() } }),
   read: mapOf(() => "Read", readHtml),
 };

@@ -194,7 +194,7 @@ export const assignmentView = {
     save,
     afresh: startAfresh,
     hand: () => {
-      part("#hand").scrollIntoView({ behavior: "smooth" });
+      part("#hand").scrollIntoView();
       part("#hand-student").focus();
     },
   },

@@ -126,7 +126,7 @@ export const teachView = {
     add: addRun,
     drop: ({ dataset }) => (work.seeds.splice(Number(dataset.at), 1), fill()),
     copy: () => copyText(linkTo(addressNow()), "The link is copied."),
-    jump: ({ dataset }) => part(`#${dataset.panel}`).scrollIntoView({ behavior: "smooth" }),
+    jump: ({ dataset }) => part(`#${dataset.panel}`).scrollIntoView(),
     link: ({ dataset }) => copyText(linkTo(dataset.link), "The link is copied."),
     snippet: () => copyText(snippetOf(part("#embed-which").value), "The snippet is copied."),
     afresh: startAfresh,

@@ -80,7 +80,7 @@ def test_judge_begins_with_a_run_and_ends_with_recorded_calls(visitor):
     visitor.open("#judge")
     assert visitor.in_window("[data-do=seed]") and not visitor.in_window("#recorded-judge") and "CoarseList" not in visitor.text("#scene")
     visitor.click("[data-do=recorded]")
-    visitor.wait("return document.querySelector('#recorded-box').getBoundingClientRect().top < 200")
+    visitor.wait("return document.querySelector('#recorded-box').getBoundingClientRect().top < innerHeight / 2")
     visitor.click("#recorded-example")
     visitor.wait("return document.querySelector('#recorded-reasons b') !== null")
     assert "The picture has the calls that contradict each other: 2 of 3." in visitor.text("#recorded-reasons")
