@@ -1,15 +1,15 @@
-// Checks the solutions that students hand in, and the courses of a teacher, in node:
+// Checks the solutions that students hand in, and a teacher's courses, in node:
 //
-//     node page/check_lessons.js FILE|FOLDER ..        checks the hand-ins of one student or of a class; - is the standard input
+//     node page/check_lessons.js FILE|FOLDER ..        checks the hand-ins of one student or of a class; - is standard input
 //         --assignment LINK                            counts the tasks of this assignment; by default, all tasks that anybody handed in
 //         --csv FILE                                   also writes a table for a spreadsheet
 //     node page/check_lessons.js COURSE FILE ..        counts the lessons of the teacher's own courses
 //     node page/check_lessons.js COURSE                checks a course: each lesson is read and tried
 //     node page/check_lessons.js --link COURSE         prints the part of a link that opens the course on the page
 //
-// A file can contain courses and the texts of many students, also as mail (hand_in.js). The page for teachers shows the same table (handins.js).
-// The exit status is 0 if every task is solved, 1 if not, 2 if an argument is wrong or a file cannot be read or has no such text, and 70 without an
-// engine.
+// A file can contain courses and the hand-ins of many students, also as mail (see hand_in.js). The page for teachers shows the same table (see handins.js).
+// The exit status is 0 if every task is solved, 1 if not, 2 if an argument is wrong, or if a file cannot be read or contains no hand-in and no course, and 70
+// if node cannot run the engine.
 "use strict";
 
 const fs = require("fs");
@@ -29,7 +29,7 @@ const counted = (count, word) => inPage("counted")(count, word);
 const say = (line) => process.stdout.write(`${printable(line)}\n`);
 const tell = (line) => process.stderr.write(`lessons: ${printable(line)}\n`);
 
-// Calls a function on a file, and returns the result. Throws `Trouble` if the file cannot be read.
+// Calls `deed`, which uses a file, and returns the result. Throws `Trouble` if the file cannot be read.
 function withFile(file, deed) {
   try {
     return deed(file);
@@ -50,7 +50,7 @@ function textOf(file) {
   return inPage("textOfBytes")(bytes);
 }
 
-// Reads and tries the courses among the files, and reports their errors.
+// Reads and checks the courses in the files, and reports the errors in these courses.
 function coursesOf(ask, files) {
   const found = files.flatMap(({ name, text }) => inPage("textsIn")(text).map((one) => ({ ...one, file: name })));
   return found.filter(({ kind }) => kind === "course").map(({ file, number, text }) => {
@@ -71,7 +71,8 @@ async function toldCourses(courses, isLink) {
   return 0;
 }
 
-// Prints the solved and missing tasks of a student, and the notes of the table. Returns whether every task is solved and every line is readable.
+// Prints which tasks a student has solved, which are missing, and the table's notes about the student. Returns whether every task is solved and every line is
+// readable.
 function toldRow(row, columns) {
   const who = row.number === "" ? row.name : `${row.name} (${row.number})`;
   const open = columns.filter(({ id }) => !row.solved.has(id)).map(({ title }) => title);

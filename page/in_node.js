@@ -12,7 +12,8 @@ const NOT_RUN = "this node does not run the WebAssembly module; version 18 does"
 
 const bundle = { names: null };
 
-// Node 18 has no global `crypto`, and its CompressionStream does not support the format of a course in a link. The streams of zlib do.
+// Node 18 has no global `crypto`, and its CompressionStream does not support "deflate-raw", the format of a course in a link. The streams of zlib support this
+// format.
 globalThis.crypto ??= require("crypto").webcrypto;
 try {
   new CompressionStream("deflate-raw");
@@ -25,7 +26,7 @@ try {
   };
 }
 
-// Evaluates an expression, often a single name. The expression can use all names that the page's modules export.
+// Evaluates the expression `words`, often a single name. The expression can use all names that the page's modules export.
 function inPage(words) {
   const textOf = (name) => fs.readFileSync(path.join(__dirname, name), "utf8");
   bundle.names ??= vm.runInThisContext(`${textOf("page.js")}\n${textOf("more.js")}\nObject.assign(listsets.more, MORE), listsets`, { filename: "page.js" });
@@ -34,7 +35,7 @@ function inPage(words) {
   return new Function(...Object.keys(names), `return (${words});`)(...Object.values(names));
 }
 
-// Starts the engine, which reads inputs with `read`. Returns null if node cannot run the engine.
+// Starts the engine, which calls `read` to read its inputs. Returns null if node cannot run the engine.
 async function startedEngine(read) {
   const bytes = fs.readFileSync(path.join(__dirname, "listset.wasm"));
   if (!WebAssembly.validate(bytes)) return null;

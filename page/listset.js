@@ -1,11 +1,11 @@
-// The commands of ./listset that need neither a proof nor the toolchain, in node. The engine is the proved replayer, as the module listset.wasm.
+// Runs the commands of ./listset in node, without a proof and without the toolchain. The engine is the proved replayer, as the WebAssembly module listset.wasm.
 //
 //     node page/listset.js COMMAND ..               node page/listset.js --help
 //
-// Commands, arguments and options are those of the program's help texts (help.json, made of crates/lset_command/src/table.rt).
-// FILE can be -, which means standard input. The output, the error message and the exit status are those of the program (docs/TEXTS.md). At a
-// terminal, a hint follows below an error. If node cannot run the module, and for run and serve, the script reads nothing, prints an error and exits
-// with status 70. With LISTSET_ENGINE=other it exits with status 70, without an error, whenever it would need the module.
+// The commands, arguments and options are those in the program's help texts (help.json, made from crates/lset_command/src/table.rt).
+// FILE can be -, which means standard input. The output, the error message and the exit status are those of the program (docs/TEXTS.md). At a terminal, a hint
+// follows an error message. If node cannot run the module, or if the command is `run` or `serve`, the script reads nothing, prints an error and exits with
+// status 70. With LISTSET_ENGINE=other, the script exits with status 70 and prints no error whenever it would need the module.
 "use strict";
 
 const fs = require("fs");
@@ -22,8 +22,8 @@ const HELP = require("./help.json");
 
 const ORIGIN = `commit ${"0".repeat(40)}\nproof unknown\n`; // the lines of a program without a known commit and proof
 
-// How a command is answered, if not by the engine's function `listset_COMMAND`: by other functions, without and with the command's flag; by a
-// function that reads the input in pieces; by a function of this script; or only by a built program.
+// The commands that are not answered by the engine's function `listset_COMMAND`. A command is answered instead by two other functions (without and with the
+// command's flag), by a function that reads the input in pieces, by a function of this script, or only by a built program.
 const ANSWERS = {
   judge: { isJudge: true },
   stats: { inPieces: "listset_stats_from" },
@@ -35,8 +35,8 @@ const ANSWERS = {
   explain: { isExplain: true },
 };
 
-// Returns what the help of a command says: its flag, its options with the names of their values, how many arguments it has at most, whether
-// the first is a file, and what the help says about it.
+// Parses the help of a command. Returns the command's flag, its options with the names of their values, the maximum number of its arguments, whether the first
+// argument is a file, and the help about the first argument.
 function described(name) {
   const options = [...HELP[name].matchAll(/^ +--(\w+)(?: <(\w+)>)?  /gm)].map(([, option, value]) => [`--${option}`, value]);
   const values = [...HELP[name].matchAll(/^  \[(\w+)\]  (.*?)[;\n]/gm)];
@@ -50,14 +50,14 @@ function described(name) {
   };
 }
 
-// All commands, as the program's help lists them.
+// All commands that the program's help lists.
 const COMMANDS = Object.fromEntries(
   Object.keys(HELP)
     .filter((name) => !/^-|^help$/.test(name))
     .map((name) => [name, { functions: [`listset_${name}`], ...described(name), ...ANSWERS[name] }]),
 );
 
-// A text and an exit status that are printed instead of an answer of the engine.
+// Thrown to end the script: a text to print in place of an answer of the engine, and the exit status.
 class Printed extends Error {
   constructor(text, status) {
     super(text);
@@ -67,7 +67,7 @@ class Printed extends Error {
 
 const usageOf = (name) => /^Usage: (.*)$/m.exec(HELP[name] ?? "")?.[1] ?? `listset ${name} [CAUSE]`;
 
-// Returns the message that the program prints for wrong arguments of a command, and the exit status.
+// Returns the message that the program prints if the arguments of a command are wrong, and the exit status.
 function wrongWords(error, usage, tip) {
   const parts = [`error: ${error}`, ...(tip ? [`  tip: ${tip}`] : []), ...(usage ? [`Usage: ${usage}`] : []), MORE];
   return new Printed(`${parts.join("\n\n")}\n`, WRONG);
@@ -85,8 +85,8 @@ function parts() {
   }
 }
 
-// Parses the arguments. Returns the command, whether its flag is set, its options by name without hyphens, and its values. A `--` can precede the
-// values.
+// Parses the arguments. Returns the command, whether the command's flag is set, the options (keyed by name, without hyphens), and the other arguments, which
+// can follow a `--`.
 function asked([name = "replay", ...words]) {
   answerFirst(name, words);
   if (!Object.hasOwn(COMMANDS, name)) throw unknownCommand(name);
@@ -96,7 +96,7 @@ function asked([name = "replay", ...words]) {
   return found;
 }
 
-// Answers --help and --version.
+// Handles --help and --version.
 function answerFirst(name, words) {
   if (name === "--help" || name === "-h") throw helpOf("--help");
   if (name === "--version" || name === "-V") {
@@ -116,7 +116,8 @@ function unknownCommand(word) {
   return wrongWords(`unrecognized subcommand '${word}'`, "listset [COMMAND]", alike.length > 0 ? tip : undefined);
 }
 
-// Returns the edit distance of two words: how many letters must be changed, inserted, deleted or swapped with the next letter.
+// Returns the edit distance between two words: how many times a letter must be changed, inserted, deleted or swapped with the next letter to make the words
+// equal.
 function distance(one, other) {
   const rows = Array.from({ length: one.length + 1 }, (_, at) => [at]);
   for (let to = 1; to <= other.length; to += 1) rows[0][to] = to;
@@ -141,7 +142,7 @@ function addValue(found, word) {
 
 const unexpected = (name, word) => wrongWords(`unexpected argument '${word}' found`, usageOf(name));
 
-// Parses the first argument and removes it from `words`, with its value if it is an option. Adds the result to `found`.
+// Parses the first argument in `words` and adds the result to `found`. Removes the argument from `words`, together with its value if it is an option.
 function take(found, words) {
   const word = words.shift();
   const [name, ...behind] = word.split("=");
@@ -167,7 +168,7 @@ function takeFlag(found, word, behind) {
   found.isOn = true;
 }
 
-// Returns the value behind an option and removes it from `words`. As in clap, an error in the next argument takes precedence over the missing value.
+// Returns the value of an option and removes the value from `words`. As in clap, an error in the next argument takes precedence over a missing value.
 function textBehind(shown, words, found) {
   const [word = "--"] = words;
   if (isValue(word)) return words.shift();
@@ -178,10 +179,10 @@ function textBehind(shown, words, found) {
   throw wrongWords(`a value is required for '${shown}' but none was supplied`);
 }
 
-// Opens a file and returns its descriptor, or that of standard input if no file is named.
+// Opens a file and returns its descriptor. Returns the descriptor of standard input if no file is named.
 const opened = (file = "-") => (file === "-" ? 0 : fs.openSync(file, "r"));
 
-// Returns the bytes of an input, at most one more than the limit.
+// Returns the bytes of an input. Reads at most `LONGEST + 1` bytes.
 function bytesOf(input) {
   const pieces = [];
   let length = 0;
@@ -195,7 +196,7 @@ function bytesOf(input) {
   return Buffer.concat(pieces).subarray(0, LONGEST + 1);
 }
 
-// Reads bytes of an input. If an input such as a terminal has no data yet, waits for it.
+// Reads bytes from an input. If the input (such as a terminal) has no data yet, waits for data.
 function readSome(input, piece) {
   for (;;) {
     try {
@@ -216,7 +217,7 @@ function readForEngine(input, piece) {
   }
 }
 
-// Answers `judge --only KEY`: returns the recording of one key or, if no order explains it, the few calls that show why.
+// Handles `judge --only KEY`: returns the recording of the calls on one key or, if no order explains these calls, a few calls that show the contradiction.
 function keyed(engine, only, file) {
   const bad = { status: WRONG, bytes: Buffer.from("listset: bad KEY\n") };
   if (!isKey(only)) return bad;
@@ -232,7 +233,7 @@ const REFUSED = "not linearizable\n";
 const OF_A_FILE = "\nto learn what is wrong, judge a file: listset judge FILE\n";
 const NOT_TOLD = "\nno explanation: memory ran out, or the file has changed since it was judged\n";
 
-// Matches the lines of a verdict that `judge --brief` prints: no advice, and no calls that contradict each other.
+// Matches the lines of a verdict that `judge --brief` prints. Lines with advice, and with calls that contradict each other, do not match.
 const BRIEF = /^(ok |\d+ of them |the recording was cut off|not linearizable|no order explains )/;
 
 function briefly(verdict) {
@@ -241,8 +242,8 @@ function briefly(verdict) {
   return { ...verdict, bytes: Buffer.from(lines.filter((line) => line === "" || BRIEF.test(line)).join("\n")) };
 }
 
-// Returns the verdict on a recording or, if `only` is set, the recorded calls on this key. If a recording in a file is refused, reads the file again
-// and also returns a diagnosis.
+// Returns the verdict on a recording or, if `only` names a key, the recorded calls on that key. If a recording in a file is refused, reads the file a second
+// time and also returns a diagnosis.
 function judged(engine, isBrief, only, file = "-") {
   if (only !== undefined) return keyed(engine, only, file);
   const verdict = engine.answerFrom("listset_judge_from", opened(file));
@@ -252,13 +253,14 @@ function judged(engine, isBrief, only, file = "-") {
   return { ...verdict, bytes: Buffer.concat([verdict.bytes, more]) };
 }
 
-// Returns the diagnosis of the recording in a file, or a line that states that there is none. `used` is the number of lines of the verdict.
+// Returns the diagnosis of the recording in a file, or a line that states that the recording could not be diagnosed. `used` is the number of lines in the
+// verdict.
 function whatIsWrong(engine, file, used) {
   try {
     const { status, bytes } = engine.whyFrom(opened(file), used);
     if (status === 1) return bytes;
   } catch {
-    // (NOT_TOLD reports this)
+    // (the line NOT_TOLD reports an error)
   }
   return Buffer.from(NOT_TOLD);
 }
@@ -309,8 +311,9 @@ function answerOrTrouble(engine, words) {
   }
 }
 
-// Decides whether standard output was closed. Node then opens /dev/null in its place, for reading and writing. A shell's `>` opens it for writing only,
-// but Python's DEVNULL and Node's own "ignore" look like a closed output. Only Linux shows how a file was opened.
+// Decides whether standard output was closed when node started. In that case, node has opened /dev/null for reading and writing in place of standard output. (A
+// shell's `>` opens /dev/null for writing only. Python's DEVNULL and node's own "ignore" cannot be distinguished from a closed output. Only Linux shows how a
+// file was opened.)
 function isOutputClosed() {
   try {
     const [, flags] = /^flags:\s*(\d+)/m.exec(fs.readFileSync("/proc/self/fdinfo/1", "latin1"));
@@ -340,8 +343,8 @@ function tellError(text, hint = noHint) {
 
 const noHint = () => "";
 
-// Returns a function that returns a hint for a failed command with these arguments: for the error message `said` or, if `said` is empty, for the refusal
-// that the command printed (`bytes`). The hint can be empty.
+// Returns a function that computes a hint, which can be empty, for a failed command with the arguments `words`. The hint is about the error message `said` or,
+// if `said` is empty, about the refused recording for which the command printed `bytes`.
 function hintOn(engine, words) {
   return (said, bytes) => {
     const hint = asCalled(said === "" ? keysHint(words, bytes) : hintOf(engine, words, said));
@@ -366,7 +369,7 @@ function hintOf(engine, { name, isOfFile, texts, values }, said) {
   return /cannot read/.test(said) ? `Standard input could not be read. Name a file: listset ${name} FILE` : "";
 }
 
-// The kinds of texts, each with the start of its first line and the commands that read it.
+// The kinds of texts. Each kind has the start of a text's first line, a description, and the commands that read such a text.
 const KINDS = [
   ["listset-schedule", "is a schedule", "For its report: listset replay FILE; for its picture: listset show FILE"],
   ["listset-draft", "is a draft", "For its schedule: listset draft FILE"],
@@ -377,7 +380,7 @@ const KINDS = [
   [/^(key |(listening|sessions|calls) [^ ]*$)/, "has keys for serve", "A server opens with these keys: listset serve KIND SEATS QUOTA PORT SESSIONS FILE"],
 ];
 
-// What a command reads, by the help of its argument FILE.
+// The kind of text that each command reads, found in the help of the command's argument FILE.
 const READS = { "show --lacks": "a schedule" };
 for (const [name, { about }] of Object.entries(COMMANDS)) {
   const [, plain, kinds] = /^File of (recorded calls)|^(.*) file$/.exec(about) ?? [];
@@ -386,7 +389,7 @@ for (const [name, { about }] of Object.entries(COMMANDS)) {
 
 const SCHEDULE = "'listset-schedule 1' (or 2)";
 
-// The first line of a text, by what a command reads.
+// The first line of each kind of text that a command reads.
 const TITLES = {
   "a schedule": SCHEDULE,
   "a report": "'listset-report 1' (or 2)",
@@ -401,14 +404,14 @@ function quoted(file) {
   return /^[\w./+:=@%,\u0080-\uffff-]+$/.test(name) ? name : `'${name.replaceAll("'", "'\\''")}'`;
 }
 
-// Returns the kind of a file, and what to do with it; null for a file of no known kind.
+// Returns the kind of a file, and what can be done with such a file. Returns null if the kind is unknown.
 function kindOf(file) {
   const first = lineOf(file, 1);
   const found = KINDS.find(([title]) => (title instanceof RegExp ? title.test(first) : first.startsWith(title)));
   return found ? { is: `${quoted(file)} ${found[1]}`, use: found[2].replaceAll("FILE", quoted(file)) } : null;
 }
 
-// Returns the first 100 bytes of a file's line, in visible characters.
+// Returns the first 100 bytes of line `number` of a file, with invisible characters replaced.
 function lineOf(file, number) {
   const input = fs.openSync(file, "r");
   let [line, at] = ["", 1];
@@ -424,7 +427,7 @@ function lineOf(file, number) {
   return line.slice(0, 100).replace(/[^ -~]/g, (byte) => `\\x${byte.charCodeAt(0).toString(16).padStart(2, "0")}`);
 }
 
-// Returns a hint for an error in a file: what is wrong, and what to do.
+// Returns a hint for an error in a file. The hint says what is wrong and what to do.
 function fileHint(engine, { name, texts, file, number, cause }) {
   const isLong = fs.existsSync(file) && fs.statSync(file).size > LONGEST;
   if (isLong && READS[name] === "recorded calls" && cause) return longHint(engine, file, number, cause);
@@ -463,10 +466,10 @@ function otherHint(lacks, file, cause) {
   return `On the list that lacks ${lacks}, calls can take other steps than on the whole list. For each step above this line: listset trace --lacks ${lacks} ${quoted(file)}; for the cause: listset faults ${cause}`;
 }
 
-// All broken lists, each with its list in parentheses.
+// The names of all broken lists, each followed by the kind of list in parentheses.
 const BROKEN_LISTS = /^ *--lacks <NAME> [^:]*: (.*)$/m.exec(HELP.replay)?.[1] ?? "";
 
-// Returns a hint for an option --lacks that does not fit the list of a schedule.
+// Returns a hint for an option `--lacks` whose broken list is of another kind than the list in the schedule.
 function lacksHint(engine, lacks, file) {
   const all = [...BROKEN_LISTS.matchAll(/([\w-]+) \(([\w-]+)\)/g)].map(([, name, list]) => ({ name, list }));
   const of = all.find((it) => it.name === lacks)?.list;
@@ -477,7 +480,8 @@ function lacksHint(engine, lacks, file) {
   return `${lacks} is a check of the ${of} list, and line 2 is of another list. All checks: ${BROKEN_LISTS}`;
 }
 
-// Explains why the output could not be written. Standard output is closed, or is a pipe whose reader has ended, or is a file or device.
+// Explains why the output could not be written. The explanation depends on whether standard output is closed, is a pipe whose reader has ended, or is a file or
+// device.
 function unwrittenHint(name) {
   if (isOutputClosed()) return `Standard output is closed. To see the output, leave out '>&-'; to keep it: listset ${name} .. > FILE`;
   if (fs.fstatSync(1).isFIFO()) return "The command after the pipe ended before it had read all of the output, as head does. If it should read all, look there for an error";
@@ -514,7 +518,7 @@ function meant(engine, name, file) {
   return ["replay", "show", "trace"].includes(name) && isExample(engine, file) ? `If you mean the example: listset example ${file} | listset ${name}` : "";
 }
 
-// Returns the file with this name and an extension. Returns an empty string if there is no such file, or more than one.
+// Returns the only file whose name is the given name with an extension. Returns an empty string if no file or several files have such a name.
 function onlyWithEnding(file) {
   try {
     const found = fs.readdirSync(path.dirname(file)).filter((it) => it.startsWith(`${path.basename(file)}.`));
@@ -564,7 +568,8 @@ function brokenExamples(engine) {
   return namesOfExamples(engine).filter((it) => engine.ask("listset_broken_example", it).status === 0).sort();
 }
 
-// Returns a sentence about a misspelled value, shown after the value's range: how a number is spelled, or which kind of list is probably meant.
+// Returns a sentence about a misspelled value, to follow the sentence about the value's range. The sentence says how numbers are written, or which kind of list
+// is probably meant.
 function spelling(range, value) {
   if (/[0-9] to |: the first/.test(range)) return /^(0|[1-9][0-9]*)$/.test(value) ? "" : ". A number has decimal digits alone, and no leading zero";
   const plain = value.toLowerCase().replace(/[^a-z]/g, "").replace(/list$/, "");
@@ -572,7 +577,7 @@ function spelling(range, value) {
   return kind ? `. Perhaps you mean ${kind}` : "";
 }
 
-// Returns a hint for a wrong value of an argument or option: its range, from the help of its command.
+// Returns a hint for an argument or option with a wrong value: the range of the value, from the command's help.
 function valueHint(engine, { name, texts, values }, value) {
   const help = HELP[name] ?? "";
   const given = texts[value.toLowerCase()];
@@ -609,7 +614,7 @@ function keyHint(only, file = "FILE") {
   return `The recording has no call of key ${only}. To see its keys: grep '^call' ${quoted(file)} | cut -d ' ' -f 4 | sort -n -u`;
 }
 
-// Returns the words about the range of --from or --to for the given file; an empty text if this range is not known.
+// Returns a phrase about the range of `--from` or `--to` for the given file. Returns an empty string if the range is unknown.
 function ofThisFile(engine, { texts, values: [file = "-"] }, value) {
   if (value === "TO") return `; here, ${texts.from ?? 1} or a later one`;
   if (value !== "FROM" || file === "-" || texts.lacks !== undefined) return "";
@@ -625,10 +630,10 @@ function asCalled(hint) {
   return hint.replace(NAMED, `${called} `);
 }
 
-// The program's name before a command.
+// Matches the program's name before a command.
 const NAMED = new RegExp(`\\blistset (?=((${Object.keys(COMMANDS).join("|")}|help)\\b|--version|--help))`, "g");
 
-// Returns a hint for wrong arguments and the program's error; an empty text if there is none.
+// Returns a hint for wrong arguments about which the program printed the error `said`. Returns an empty string if there is no hint.
 function wordsHint(given, said) {
   const [name = ""] = given;
   const [, word] = /unexpected argument '([^' ]*)/.exec(said) ?? [];
@@ -691,7 +696,7 @@ function optionHint(given, word) {
   return name.startsWith("-") ? "listset --help lists the commands" : `listset help ${name} lists its arguments and options`;
 }
 
-// Returns a hint for a negative number: the range of its option or argument.
+// Returns a hint for a negative number: the range of the option or argument for which the number was given.
 function negativeHint([name, ...words], word) {
   const at = words.findIndex((it) => it.startsWith(word));
   const option = Object.hasOwn(COMMANDS[name]?.options ?? {}, words[at - 1]) && words[at - 1];
@@ -703,7 +708,8 @@ function negativeHint([name, ...words], word) {
   return range ? `${value} '${word}' is wrong. ${range}` : `listset help ${name} lists its arguments and options`;
 }
 
-// If the command reads from a terminal, prints what the command reads and how to end the input. (The script ./listset prints this itself.)
+// If the command reads from a terminal, prints what the command reads and how to end the input. (If ./listset has started this script, ./listset has printed
+// that message.)
 function tellWhatIsRead({ name, isOfFile, values: [file = "-"] }) {
   if (!isOfFile || file !== "-" || process.env.LISTSET_ENGINE !== undefined || !isatty(0) || !isatty(2)) return;
   process.stderr.write(`listset: ${asCalled(`reading ${READS[name]} from the terminal, up to Ctrl-D (see listset help ${name})`)}\n`);

@@ -1,5 +1,5 @@
-// node tests/break_it.js checks the broken lists. Each list must be broken by its schedule in examples/schedules/lacks, as docs/CLASSIC.md claims.
-// Also checks drafts, hand-ins and a lesson on broken lists. Prints as JSON how many checks passed, and which failed.
+// Usage: `node tests/break_it.js`. Checks the broken lists: the schedule of each list in examples/schedules/lacks must break the list, as docs/CLASSIC.md
+// claims. Also checks drafts, hand-ins and a lesson on broken lists. Prints as JSON how many checks passed, and which checks failed.
 "use strict";
 
 const fs = require("fs");
@@ -23,8 +23,8 @@ const startOf = inPage("startOfLacking");
 const LOST = /^(\d+) was added once and never removed, and at the end the set does not have it$/; // as docs/CLASSIC.md summarizes it
 const isTask = (name) => name !== inPage("NO_TASK");
 
-// Checks that the schedule breaks the list as docs/CLASSIC.md says. For one list, checks instead that only the order by linearization points is
-// refused. The schedule must not break the list before its last call.
+// Checks that the schedule breaks the list as docs/CLASSIC.md says. For the list `NO_TASK`, checks instead that the order of the linearization points is
+// refused and another order explains the calls. The schedule must not break the list before its last call.
 function checkBroken(ask, name) {
   const schedule = scheduleOf(name);
   const { kind, says } = verdictOnLacking(ask, name, schedule);
@@ -43,7 +43,8 @@ function checkBroken(ask, name) {
   check(`${name} is a list of one kind`, verdictOnLacking(ask, name, ofOther).kind === "refused");
 }
 
-// Checks that each event of a broken list's run has a sentence and a picture, and that the correct list has the same events before the first different one.
+// Checks that each event in the run of a broken list has a sentence and a picture, and that a run of the correct list has the same events up to the first event
+// that differs.
 function checkDeparture(ask, name) {
   const trace = new Trace(ask("listset_lacking", name, scheduleOf(name), "trace").text, 2);
   check(`${name} stands in its trace`, trace.lacks === name && trace.kind === LACKING[name]);
@@ -71,8 +72,8 @@ function checkContents(trace) {
   }
 }
 
-// Checks how the page reads a broken list's trace from a file. If the trace does not name the list, the page compares it with the correct list's trace of
-// the same schedule, and names the first different event.
+// Checks how the page reads a broken list's trace from a file. If the trace does not name the broken list, the page compares the trace with that of the correct
+// list for the same schedule, and names the first event that differs.
 function checkFile(ask, name) {
   const { text } = ask("listset_lacking", name, scheduleOf(name), "trace");
   check(`${name}: its trace is one`, inPage("traceIn")(text)?.lacks === name);
@@ -122,8 +123,8 @@ function checkDrafts(ask) {
   }
 }
 
-// Checks that a hand-in is judged on the broken list that its line names. A run is no solution if some order explains its calls, even if the order of its
-// linearization points does not.
+// Checks that a hand-in is judged on the broken list that its line names. A run is no solution if some order explains its calls, even if the order of the
+// linearization points does not explain them.
 function checkHandedIn(ask) {
   const judge = (line) => inPage("judgedPart")(ask, [], line);
   for (const name of NAMES) {
@@ -164,7 +165,7 @@ answer
   go 1 out
 `;
 
-// Checks that a student solves a lesson on a broken list by breaking the list. If the lesson has a goal, the run must reach the goal too.
+// Checks that a student solves a lesson on a broken list by breaking the list. If the lesson also has a goal, the run must reach the goal.
 function checkLesson(ask) {
   const tried = (text) => inPage("triedCourse")(ask, text);
   const { lessons, faults } = tried(LESSON);

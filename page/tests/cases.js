@@ -8,7 +8,7 @@ async function sumOf(bytes) {
   return [...sum].map((byte) => byte.toString(16).padStart(2, "0")).join("");
 }
 
-// Returns how many cases passed, and a line for each that failed.
+// Returns how many cases passed, and a line for each case that failed.
 async function compared(engine, cases) {
   const result = { passed: 0, failed: [] };
   for (const wanted of cases) {

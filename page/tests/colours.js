@@ -12,14 +12,14 @@ const GROUNDS_OF = {
   paper: ["ink"],
 };
 const THREADS = [0, 1, 2, 3, 4, 5, 6, 7];
-// The bars of the history: how strongly the thread's colour fills a bar, and the colours of the texts on it. The first
-// entry is for calls that have begun, the second for later calls.
+// The bars of the history. `share` matches the opacity with which the thread's colour fills a bar, and `texts` are the colours of the text on the bar. The
+// first entry is for calls that have begun, and the second for calls that begin later.
 const BARS = [
   { share: /\.bar rect \{[^}]*fill-opacity: ([.0-9]+)/, texts: ["ink", "soft"] },
   { share: /\.bar\.later rect \{[^}]*fill-opacity: ([.0-9]+)/, texts: ["pale"] },
 ];
 
-// Returns the red, green and blue of a colour, from 0 to 255.
+// Returns the red, green and blue components of a colour, from 0 to 255.
 function partsOfColour(colour) {
   const digits = colour.length === 4 ? [...colour.slice(1)].map((digit) => digit + digit).join("") : colour.slice(1);
   return [0, 2, 4].map((at) => parseInt(digits.slice(at, at + 2), 16));
@@ -44,7 +44,7 @@ function contrastOf(one, other) {
   return (light + 0.05) / (dark + 0.05);
 }
 
-// Returns the colours that a part of the style sheet defines, including those of the threads.
+// Returns the colours that `part`, a part of the style sheet, defines. The threads' colours are included.
 function coloursIn(part) {
   const colours = {};
   for (const [, name, colour] of part.matchAll(/--([a-z-]+): (#[0-9a-f]{3,6});/g)) if (name !== "thread") colours[name] = colour;

@@ -1,5 +1,5 @@
-// node tests/compare.js CASES compares the module's answers with the program's, and each file of the page with its size
-// limit.
+// Usage: `node tests/compare.js CASES`. Compares the answers of the WebAssembly module with those of the program, and the size of each file of the page with
+// its limit.
 "use strict";
 
 const fs = require("fs");
@@ -18,8 +18,8 @@ function check(result, name, isGood) {
   else result.failed.push(name);
 }
 
-// Checks that each trace can be read, contains the given schedule, and can be stepped forward to its end and back. At
-// least one of the traces must have a ceiling that returns a key, and one a ceiling that returns nothing.
+// Checks that the page can read each trace, that the trace contains the given schedule, and that the page can step to the end of the trace and back. Some trace
+// must contain a `ceiling` that returns a key, and some trace a `ceiling` that returns nothing.
 function checkTraces(result, engine, cases) {
   const replies = new Set();
   for (const { texts } of cases.filter((wanted) => wanted.function === "listset_trace")) {

@@ -1,5 +1,5 @@
-// node tests/handed.js checks hand-ins, including those that were sent by mail, and the teacher's tool. Prints as JSON how many checks passed, and
-// which failed.
+// Usage: `node tests/handed.js`. Checks hand-ins, including those that were sent by mail, and the teacher's tool check_lessons.js. Prints as JSON how many
+// checks passed, and which checks failed.
 "use strict";
 
 const { spawnSync } = require("child_process");
@@ -31,12 +31,12 @@ const folded = (text, width) => text.replace(new RegExp(`(\\S{${width}})(?=\\S)`
 const atSpaces = (text) => text.replace(/^(?!student|course|listset).*$/gm, (line) => line.replaceAll(" ", "\n"));
 const isShort = (line) => /^(student|course|listset|end)/.test(line);
 const wrappedHard = (text, width) => text.replace(/^.+$/gm, (line) => (isShort(line) ? line : line.replace(new RegExp(`(.{${width}})(?=.)`, "g"), "$1\n")));
-// Breaks a line after the last space, comma, hyphen or `&` before the width, or at the width if there is none.
+// Breaks each line after the last space, comma, hyphen or `&` that fits in the width. A line without these characters is broken at the width.
 const wrappedAtSigns = (text, width) =>
   text.replace(/^.+$/gm, (line) => (isShort(line) ? line : line.replace(new RegExp(`(.{1,${width - 1}}[ ,&-]|.{${width}})(?=.)`, "g"), "$1\n").replace(/ \n/g, "\n")));
 const coded = (text) => text.replaceAll("=", "=3D").replace(/(.{60}[^=]{3})(?=.)/g, "$1=\n");
 
-// Changes that mail programs make to a text: they quote, wrap and encode it, and add lines around it.
+// Changes that mail programs make to a hand-in: quoted, wrapped or encoded lines, and additional lines around the hand-in.
 const MAILED = {
   "as it is": (text) => text,
   "with CRLF": (text) => text.replaceAll("\n", "\r\n"),
@@ -79,7 +79,7 @@ function checkMail(course) {
   check("the course as it stands", class_[1].text === fs.readFileSync(BOOK, "utf8").replace(/\n$/, ""));
 }
 
-// Returns the output and the exit status of the teacher's tool for these files.
+// Writes the texts to files, and returns the output and the exit status of the teacher's tool for these files.
 function said(folder, ...texts) {
   const files = texts.map((text, index) => {
     const file = path.join(folder, `${index}.txt`);
@@ -139,8 +139,8 @@ function checkAssignment(course, folder) {
   }
 }
 
-// Checks that copied solutions are found: schedules that two students share, even if their lines are grouped differently. A schedule that many students
-// share, or that is an example, does not count as copied.
+// Checks that copied solutions are found: schedules with the same steps from two students, even if the steps are grouped into different lines. A schedule that
+// many students hand in, or that is an example, does not count as copied.
 function checkOwn(ask, course, folder) {
   const text = (student, solutions, lines = []) => handInText(NAME, student, solutions, lines);
   const own = ({ name, solution }, from, to) => ({ name, schedule: solution.replace(from, to) });

@@ -1,5 +1,5 @@
-// node tests/judge.js checks the view of two lists side by side, and the verdicts on an order that a reader gives for a run. (The engine's `check` decides
-// these verdicts.) Prints as JSON how many checks passed, and which failed.
+// Usage: `node tests/judge.js`. Checks the view of two lists side by side, and the verdicts on a reader's order of the calls of a run. (The engine's `check`
+// decides these verdicts.) Prints as JSON how many checks passed, and which checks failed.
 "use strict";
 
 const fs = require("fs");
@@ -17,7 +17,7 @@ function check(name, isGood) {
 
 const wordIn = (report) => [...report.matchAll(/^place (\d+) (\S+)$/gm)].map(([, id, reply]) => `${id}-${reply}`);
 
-// Checks at each level of difficulty that the order of the replayer is accepted, and that a reversed order gets the same verdict as from `check`.
+// Checks, at each level of difficulty, that the replayer's order is accepted, and that a reversed order is accepted if and only if `check` accepts it.
 function checkLevels(ask, name, report) {
   const places = wordIn(report);
   for (const level in LEVELS) {
@@ -53,7 +53,7 @@ function checkHidden(ask, name, schedule) {
   }
 }
 
-// Checks answers about a contains that takes effect in another thread's step: with a wrong reply, at a wrong moment, and at the right one.
+// Checks answers about a `contains` that takes effect in another thread's step: an answer with a wrong reply, one with a wrong moment, and the right answer.
 function checkByHand(ask) {
   const report = ask("listset_replay", ask("listset_example", "read-in-anothers-step").text).text;
   const answer = new OwnAnswer(exerciseOf(report, "replies"));
@@ -103,7 +103,7 @@ function checkOpenCalls(ask) {
   check("put in", judgedAs(4, "0-true,1-false").isRight === false);
 }
 
-// Returns the labels in the bars of a drawing, and those that cover an earlier label.
+// Returns the labels in the bars of a drawing, and the labels that cover an earlier label.
 function labelsOver(drawing) {
   const labels = [...drawing.matchAll(/<text class="call" x="([^"]*)" y="([^"]*)">(.*?)<\/text>/g)];
   const ends = {};
@@ -115,7 +115,7 @@ function labelsOver(drawing) {
   return { labels, over };
 }
 
-// Checks that no label in the history covers another one at any event, and that a label does not move after its call has begun.
+// Checks that no label in the history covers another label at any event, and that a label does not move after the label's call has begun.
 function checkHistoryLabels(traces) {
   const [drawCalls, scaleOf] = ["drawCalls", "scaleOf"].map(inPage);
   let signs = 0;
@@ -135,7 +135,7 @@ function checkHistoryLabels(traces) {
   check(`the labels of the examples are whole: ${signs} are signs`, signs === 0);
 }
 
-// Checks that no label of a bar covers another one, on a wide page and on a phone, for the examples and for numbered runs.
+// Checks that no label of a bar covers another label, for the examples and for numbered runs, both on a wide page and on a phone.
 function checkLabels(ask, schedules) {
   const [drawJudged, judgeScale] = ["drawJudged", "judgeScale"].map(inPage);
   const judgedAt = (exercise, answer, width) => ({ exercise, answer, scale: judgeScale(exercise, width), moment: 0, count: 0 });
@@ -183,7 +183,7 @@ function checkRecorded(ask) {
   check(`many calls: ${many.reasons}`, drawn === 40 && many.reasons.at(-1) === "The first 40 calls are drawn.");
 }
 
-// Checks that the record about a recording or a report agrees with the program's answer.
+// Checks that the engine's record of a verdict on a recording or a report agrees with the program's answer.
 function checkRecords(ask, reports) {
   const recorded = path.join(__dirname, "..", "..", "tests", "transcripts", "data", "recorded");
   const texts = fs.readdirSync(recorded).map((file) => fs.readFileSync(path.join(recorded, file), "utf8"));
@@ -201,7 +201,7 @@ function checkRecords(ask, reports) {
   }
 }
 
-// Checks that a refusal names two calls that contradict each other, and that only these are drawn.
+// Checks that a refusal names two calls that contradict each other, and that only these two calls are drawn.
 function checkRefusals(ask) {
   const both = saidOf(ask, inPage("RECORDED_EXAMPLE"));
   const reasons = [
@@ -263,7 +263,7 @@ function checkFaultsOfCalls(ask) {
   check(`a fault: ${says}`, kind === "fault" && says === `listset: line 3: History: ${why}.`);
 }
 
-// Checks that an answer that is not a verdict is shown, and is not taken for a verdict.
+// Checks that the page shows an answer of the engine that is not a verdict, and does not take such an answer for a verdict.
 function checkTroubles(ask) {
   const answer = answerOfWord(exerciseOf(ask("listset_replay", ask("listset_example", "snip").text).text, "points"), "2-true,0-true,1-true");
   const stopped = () => ({ status: 1, text: "the engine stopped: unreachable" });

@@ -1,11 +1,13 @@
-// Kinds of random recordings for verdicts.js: many overlapping calls on one key, three keys, a single operation, many keys with a few calls each, other
-// keys that change all the time, long gaps and large moments, sets with several bugs, calls that give up, keys inserted twice, two calls inside at once, sets
-// that grow, nodes that stay linked, buckets created twice, keys never found, sets broken for good, and opening and final keys that no call uses.
+// Kinds of random recordings for verdicts.js. Some have special calls: many overlapping calls on one key, three keys, a single operation, many keys with a few
+// calls each, other keys that change all the time, long gaps and large moments, or opening and final keys that no call uses. The others imitate sets with bugs:
+// several bugs at once, calls that give up, keys inserted twice, two calls in the critical section at once, changes lost while the set grows, nodes that stay
+// linked, buckets created twice, keys never found, or a set that is permanently corrupted.
 "use strict";
 
-// Returns the kinds: functions that generate a random recording. The arguments are functions of verdicts.js: the random numbers and the sequential set.
+// Returns the kinds of recordings, each as a function that generates a random recording. The arguments are functions of verdicts.js that draw random numbers or
+// imitate a sequential set.
 module.exports = ({ draw, pick, replyOf, keysAfter, paddingAfter }) => {
-  // Generates calls on some keys with the replies of a sequential set, a few of them wrong.
+  // Generates calls on some keys. The calls return the replies of a sequential set, except for a few wrong replies.
   function simulated({ keys, threads, count, opening, faults, rate, pending, operations, gap, start, thread0 }) {
     const calls = [];
     let set = [...opening];
@@ -77,8 +79,8 @@ module.exports = ({ draw, pick, replyOf, keysAfter, paddingAfter }) => {
   const leftWith = (set) => (draw(6) === 0 ? null : draw(8) === 0 ? (set.includes(5) ? set.filter((key) => key !== 5) : [5, ...set]) : set);
   const short = () => 1 + draw(3);
 
-  // Generates calls of three threads on some keys, with the replies that `replyTo` returns for a call, the set and the calls that run. `replyTo` can also
-  // return a function that runs when the call ends.
+  // Generates calls of several threads on some keys. `replyTo` returns the reply to a call, given the call, the set and the pending calls. It can also return a
+  // function that is called when the call ends.
   function madeBy(keys, count, replyTo, threads = 3, starts = 2, operations = ["add", "remove", "add", "remove", "contains"]) {
     const [calls, open, present] = [[], [], new Set()];
     const set = {

@@ -1,6 +1,6 @@
-// node tests/lessons.js checks the lessons: their texts, their goals, and the sentences about a student's attempt. Prints as JSON how many checks
-// passed, and which failed. recorded.txt has schedules for each lesson, each with a digit for each condition of the goal: 1 if the run meets the
-// condition, otherwise 0.
+// Usage: `node tests/lessons.js`. Checks the texts and the goals of the lessons, and the sentences about a student's attempt. Prints as JSON how many checks
+// passed, and which checks failed. The file recorded.txt has schedules for each lesson. A schedule has a digit for each condition of the lesson's goal: 1 if
+// the run meets the condition, otherwise 0.
 "use strict";
 
 const fs = require("fs");
@@ -22,7 +22,7 @@ const scheduleOf = (lesson, events) => scheduleText(lesson, events.split(",").ma
 
 const SPLIT = ["one-lock"]; // lessons with conditions that were split later: a schedule meets all new conditions if it met all old ones
 
-// Checks that each run in recorded.txt meets exactly the conditions of its lesson's goal that the file states.
+// Checks that each run in recorded.txt meets those conditions of the lesson's goal that the file marks with 1, and no others.
 function checkRecorded(ask, { lessons }) {
   for (const line of fs.readFileSync(path.join(__dirname, "recorded.txt"), "utf8").trimEnd().split("\n")) {
     const [name, bits, events] = line.split(" ");
@@ -68,7 +68,8 @@ const LIKELY = {
   "ceiling-in-anothers-step": { lines: ["go 0 out"], deadEnd: "This ceiling has answered 7" },
 };
 
-// Checks the sentences about an attempt that misses a lesson's goal: the first missing condition and, if so, why the goal can no longer be met.
+// Checks the sentences about an attempt that misses a lesson's goal. They must state the first condition that is not met and, if the goal can no longer be
+// reached, the reason.
 function checkTries(ask, { lessons }) {
   const lesson = lessons.find(({ name }) => name === "in-anothers-step");
   const tries = [
@@ -110,7 +111,8 @@ function checkReasons(ask, [lesson]) {
   );
 }
 
-// Changes that make the text of a course wrong: the part to replace, its replacement, a part of the line that the error must name, and the error.
+// Changes that make the text of a course wrong. A change has the text to replace, the replacement, a part of the line that the error message must name, and the
+// error message.
 const BROKEN = [
   ["listset-course 1", "listset-course 2", "listset-course 2", 'expected "listset-course 1" here'],
   [/^course .*$/m, "", "listset-course 1", 'expected the line "course NAME"'],
@@ -132,7 +134,7 @@ const BROKEN = [
   ["  say At that moment the node is still in the chain.\n", "", "  step S: in the chain", 'a goal ends with a line "say .."'],
 ];
 
-// Checks that each error in a text is reported with its line.
+// Checks that each error in the text of a course is reported with the line of the error.
 function checkFaults() {
   for (const [from, to, mark, says] of BROKEN) {
     const given = TEXT.replace(from, to);
@@ -165,7 +167,7 @@ function checkDrafts(ask, { lessons }) {
   check(`one that is refused: ${fault}`, fault.startsWith(refused));
 }
 
-// Checks that a lesson is executed when it is read: its start and its answer must be accepted, and only the answer may meet the goal.
+// Checks that the schedules of a lesson are run when the lesson is read: the lesson's start and answer must be valid, and only the answer may reach the goal.
 function checkTrials(ask) {
   const trials = [
     ["  begin 0 add 5\n", "  begin 0 ad 5\n", "one-lock: its start is refused at \"begin 0 ad 5\": expected "],
@@ -185,7 +187,7 @@ function checkTrials(ask) {
   check("CRLF, a mark of order and tabs are no fault", triedCourse(ask, other).faults.length === 0);
 }
 
-// Checks that the course on the teachers' page is valid, even if it is indented, and that its goal requires the same run as its question.
+// Checks that the course on the teachers' page is valid, even if its text is indented, and that the goal accepts exactly the runs that the question asks for.
 function checkOwnCourse(ask) {
   const [, text] = /<pre [^>]*>(listset-course 1\n[^<]*)<\/pre>/.exec(fs.readFileSync(path.join(__dirname, "..", "index.html"), "utf8"));
   const indented = text.replace(/^(?=.)/gm, "    ");

@@ -37,8 +37,8 @@ def parts_of_error(text):
 
 
 def difference(words, ours, due):
-    """Returns a line that shows both runs if they differ, otherwise None. For wrong arguments, clap's tips are not
-    compared: only the first line and the usage.
+    """Returns a line that shows both results if they differ, otherwise None. If the arguments are wrong, compares only
+    the first line and the usage, and not clap's tips.
     """
     if due[1].startswith(b"error: "):
         is_right = (ours[0], ours[2]) == (due[0], due[2]) == (b"", 2) and parts_of_error(ours[1]) == parts_of_error(due[1])
@@ -48,7 +48,7 @@ def difference(words, ours, due):
 
 
 def compared_unwritten(program, script, words):
-    """Compares both programs with an output that accepts no bytes, and with a closed output."""
+    """Compares the script with the program when standard output accepts no bytes, and when it is closed."""
     with open("/dev/full", "wb") as full:
         ours, due = (said([*which, *words], output=full) for which in (script, program))
     closed, due_closed = (said(["sh", "-c", 'exec "$@" >&-', "sh", *which, *words]) for which in (script, program))
@@ -64,8 +64,7 @@ def drawn_words(dice):
 
 
 def asked(program, names):
-    """Yields the arguments to compare, each with a text for standard input. The text is read if the arguments name no
-    file.
+    """Yields the arguments to compare, together with a text for standard input, which is read if the arguments name no file.
     """
     dice, schedule = random.Random(1), said([*program, "example", names[0]])[0]
     report = said([*program, "replay"], schedule)[0]
@@ -83,7 +82,7 @@ def asked(program, names):
 
 
 def in_node(program, script, names):
-    """Returns how many comparisons passed, and a line for each that failed."""
+    """Returns how many comparisons passed, and a line for each failed comparison."""
     def compared(given):
         words, text = given
         return difference(words, said([*script, *words], text), said([*program, *words], text))

@@ -1,5 +1,5 @@
-// node page/tests/memory.js checks the heap of the module (wasm/heap.c) until an allocation fails. Blocks must not overlap and must be inside the memory,
-// which has at most 4 GiB minus 16 MiB (page/build). A failed allocation must leave the heap unchanged.
+// Usage: `node page/tests/memory.js`. Allocates blocks on the WebAssembly module's heap (wasm/heap.c) until an allocation fails. The blocks must not overlap
+// and must be inside the memory, whose size is at most 4 GiB minus 16 MiB (see page/build). A failed allocation must leave the heap unchanged.
 "use strict";
 
 const fs = require("fs");
@@ -18,8 +18,7 @@ function check(what, is) {
   else failed.push(what);
 }
 
-// Fills the memory with blocks of one size. Checks that the addresses of the blocks are right, that a small block still fits, and that a freed block
-// can be allocated again.
+// Fills the memory with blocks of one size. Checks the addresses of the blocks, that a small block still fits, and that a freed block can be allocated again.
 function fill(size) {
   const { memory, page_alloc: alloc, page_free: free } = new WebAssembly.Instance(built, { env: { read: () => -1n } }).exports;
   const blocks = [];

@@ -1,6 +1,6 @@
 // Checks `judge --only KEY` on random recordings. If some order explains the calls on the key, the command must print the recording of this key.
-// Otherwise it must print a part of these calls that the judge refuses with the same two lines. The earlier calls can leave the key in only one state,
-// and the part must begin with this state.
+// Otherwise the command must print some of these calls, for which the judge's refusal has the same two lines. In the printed recording, the key must start in
+// the only state in which the earlier calls can leave it.
 "use strict";
 
 const { startedEngine } = require("../in_node.js");
@@ -15,7 +15,7 @@ function below(count) {
   return Math.floor(seed / 65536) % count;
 }
 
-// Returns the reply of a set to a call.
+// Returns the reply of a sequential set with these keys to a call.
 function replyOf(keys, { word, key }) {
   const is = keys.has(key);
   if (word === "add") keys.add(key);

@@ -1,4 +1,5 @@
-// node tests/parts.js checks parts of the page that need no browser, with the committed module: some sentences, addresses, and stored data.
+// Usage: `node tests/parts.js`. Checks those parts of the page that need no browser, such as sentences, addresses and stored data. Uses the committed
+// WebAssembly module.
 "use strict";
 
 const { createHash } = require("crypto");
@@ -19,7 +20,7 @@ const traceOf = (engine, schedule) =>
   new (inPage("Trace"))(engine.ask("listset_trace", schedule).text, inPage("versionOf")(schedule));
 const withoutTags = (text) => text.replace(/<[^>]*>/g, "");
 
-// Checks the text about each example: it has a question and an answer, and each deciding event has a sentence.
+// Checks that the text about each example contains a question and an answer, and that each deciding event has a sentence.
 function checkTurns(engine) {
   for (const [name, { question, turnsOn, without, turns }] of Object.entries(inPage("CLASSICS"))) {
     check(`${name}: it has a question, and what it turns on`, question.endsWith("?") && turnsOn.length > 40 && turns.length > 1);
@@ -61,7 +62,7 @@ const refusalBy = (deed) => {
   }
 };
 
-// Checks each link to a run on the pages made from docs/: its address must be valid, and the run must have the event.
+// Checks each link to a run on the pages made from docs/. The address in the link must be valid, and the run must have the event that the link names.
 function checkDocs(engine) {
   const lengthOf = (line) => (line.startsWith("go ") ? Number(line.split(" ")[2]) : Number(line.startsWith("begin ")));
   for (const page of ["how-it-works", "classic", "tables"]) {
@@ -89,8 +90,8 @@ function checkRead() {
   }
 }
 
-// Checks that a number always selects the same run, and that the run is small enough to judge. The run in README.md must not change. Also checks a
-// large run, and the errors for addresses without a run.
+// Checks that the number of a numbered run always selects the same run, which is small enough to judge. The numbered run in README.md must not change. Also
+// checks a large run, and the errors for addresses without a run.
 function checkSeeds(engine) {
   const ask = (name, ...texts) => engine.ask(name, ...texts);
   for (const kind of Object.keys(inPage("LISTS"))) {
@@ -115,7 +116,7 @@ function checkSeeds(engine) {
 
 const HEAD = "listset-schedule 2\nlist coarse\nthreads 2\nquota 4\n";
 
-// Checks that an error in a text is explained with the program's sentence about its cause.
+// Checks that the page explains an error in a text with the program's sentence about the cause of the error.
 function checkFaults(engine) {
   const ask = (name, ...texts) => engine.ask(name, ...texts);
   const saidOf = (text) => inPage("scheduleOfDraft")(ask, text).fault ?? ask("listset_trace", text).text;
@@ -146,8 +147,7 @@ function checkForms() {
   }
 }
 
-// Checks that each text can be recovered from its address, byte by byte, and that the error for a wrong address names
-// the wrong part.
+// Checks that the address of a text contains the whole text, byte by byte, and that the error for a wrong address names the wrong part.
 function checkAddresses(engine, texts) {
   const addressOf = inPage("addressOf");
   const readAddress = inPage("readAddress");
@@ -197,8 +197,7 @@ function checkLacking(readAddress) {
   for (const [hash, fault] of Object.entries(faults)) check(`${hash}: ${refusalOf(hash)}`, refusalOf(hash) === fault);
 }
 
-// Checks at each event that the text in the set's current box fits in the box. The text may cross the edge of the last box if that box is too
-// narrow.
+// Checks at each event that the keys in the current box of the row "set" fit in the box. In the last box, the keys may cross the edge if the box is too narrow.
 function checkContents(engine, texts) {
   const [scaleOf, drawContents] = ["scaleOf", "drawContents"].map(inPage);
   let boxes = 0;
@@ -225,8 +224,8 @@ function checkTraces(engine, names) {
 const areApart = (one, other) => one.x + one.wide <= other.x + 1 || other.x + other.wide <= one.x + 1 || one.y + one.high <= other.y + 1 || other.y + other.high <= one.y + 1;
 const ROOMS = [{ wide: 1280, high: 300 }, { wide: 900, high: 240 }, { wide: 351, high: 320 }];
 
-// Checks at each event of the examples, and of a run with many nodes, that everything on the stage is within its edges, and that no node,
-// and no hand (the sign of a thread), covers another one.
+// Checks, at each event of the examples and of a run with many nodes, that everything is drawn within the edges of the stage, that no node covers another node,
+// and that no hand (the label of a thread) covers another hand.
 function checkStage(engine, texts) {
   let hands = 0;
   for (const [text, size] of texts.flatMap((text) => ROOMS.map((size) => [text, size]))) {
@@ -256,7 +255,7 @@ function checkStage(engine, texts) {
   check(`a long chain is folded: ${items.length}, ${units.width}`, items.length <= 14 && units.width * units.scale <= 1281 && items.some(({ names }) => names.length > 20));
 }
 
-// Returns a schedule of each list, in which five threads have calls and take turns of one to three steps.
+// Returns a schedule for each list. In the schedule, five threads take turns of one to three steps, each in a call.
 function crowded(engine) {
   const calls = ["add 5", "remove 5", "add 7", "contains 7", "remove 7"].map((call, thread) => `begin ${thread} ${call}`);
   const turns = Array.from({ length: 60 }, (_, turn) => `go ${(turn * 3) % 5} ${1 + (turn % 3)}`);
@@ -273,7 +272,8 @@ function longerBy(engine, text, line) {
 }
 
 // Checks the line of the proved code that the page shows for each thread in a call. Before the call's first step, the line must begin a call. Before the
-// last step, the line must be able to end a call. If `find` restarts its walk, the line must be in `find`. Each line that executes rows must occur.
+// last step, the line must be able to end a call. If `find` restarts its walk, the line must be in `find`. Each line that executes rows of a step table must
+// occur at least once.
 function checkListing(engine, texts) {
   const met = new Set();
   const wrong = texts.flatMap((text) => {
@@ -335,7 +335,7 @@ function checkPresses(engine) {
   }
 }
 
-// Checks the contrast of each text with each of its backgrounds, light and dark, and of the edges of buttons and fields.
+// Checks the contrast between each text and its backgrounds, both light and dark, and the contrast of the edges of buttons and fields.
 function checkColours() {
   const sheet = ["page.css", "drawings.css"].map((name) => fs.readFileSync(path.join(folder, "style", name), "utf8")).join("");
   const contrasts = contrastsOf(sheet);

@@ -1,6 +1,6 @@
-"""Makes test cases for the page's engine from the program's answers. Each function that reads a text is called with
-every example, with generated texts (schedules, drafts, recorded calls and reports), and with damaged texts. Other cases
-draw pictures with options, run broken lists, generate schedules with `gen`, and pass right and wrong names.
+"""Makes test cases for the page's engine from the program's answers. Each function of the engine that reads a text is
+called with every example, with generated texts (schedules, drafts, recorded calls and reports), and with damaged texts.
+Other cases draw pictures with options, run broken lists, generate schedules with `gen`, and pass right and wrong names.
 """
 
 import base64
@@ -38,8 +38,7 @@ class Program:
         return done.stdout + done.stderr, done.returncode
 
     def case(self, function, words, *texts, given=b""):
-        """Returns a case: a function of the module with its texts, and the output of the program for the arguments
-        `words` and the input `given`.
+        """Returns a test case: a function of the module with its argument texts, and the program's output for the arguments `words` and the input `given`.
         """
         output, status = self.program_answers(*words, text=given)
         output = output.removesuffix(OF_A_FILE)
@@ -52,8 +51,8 @@ class Program:
 
 def generated(program, dice):
     """Generates schedules of each list: a long one, and others with few or many threads and small or large quotas. In some
-    of these, each `contains` is replaced by a ceiling. The ceiling can take a different number of steps, and then a later
-    event is refused.
+    of these, each `contains` is replaced by a ceiling. The `ceiling` can take a different number of steps than the
+    `contains`, so that a later event is refused.
     """
     for kind in LISTS:
         yield program.program_answers("gen", kind, "4", "300", "1100", "4", "1")[0]
@@ -87,8 +86,9 @@ def texts_of(program, dice):
 
 
 def cases_of_options(program, dice, texts):
-    """Yields cases of functions with right and wrong options. An option that is not set is an empty text. Also yields
-    cases that run schedules on the broken lists: the schedules that break them, and generated ones.
+    """Yields test cases for functions with right and wrong options. An empty text means that the option is not set.
+    Also yields test cases that run schedules on broken lists: the schedules that break these lists, and generated
+    schedules.
     """
     files = {it.stem: it.read_bytes() for it in sorted(LACKS.glob("*.schedule"))}
     for _ in range(DRAWN):
@@ -105,8 +105,8 @@ def cases_of_options(program, dice, texts):
 
 
 def cases_of_values(program, dice):
-    """Yields cases of the command gen with random values, most of them right. Also yields cases that print an example
-    by its name, all names of examples, and all errors.
+    """Yields test cases for the command `gen` with random values, most of them right. Also yields test cases that print
+    each example, the names of all examples, and all errors.
     """
     for _ in range(DRAWN):
         values = [dice.choice([*LISTS * 4, "", "skip"]), *(dice.choice(VALUES[:4] * 6 + VALUES) for _ in range(dice.choice([5, 5, 5, 3, 0])))]
@@ -119,7 +119,7 @@ def cases_of_values(program, dice):
 
 
 def all_cases(path):
-    """Returns all cases: functions of the module with arguments, each with the answer of the program at this path."""
+    """Returns all test cases: functions of the module with arguments, each with the answer of the program at `path`."""
     program, dice = Program(path), random.Random(26)
     texts = texts_of(program, dice)
     made = [*cases_of_values(program, dice), *cases_of_options(program, dice, texts)]

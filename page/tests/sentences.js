@@ -1,6 +1,6 @@
-// node tests/sentences.js checks that no sentence about a generated run is false, for each list and each broken list. It parses each sentence and compares
-// its statements with the run: which keys are compared, whether a key is present, what the step adds, removes, unlinks or marks, who holds a lock, and
-// what the thread does and returns next.
+// Usage: `node tests/sentences.js`. Checks that no sentence about a generated run is false, for each list and each broken list. Parses each sentence and
+// compares the statements in the sentence with the run: which keys are compared, whether a key is present, what the step adds, removes, unlinks or marks, which
+// thread holds a lock, and what the thread does and returns next.
 "use strict";
 
 const fs = require("fs");
@@ -15,8 +15,8 @@ const numberOf = (key) => ({ "−∞": -Infinity, "+∞": Infinity, "-inf": -Inf
 
 const isMarkOf = (event, node, thread) => event.word === `${node}.link` && event.to.endsWith("*") && thread === inPage("letterOf")(event.thread);
 
-// The patterns of sentences. Each has a test that returns true if a matching sentence is false. The test receives the matched groups and the facts: the
-// event, the next step of its thread, and the chain, keys and locks after the event.
+// The patterns of sentences. Each pattern has a test that returns true if a matching sentence is false. The arguments of the test are the matched groups and
+// the facts after the event: the event, the next step of its thread, the chain, the keys and the locks.
 const CLAIMS = [
   [/key: (\S+)\. .*above (\d+)/, ([saw, key]) => numberOf(saw) <= numberOf(key)],
   [/key: (\S+)\. .*is below (\d+)/, ([saw, key]) => numberOf(saw) >= numberOf(key)],
@@ -118,7 +118,7 @@ const SHORT_CLAIMS = [
   [/[Ww]alks? again\./, (_, { next }) => !isNextOn(next, "link", "head")],
 ];
 
-// Marks each event that stores "free" in the lock of a node while its thread holds this lock.
+// Sets `released` for each event that stores "free" in a lock while the event's thread holds the lock.
 function markReleases(events) {
   const held = {};
   for (const event of events.filter(({ word }) => word?.endsWith(".lock"))) {
@@ -140,7 +140,7 @@ function falseIn(claims, sentence, facts) {
 }
 const seen = new Set(); // the patterns that some sentence has matched
 
-// Returns the sentences of a run, each with the patterns of the false statements in it.
+// Returns the sentences about a run, each with the patterns that match a false statement in the sentence.
 function readRun(trace) {
   const state = new (inPage("State"))(trace);
   const events = trace.events();
@@ -161,7 +161,7 @@ function readRun(trace) {
   });
 }
 
-// Runs of broken lists written by hand. Their lines follow the opening keys 3 and 7.
+// Handwritten runs of broken lists. The lines of each run follow the opening keys 3 and 7.
 const BY_HAND = {
   "marks-in-validation": ["begin 0 remove 7", "go 0 4", "begin 1 remove 3", "go 1 10", "begin 1 remove 7", "go 1 10", "go 0 8"],
   "mark-in-remove": ["begin 0 remove 3", "go 0 3", "begin 1 remove 3", "go 1 5", "go 0 3"],
@@ -185,7 +185,7 @@ function tracedOf(engine, lacks, text) {
   return made.text.startsWith("listset-trace") ? new (inPage("Trace"))(made.text, inPage("versionOf")(text)) : null;
 }
 
-// Returns the events of a run of a correct list at which a ring is drawn wrongly. For a call that changes nothing, the ring must be at the earliest moment
+// Returns the events at which a ring is drawn wrongly, in a run of a correct list. For a call that changes nothing, the ring must be at the earliest moment
 // at which its reply is correct.
 function ringsWrong(trace) {
   const keysAt = [new Set(trace.opening)];

@@ -18,7 +18,7 @@ function check(name, isGood) {
 
 const traceOf = (text) => ({ refused: null, total: text.split("\n").length - 5, kind: "lock-free" });
 
-// Returns a state that shows a text for a task.
+// Returns a state of the page in which `text` is the schedule of `task`.
 function shown(task, text, count = 1) {
   const actions = [["task", { task }], ["run", { text }], ["trace", { trace: traceOf(text), state: {}, count }]];
   return actions.reduce((state, [type, given]) => reduce(state, { type, ...given }), stateAtFirst());
@@ -26,7 +26,7 @@ function shown(task, text, count = 1) {
 
 const EXAMPLE = { kind: "example", id: "snip" };
 
-// Returns a state that shows a scene and its run.
+// Returns a state of the page that shows a scene and the scene's run.
 function atScene(activity, id, text = "", given = {}) {
   const state = reduce(shown(EXAMPLE, TEXT), { type: "place", activity, screen: "scene", id, given });
   return reduce(state, { type: "scene", text });

@@ -1,6 +1,6 @@
-// node tests/verdicts.js [CASES [SEED]] checks that the page's sentences about random recordings, about runs of broken lists and about the reader's own orders
-// are true. A search of all orders decides each sentence. The sentences of a diagnosis are checked too. Prints as JSON how many checks passed, which failed,
-// and how many diagnoses were checked.
+// Usage: `node tests/verdicts.js [CASES [SEED]]`. Checks that the page's sentences about random recordings, about runs of broken lists and about a reader's
+// order of calls are true. Decides each sentence by a search through all orders. Also checks the sentences in diagnoses. Prints as JSON how many checks passed,
+// which checks failed, and how many diagnoses were checked.
 "use strict";
 
 const fs = require("fs");
@@ -19,7 +19,7 @@ const LONG = ["inside", "growing", "unlinked", "outlasted", "ownCopies", "broken
 const MOST_LONG = 60; // the most cases of a kind with long recordings: a case takes up to a second, so 4,000 of each kind would take hours
 const OF_FACTS = ["inside", "unlinked", "outlasted", "ownCopies", "broken", "borrowed"]; // only the facts of these kinds are checked
 
-// ---- Random numbers, which are the same each time this script runs with the same seed.
+// ---- Random numbers. They depend only on the seed.
 
 function draw(most) {
   seed = (seed + 0x6d2b79f5) | 0;
@@ -29,8 +29,8 @@ function draw(most) {
 }
 const pick = (some) => some[draw(some.length)];
 
-// ---- A search of all orders. A call has a thread, an operation, a key, the moments `begun` and `ended`, and a reply. A pending call has no end and no reply
-// (null).
+// ---- A search through all orders. A call has a thread, an operation, a key, the moments `begun` and `ended`, and a reply. A pending call has no end and no
+// reply (null).
 
 function replyOf({ operation, key }, keys, hasRoom) {
   if (operation === "ceiling") {
@@ -48,7 +48,7 @@ function keysAfter({ operation, key }, keys) {
   return operation === "add" && !keys.includes(key) ? [...keys, key].sort((one, other) => one - other) : keys;
 }
 
-// Returns the final sets, as texts, of all orders that explain the calls.
+// Finds all orders that explain the calls, and returns the final sets in these orders as texts.
 function leftByOrders(all, opening, quota = Infinity) {
   const calls = all.filter((call) => call.ended !== null || mayChange(call));
   const isBefore = (one, other) => one.ended !== null && one.ended < other.begun;
@@ -70,7 +70,7 @@ function leftByOrders(all, opening, quota = Infinity) {
   return left;
 }
 
-// Converts a completed ceiling, or an add that returned full, to a contains, as the judge does. Returns other calls unchanged.
+// Converts a completed `ceiling`, or an `add` that returned `full`, to a `contains`, as the judge does. Returns any other call unchanged.
 function asLook(call) {
   if (call.reply === "full") return { ...call, operation: "contains", reply: "false" };
   if (call.operation !== "ceiling" || call.reply === null) return call;
@@ -78,9 +78,9 @@ function asLook(call) {
   return { ...call, operation: "contains", key: Number(found ?? call.key), reply: String(found !== undefined) };
 }
 
-// Returns the states in which the calls on a key can leave the key if it starts in a given state. The search keeps a set of nodes. A node is a number: its
-// lowest bit is the state of the key, and each pending call has a bit, which is set if the call has taken effect. A call that changes nothing takes effect
-// as soon as it can.
+// Returns the states (present or absent) in which the calls on a key can leave the key if the key starts in a given state. The search keeps a set of nodes. A
+// node is a number. The lowest bit of the number is the state of the key, and each pending call has a bit that is set if the call has taken effect. A call that
+// changes nothing takes effect as soon as it can.
 function waysLeft(calls, key, isThere) {
   const ofKey = calls.map(asLook).filter((call) => call.key === key && (call.ended !== null || mayChange(call)));
   const events = ofKey.flatMap((call) => [[call.begun, call], ...(call.ended === null ? [] : [[call.ended, call]])]).sort(([one], [other]) => one - other);
@@ -103,7 +103,7 @@ function waysLeft(calls, key, isThere) {
   return [...new Set([...nodes].map((node) => (node & 1) === 1))];
 }
 
-// Returns the nodes of the search that can be reached from `nodes` if pending calls take effect.
+// Returns the nodes of the search that can be reached from `nodes` when some pending calls take effect.
 function settled(nodes, pending) {
   const [todo, found] = [[...nodes], new Set()];
   while (todo.length > 0) {
@@ -119,9 +119,10 @@ function settled(nodes, pending) {
 
 const quotaIn = (report) => Number(/^quota (\d+)$/m.exec(report)[1]);
 
-// ---- The judged cases, and the properties of the sentences.
+// ---- The judged cases, and the tests of the sentences.
 
-// Returns whether some order explains a case. A case has the calls, the opening keys, the final keys (null if unknown), and the quota.
+// Returns whether some order explains a case. A case consists of the calls, the opening keys, the final keys (null if unknown), and the quota (the number of
+// adds that each thread may make).
 const isExplained = ({ calls, opening, keys, quota }) => {
   const left = leftByOrders(calls, opening, quota);
   return keys === null ? left.size > 0 : left.has(keys.join());
@@ -136,13 +137,13 @@ function overlapped({ calls }) {
 const callNamed = (calls, name, reply) =>
   calls.filter((call) => `${call.operation}(${call.key}) of ${"ABCD"[call.thread]}` === name && (reply === null || call.reply === reply));
 
-// Returns the call that a sentence describes, as in `add(5) of A returns true, from 1 to 4`.
+// Returns the call that a text such as `add(5) of A returns true, from 1 to 4` describes.
 function callIn(calls, text) {
   const [, name, reply, begun] = /^(.*) returns (\S+), from (\d+) to \d+$/.exec(text) ?? [];
   return callNamed(calls, name, reply ?? null).find((call) => call.begun === Number(begun));
 }
 
-// The patterns of the sentences about a recording, each with a test that returns whether the sentence is true. `said` holds the facts from earlier sentences.
+// The patterns of the sentences about a recording, each with a test that returns whether the sentence is true. `said` contains facts from earlier sentences.
 const OF_RECORDING = [
   [/^Linearizable: an order explains (?:this one call|these (\d+) calls)(, whatever keys it leaves| and leaves the keys)\. This verdict is about this recording only\.$/,
     (it, [count, keys]) => isExplained(it) && Number(count ?? 1) === it.calls.length + it.padding.length && keys.startsWith(",") === (it.keys === null)],
@@ -182,7 +183,8 @@ const OF_RECORDING = [
 const leaves = ({ operation, reply }) => operation === "add" || (operation === "contains" && reply === "true");
 const needs = (call) => leaves(call) !== (call.operation !== "contains" && call.reply === "true");
 
-// Returns the second part of a contradiction: another call, or the final state of the key.
+// Returns whether `text` is true as the second part of a contradiction. The text names a later call or the final state of the key, which contradicts the first
+// call.
 function isSecond(it, said, text) {
   const [, end] = /^it is (present|absent) at the end$/.exec(text) ?? [];
   const [, call, need] = /^(.*), and needs it (present|absent)$/.exec(text) ?? [];
@@ -191,7 +193,8 @@ function isSecond(it, said, text) {
   return said.second !== undefined && needs(said.second) === (need === "present") && said.isPresent !== (need === "present");
 }
 
-// Returns whether no call could have changed the key by this operation during a period. A call that changes a key returns true or is pending.
+// Returns whether no call of `operation` could have changed the key between the moments `since` and `until`. (A call that can have changed a key returned true
+// or is pending.)
 function isNoneBetween(it, key, operation, since, until) {
   return !it.calls.some((call) => call.key === key && call.operation === operation && mayChange(call) && call.begun < until && since < (call.ended ?? LAST));
 }
@@ -201,7 +204,8 @@ function checkSentences(properties, it, sentences) {
   for (const sentence of sentences) checkSentence(properties, it, sentence, said);
 }
 
-// Checks a sentence against the first pattern that it matches. `said` holds the facts from earlier sentences, `line` the other parts of the sentence's line.
+// Checks a sentence with the test of the first pattern that the sentence matches. `said` contains facts from earlier sentences, and `line` contains the other
+// parts of the line with the sentence.
 function checkSentence(properties, it, sentence, said, line) {
   const [pattern, holds] = properties.find(([one]) => one.test(sentence)) ?? [null, () => false];
   met.add(pattern);
@@ -248,7 +252,7 @@ function textOf(calls, opening, left) {
   return ["listset-calls 1", ...opening.map((key) => `opening ${key}`), ...lines, ...ends, ""].join("\n");
 }
 
-// Returns correct calls on other keys, one after another. (Without them, a recording has too few calls for a likely cause in its diagnosis.)
+// Returns correct calls on other keys, one after another. (A recording without such calls would be too short for its diagnosis to name a likely cause.)
 function paddingAfter(last) {
   const made = [["contains", "false"], ["add", "true"], ["add", "false"], ["contains", "true"], ["remove", "true"], ["remove", "false"]];
   const ofKeys = [11, 13, 15].flatMap((key) => [...made, ...made, ...made, ...made].map(([operation, reply]) => ({ thread: 3, operation, key, reply })));
@@ -263,7 +267,7 @@ function checkRecording(ask) {
   if (kind === "none") checkWhy(ask, it);
 }
 
-// Checks the verdict on a recording that `drawn` creates and, if the recording is not linearizable, the diagnosis.
+// Checks the verdict on a recording that `drawn` generates. If the recording is not linearizable, also checks the diagnosis.
 function checkKind(ask, drawn) {
   const it = drawn();
   const isOk = keysOf(it).every((key) => hasOrderOf(it, key));
@@ -271,7 +275,7 @@ function checkKind(ask, drawn) {
   else if (!isOk) (OF_FACTS.includes(drawn.name) ? checkFacts : checkWhy)(ask, it);
 }
 
-// Checks only the facts of a diagnosis. (The recording is too long to check its headline and picture.)
+// Checks only the facts in a diagnosis. (The recording is too long for a check of the headline and the picture.)
 function checkFacts(ask, it) {
   result.diagnoses++;
   const told = ask("listset_why_record", it.text).text.split("\n").filter((line) => /^(fact|because) /.test(line));
@@ -279,7 +283,7 @@ function checkFacts(ask, it) {
   for (const line of told.filter((one) => !one.startsWith("fact ("))) checkSentence(OF_WHY, it, line.replace(/; suspected: .*$/, ""), why, {});
 }
 
-// Returns the call in the recording that a line of a diagnosis describes.
+// Returns the call that a line of a diagnosis describes.
 function callOfLine(it, words) {
   const [thread, operation, key, begun] = words;
   return it.calls.find((call) => call.thread === Number(thread) && call.operation === operation && call.key === Number(key) && call.begun === Number(begun)
@@ -298,8 +302,8 @@ function checkWhy(ask, it) {
   return checkText(ask, it, told);
 }
 
-// Returns a sentence without the call that it blames. If this call is not the one that the picture suspects, or overlaps no other call of the picture, returns
-// a sentence that no pattern matches.
+// Returns the sentence `says` without the suspected call that it names. If the picture marks a different call as suspected, or if the named call overlaps no
+// other call in the picture, returns a sentence that no pattern matches.
 function guiltyIn(why, says) {
   const [, sentence, operation, key, thread, begun, ended] = /^(because .*); suspected: (\w+) (\d+) of thread (\d+), (\d+) to (\d+|\.\.)$/.exec(says) ?? [];
   if (sentence === undefined) return says;
@@ -309,8 +313,8 @@ function guiltyIn(why, says) {
   return known.length === 1 && isMet(known[0]) && why.guilty.every((call) => call === known[0]) ? sentence : `${says} (not in the picture)`;
 }
 
-// Decides whether no other change of another key, by the same operation, overlaps the first contradicting call and ends between this call and the next
-// call that contradicts it. (Several changes that fit equally are not suspected.)
+// Decides whether the suspected change `guilty` has no rival. A rival is a change of another key by the same operation that overlaps the first of the two
+// contradicting calls and ends after that call, but not after the second call. (The diagnosis suspects no change if several changes fit equally well.)
 function isOnlySuspect(it, why, guilty) {
   const first = why.shown.find(({ mark }) => mark.startsWith("leaves "))?.call;
   const second = why.shown.find(({ call, mark }) => first !== undefined && call.begun > first.ended && needsKey(call) !== leaves(first) && mark !== "-")?.call;
@@ -321,7 +325,7 @@ function isOnlySuspect(it, why, guilty) {
   return it.calls.every((call) => call === guilty || !isRival(call));
 }
 
-// Decides whether any two bars of a picture share a column if and only if their calls overlap in time.
+// Decides whether any two bars of a picture share a column if and only if the two calls overlap in time.
 function doBarsMeet(lines) {
   const bars = lines.flatMap((line) => {
     const [, before, bar, begun, ended] = /^(thread \d+ +)(\[\w+ \d+-*(?:\w+\]|\.\.)) +(\d+) to (\d+|\.\.)/.exec(line) ?? [];
@@ -330,7 +334,8 @@ function doBarsMeet(lines) {
   return bars.every((one) => bars.every((other) => (one.from <= other.to && other.from <= one.to) === (one.begun <= other.ended && other.begun <= one.ended)));
 }
 
-// Checks that the text of a diagnosis contains the statements in its record, and a bar for each call. A long text leaves out facts.
+// Checks that the text of a diagnosis contains the statements in the engine's record of the diagnosis, and a bar for each call. (A long text leaves out some
+// facts.)
 function checkText(ask, it, told) {
   const isOfCount = (line) => /^(contradiction: | {2}(need key|and (no|only)) )/.test(line);
   const lines = ask("listset_why", it.text).text.split("\n").filter((line) => line !== "" && !isOfCount(line));
@@ -364,7 +369,7 @@ const needsKey = (call) => (call.reply === "true") === (call.operation !== "add"
 const ofKey = (it, key) => it.calls.filter((call) => call.key === key);
 const opens = (it, key) => it.opening.includes(key);
 
-// Decides whether some order explains calls on a key that starts in a given state and, if `left` is given, ends in the state `left`.
+// Decides whether some order explains the calls on a key if the key starts in a given state and, if `left` is given, ends in the state `left`.
 function hasOrder(calls, key, isThere, left = null) {
   const ways = waysLeft(calls, key, isThere);
   return left === null ? ways.length > 0 : ways.includes(left);
@@ -372,16 +377,16 @@ function hasOrder(calls, key, isThere, left = null) {
 const leftOf = (it, key) => (it.keys === null ? null : it.keys.includes(key));
 const hasOrderOf = (it, key) => hasOrder(ofKey(it, key), key, opens(it, key), leftOf(it, key));
 
-// Returns the calls as far as they are known at a moment. A change that ends later becomes a pending call, since it can
-// have taken effect. Any other call that ends later is left out.
+// Returns the calls as far as they are known at a moment. A change that ends after the moment becomes a pending call, since it can have taken effect. Any other
+// call that ends after the moment is left out.
 const knownBy = (calls, moment) => calls.flatMap((call) => {
   if (call.begun > moment) return [];
   if (call.ended !== null && call.ended <= moment) return [call];
   return isChange(call) ? [{ ...call, ended: null, reply: null }] : [];
 });
 
-// Returns the moments from which the later calls on a key can be judged without the earlier ones, each with the key's state. They are the first moment,
-// and each moment when no change is pending and the earlier calls (or only the earlier changes) leave a single state.
+// Returns the moments from which the later calls on a key can be judged without the earlier calls, each with the state of the key at the moment. These are
+// moment 0, and each moment when no change is pending and the earlier calls (or the earlier changes alone) can leave the key in only one state.
 function startsOf(calls, key, isThere) {
   const changes = calls.filter(isChange);
   const found = [[0, isThere]];
@@ -400,8 +405,8 @@ function startsOf(calls, key, isThere) {
   return found;
 }
 
-// Yields the parts of the recording that contain a call. Each part has the key's state before it, its calls and, if it reaches the end of the recording, the
-// final state.
+// Yields the parts of the recording of a key that contain `call`. A part has the key's state at its start, its calls and, if it reaches the end of the
+// recording, the key's final state.
 function* around(it, key, call) {
   const calls = ofKey(it, key);
   it.starts ??= new Map();
@@ -415,15 +420,16 @@ function* around(it, key, call) {
   }
 }
 
-// Returns whether an earlier change leaves the state that `call` does not find, and no change to the state that `call` finds overlaps the time of both.
+// Returns whether an earlier change contradicts `call`: the change leaves the key in the opposite of the state that `call` finds, and no change back could have
+// taken effect between the start of the earlier change and the end of `call`.
 function isKnownOtherwise(it, call) {
   const wanted = needs(call) ? "add" : "remove";
   const isLast = (one) => one.ended !== null && one.ended < call.begun && leaves(one) !== needs(call) && isNoneBetween(it, call.key, wanted, one.begun, call.ended);
   return !isChange(call) && ofKey(it, call.key).filter(isChange).some(isLast);
 }
 
-// Returns whether some calls on the key are not linearizable with the recorded reply of `call`, but are linearizable with the
-// inverted reply. These calls are the changes of the key, or the calls around `call`. An earlier change can show it too.
+// Returns whether the opposite reply of `call` was the expected one: the changes of the key, or the calls on the key around `call`, are linearizable with the
+// opposite reply, but not with the recorded reply. Also returns true if an earlier change contradicts `call`.
 function isExpected(it, call) {
   const changes = knownBy(ofKey(it, call.key).filter((one) => isChange(one) && one !== call), call.ended);
   const fits = (one, others, isThere, left) => hasOrder([...others, one], call.key, isThere, left);
@@ -432,8 +438,7 @@ function isExpected(it, call) {
   return [...around(it, call.key, call)].some(({ calls, isThere, left }) => calls.includes(call) && isOnlyTurned(calls.filter((one) => one !== call), isThere, left));
 }
 
-// Returns whether the calls around a call, or all calls on the key, become linearizable if one change of the key is
-// added at some moment.
+// Returns whether some calls on the key around `call` (by default, around the last call) become linearizable if one change of the key is added at some moment.
 function isGone(it, key, wasThere, call) {
   const calls = ofKey(it, key);
   const near = call ?? [...calls].sort((one, other) => other.begun - one.begun)[0];
@@ -443,8 +448,8 @@ function isGone(it, key, wasThere, call) {
     [0, ...part.flatMap(({ begun, ended }) => [begun, ended ?? begun])].some((moment) => hasOrder([...part, change(moment)], key, isThere, left)));
 }
 
-// Returns the wrong answers of an operation: those that no order explains together with the calls of the other operations. Each
-// answer is tried by itself. Returns null if the other operations alone are not linearizable.
+// Returns the wrong answers of an operation. An answer (a call that changed nothing) is wrong if no order explains it together with all calls on its key that
+// are no such answers. Returns null if those other calls alone are not linearizable.
 function wrongAnswers(it, operation, isAside) {
   const wrong = [];
   let count = 0;
@@ -456,7 +461,7 @@ function wrongAnswers(it, operation, isAside) {
     count += answers.length;
     wrong.push(...answers.filter((call) => !hasOrder([...others, call], key, opens(it, key), left)));
   }
-  // Whether some order explains the calls without the wrong answers.
+  // True if some order explains the calls without the wrong answers.
   const isAll = keysOf(it).every((key) => hasOrder(ofKey(it, key).filter((call) => !wrong.includes(call)), key, opens(it, key), isAside ? null : leftOf(it, key)));
   return { wrong, count, isAll };
 }
@@ -465,13 +470,14 @@ const keysOf = (it) => [...new Set([...it.calls.map(({ key }) => key), ...it.ope
 const inTime = (call, since, until) => call.begun <= until && since <= (call.ended ?? LAST);
 const runsBeside = (it, call, operation) => it.calls.some((one) => one !== call && one.key === call.key && one.operation === operation && isChange(one) && inTime(one, call.begun, call.ended));
 
-// Returns whether another add or remove, for which `holds` returns true, ran at the same time as a call.
+// Returns whether a call was overlapped by another add or remove for which `holds` returns true.
 const runsDuring = (it, call, holds) => it.calls.some((one) => one !== call && one.operation !== "contains" && holds(one) && inTime(one, call.begun, call.ended));
 
 const isSame = (it, call) => runsDuring(it, call, (one) => one.key === call.key);
 const isBeside = (it, call) => runsDuring(it, call, (one) => one.key !== call.key && one.reply === "true");
 
-// Returns whether a sentence compares a share with that of other answers as it should. The empty text is right if there are no other answers.
+// Returns whether the text `rate` in a sentence compares the share of `count` in `all` correctly with the share for other answers. The text is empty if there
+// are no other answers.
 function isRate(rate, count, all) {
   const [, near, , usual] = /^(?:(, about as often as during other answers) \((\d+)%\)| \(during other answers: (\d+)%\))$/.exec(rate) ?? [];
   const [, other] = /(\d+)%/.exec(rate) ?? [];
@@ -500,8 +506,9 @@ function isTold(it, { wrong, count: answers, isAll }, [operation, atLeast, count
   return Number(found) === someFound && Number(missed) === someMissed;
 }
 
-// Decides whether some key has a contradiction without overlapping calls: one call leaves the key in a state, a later call needs the opposite state, and
-// no calls overlap from the start of the first to the end of the second. The opening or final state of the key can take the place of a call.
+// Decides whether some key has a contradiction without overlapping calls: one call leaves the key in a state, a later call needs the opposite state, and no two
+// calls overlap between the start of the first call and the end of the second. The key's opening state can take the place of the first call, and its final
+// state the place of the second.
 function isWrongAlone(it) {
   return keysOf(it).some((key) => {
     const ended = ofKey(it, key).filter(holdsReply);
@@ -515,8 +522,8 @@ function isWrongAlone(it) {
   });
 }
 
-// Decides whether no two calls overlap from a call that an answer contradicts to the end of the answer or, if the answer contradicts the opening
-// state, during the answer.
+// Decides whether an answer contradicts an earlier call, and no two calls overlap between the start of that call and the end of the answer. If the answer
+// contradicts the key's opening state, it is enough that no two calls overlap during the answer.
 function isAlone(it, answer) {
   const firsts = ofKey(it, answer.key).filter((call) => call.ended !== null && call.ended < answer.begun && leaves(call) !== needsKey(answer));
   const begins = [...firsts.map(({ begun }) => begun), ...(opens(it, answer.key) === needsKey(answer) ? [] : [answer.begun])];
@@ -530,26 +537,27 @@ function isAlone(it, answer) {
 const isMissed = (it, isOfKind) => it.calls.some((call) => call.operation !== "add" && call.reply === "false"
   && ofKey(it, call.key).some((first) => first.ended !== null && first.ended < call.begun && leaves(first) && isOfKind(first) && isNoneBetween(it, call.key, "remove", first.begun, call.ended)));
 
-// Decides whether a call of an operation and an overlapping one both returned true.
+// Decides whether `call` is a call of `operation` that returned true, and overlaps a call of the same operation on the same key that also returned true.
 const isTwice = (it, call, operation) => call.operation === operation && call.reply === "true"
   && it.calls.some((one) => one !== call && one.key === call.key && one.operation === operation && one.reply === "true" && inTime(one, call.begun, call.ended));
 
-// Decides whether a call that changes nothing found a key that an earlier remove had removed.
+// Decides whether some call that changed nothing found a key that an earlier call had removed and no call could have added again.
 const isFoundAgain = (it) => it.calls.some((call) => call.ended !== null && !isChange(call) && needsKey(call)
   && ofKey(it, call.key).some((first) => first.operation === "remove" && first.reply === "true" && first.ended < call.begun && isNoneBetween(it, call.key, "add", first.begun, call.ended)));
 
 const IN_LIST = { "two adds true": "added twice", "two removes true": "removed twice" }; // the words of a short list
 const TALLIED = ["lost", "came back", "two adds true", "two removes true", "one wrong answer", "none of these"];
-// Maps the words in the sentence that counts contradictions to the kinds of contradictions.
+// Maps the phrases in the sentence that counts contradictions to the kinds of contradictions.
 const KINDS = {
   "where a key was lost": "lost", "where a key came back": "came back", "with two adds that both returned true": "two adds true",
   "with two removes that both returned true": "two removes true", "with one wrong reply": "one wrong answer", "of other kinds": "none of these",
 };
-// Returns whether the calls around an answer are not linearizable with it, but are without it or, for contains, with the other reply.
+// Returns whether some calls around an answer are linearizable without the answer, but not with it.
 const isOnlyWrong = (it, answer) => [...around(it, answer.key, answer)].some(({ calls, isThere, left }) =>
   calls.includes(answer) && !hasOrder(calls, answer.key, isThere, left) && hasOrder(calls.filter((one) => one !== answer), answer.key, isThere, left));
 
-// Returns whether the numbers of wrong answers of each kind, as in `add returned false: 2, contains returned true: 1`, are true and add up.
+// Returns whether a list of wrong answers such as `add returned false: 2, contains returned true: 1` is true: the recording contains at least so many of each
+// kind, and the numbers add up to `all`.
 function areWrongAnswers(it, all, told) {
   const kinds = told.split(", ").map((one) => /^(add|remove|contains) returned (true|false): (\d+)$/.exec(one));
   const areSo = ([, operation, reply, count]) =>
@@ -557,7 +565,7 @@ function areWrongAnswers(it, all, told) {
   return kinds.every((one) => one !== null && areSo(one)) && kinds.reduce((sum, [, , , count]) => sum + Number(count), 0) === all;
 }
 
-// Returns, for each completed change by an operation, whether the next call on the key sees the change. Leaves out a change that an opposite change can have
+// Returns, for each completed change by an operation, whether the next call on the key sees the change. Leaves out each change that an opposite change can have
 // undone.
 function nextCallsSee(calls, operation) {
   const state = operation === "add";
@@ -570,7 +578,7 @@ function nextCallsSee(calls, operation) {
   });
 }
 
-// Returns the next completed call of an operation on the key of `answer`, if no change of the key ran between these two calls.
+// Returns the next completed call of `operation` on the key of `answer`. Returns undefined if a change of the key ran between the two calls.
 function nextCall(it, answer, operation) {
   const next = ofKey(it, answer.key).filter((call) => call.operation === operation && call.ended !== null && call.begun > answer.ended).sort((one, other) => one.begun - other.begun)[0];
   if (next === undefined) return undefined;
@@ -589,8 +597,9 @@ function isListed(it, told) {
   return until === undefined ? !hasOrderOf(it, Number(key)) : !hasOrder(knownBy(calls, last), Number(key), opens(it, Number(key)));
 }
 
-// Decides whether at least `some` completed changes of refused keys have a property, and not more than `all` are counted: another add or remove of the same
-// key overlaps the change, a change of another key does, or the change began while the first calls on its key ran or after a change that did.
+// Decides whether at least `some` of the completed changes of refused keys have a property, and whether there are at least `all` such changes. (A key is
+// refused if no order explains its calls.) The property is that another add or remove of the same key overlaps the change (`own`), that a change of another key
+// overlaps it (`others`), or that some completed call on its key began before the first add or remove of the key had ended (`first`).
 function isOfUndone(it, what, some, all, usual) {
   const hit = it.calls.filter((call) => isChange(call) && call.ended !== null && !hasOrderOf(it, call.key));
   const firstEnd = (key) => Math.min(...ofKey(it, key).filter((call) => call.operation !== "contains").map((call) => call.ended ?? LAST));
@@ -683,7 +692,7 @@ const OF_WHY = [
   [/^fact a change of another key ran during it, and no other add or remove of its own key$/, (it, found, { told }) =>
     told.wrong.some((call) => !runsDuring(it, call, (one) => one.key === call.key) && runsDuring(it, call, (one) => one.key !== call.key && one.reply === "true"))],
   [/^fact they contradict changes that had ended at most (\d+) moments earlier: (\d+) by the same thread, (\d+) by another thread$/, (it, found, { told }) => {
-    // (of two changes that overlap, either can be the last one)
+    // (if two changes overlap, either of them can be the last change)
     const lastChange = (answer) => {
       const changes = ofKey(it, answer.key).filter((call) => isChange(call) && (call.operation === "add") !== needsKey(answer) && call.begun <= answer.begun).sort((one, other) => one.begun - other.begun);
       const last = changes.filter((call) => call.ended !== null).at(-1);
@@ -706,7 +715,7 @@ const OF_WHY = [
     return why.shown.every(({ call }) => call.key === Number(key)) && isFirst(Number(moment)) && !isFirst(Number(moment) - 1) && isLater;
   }],
   [/^fact \(the picture shows another contradiction that is easier to see\)$/, (it, found, why) => {
-    // The first moment by which the calls on some key have no order.
+    // The first moment at which no order explains the earlier calls on some key.
     const moments = keysOf(it).flatMap((key) => ofKey(it, key).flatMap(({ ended }) => ended ?? [])).sort((one, other) => one - other);
     const first = moments.find((moment) => keysOf(it).some((key) => !hasOrder(knownBy(ofKey(it, key), moment), key, opens(it, key)))) ?? LAST;
     const isOfFirst = ({ call }) => hasOrder(knownBy(ofKey(it, call.key), first), call.key, opens(it, call.key));
@@ -876,9 +885,10 @@ const OF_WHY = [
       two.key === one.key && two.begun > one.ended && two.operation === "remove" && two.reply === "true" && (isTwice(it, two, "remove") || isFoundAgain(it))))],
 ];
 
-// ---- A key with calls that disagree for a long time: adds find the key present and removes find it absent, while nothing changes it.
+// ---- A key on which calls disagree for a long time: adds find the key present and removes find it absent, although no call changes the key.
 
-// Returns a recording of one key, in which a change is followed by many answers that disagree, and then, perhaps, by another change. Some answers overlap.
+// Returns a recording of one key in which many answers disagree about the state of the key. Before and after these answers, the recording can contain changes
+// of the key.
 function drawnSplit() {
   const [calls, opening] = [[], draw(2) === 0 ? [5] : []];
   const found = String(draw(2) === 0);
@@ -942,7 +952,8 @@ const OF_LACKING = [
   [/^Broken: (.*), which leaves (\d+) (present|absent), and (.*)\.$/, (it, [first, key, state, second]) => isToldSo(it, Number(key), [first, state === "present"], second)],
 ];
 
-// Returns whether the judge can decide a report: each call returned true or false or is pending, and no thread can exceed the quota.
+// Returns whether the judge can decide a report, which is the case if each call returned true or false or is pending, and no thread can exceed its quota of
+// adds.
 function isDecided({ calls, quota }) {
   const adds = [0, 1, 2].map((thread) => calls.filter((call) => call.thread === thread && call.operation === "add" && mayChange(call)).length);
   return calls.every(({ reply }) => reply === null || /^(true|false)$/.test(reply)) && Math.max(...adds) <= quota;
@@ -953,8 +964,8 @@ function isLost({ calls, opening, keys }, key) {
   return made("add") === 1 && made("remove") === 0 && !opening.includes(key) && !keys.includes(key);
 }
 
-// Returns whether `first` and `second` contradict each other: no other call could have changed the key between them. Each
-// describes a call; `first` can also be the key's opening state, and `second` its final state.
+// Returns whether `first` and `second` contradict each other, that is, no call could have changed the key between them. Both describe calls, but `first` can
+// also be the key's opening state (null), and `second` the key's final state.
 function isToldSo(it, key, first, second) {
   const looks = it.calls.map((call) => ({ ...asLook(call), told: `${nameIn(call)} ${call.ended === null ? "is pending" : `returns ${call.reply}`}` }));
   const named = (told) => looks.filter((call) => call.key === key && call.told === told);
@@ -966,8 +977,8 @@ function isToldSo(it, key, first, second) {
   return firsts.some((one) => seconds.some((other) => isNoneBetween(ofKey, key, isPresent ? "remove" : "add", one?.begun ?? 0, other?.ended ?? LAST)));
 }
 
-// Generates a random run of a broken list. The run starts with no steps, or with the schedule that breaks the list. Then random lines that the list
-// accepts are added.
+// Generates a random run of a broken list. The run starts without steps or with the schedule that breaks the list, and continues with random lines that the
+// list accepts.
 function drawnRun(ask, name) {
   const breaking = path.join(__dirname, "..", "..", "examples", "schedules", "lacks", `${name}.schedule`);
   const opening = [3, 7].filter(() => draw(3) > 0);
@@ -994,7 +1005,7 @@ function checkLacking(ask, name) {
   return checkSentences(OF_LACKING, it, [...says.split(/(?<=\.) /), ...(kind === "broken" ? [inPage("TO_BREAK")] : [])]);
 }
 
-// ---- The reader's own order of a run.
+// ---- The order of a run's calls that a reader has chosen.
 
 const OF_OWN = [
   [/^Still missing: (.*)\.$/, (it, [told]) => {
@@ -1028,7 +1039,7 @@ const NUMBERS = { two: 2, three: 3, four: 4, five: 5, six: 6, seven: 7, eight: 8
 const nameIn = (call) => `${call.operation}(${call.key}) of ${"ABCD"[call.thread]}`;
 const nameAlone = ({ calls }, call) => `${nameIn(call)}${calls.filter((other) => nameIn(other) === nameIn(call)).length > 1 ? ` from event ${call.begun}` : ""}`;
 
-// Returns the steps of the reader's order: each call with the call before it, the set before and after it, the reader's reply and the correct reply.
+// Returns the steps of the reader's order. A step has a call, the previous call, the set before and after the call, the reader's reply and the correct reply.
 function stepsOf(it) {
   let [keys, before] = [it.opening, null];
   const steps = [{ after: keys }];
@@ -1045,7 +1056,7 @@ function stepsOf(it) {
 
 const faultsOf = (it) => stepsOf(it).slice(1).filter(({ call, answer, said }) => answer !== said || (call.reply ?? "true") !== said);
 
-// Returns an answer with random points in the bars of the calls.
+// Returns a reader's answer in which calls are placed at random moments of their bars.
 function placedAnswer(exercise) {
   const answer = new OwnAnswer(exercise);
   for (const call of exercise.calls.filter(({ ended }) => draw(ended === null ? 2 : 30) > 0)) {
@@ -1055,7 +1066,7 @@ function placedAnswer(exercise) {
   return answer;
 }
 
-// Returns an answer to hand in: the order of the run, with a call moved or missing.
+// Returns a reader's answer that is read from a hand-in: the order of the run, in which a call can be moved and pending calls can be missing.
 function writtenAnswer(exercise) {
   const pieces = exercise.places.map(({ call, reply }) => `${call}-${reply}`);
   if (draw(2) === 0) pieces.splice(draw(pieces.length), 0, ...pieces.splice(draw(pieces.length), 1));
@@ -1093,7 +1104,7 @@ async function main() {
     const count = drawn.name === "broken" ? Math.min(CASES / 50, 5) : LONG.includes(drawn.name) ? Math.min(CASES / 3, MOST_LONG) : CASES; // (a case of `broken` takes seconds)
     for (let number = 0; number < count; number++) checkKind(ask, drawn);
   }
-  // (few calls contain too few facts to guess a cause)
+  // (a few calls contain too few facts for a guess about the cause)
   const isRare = (pattern) => /^\^because (?!many keys are added|\(\?:\(\\d\+\) times two|a successful remove of another key ran during \(\?|\(\\d\+\) adds of an absent|after \()|which do not increase|Your order is possible|have no order\\\.|at first, and/.test(pattern.source);
   const properties = [...OF_RECORDING, ...OF_SPLIT, ...OF_LACKING, ...OF_OWN];
   result.failed.push(...properties.filter(([pattern]) => CASES >= 150 && !met.has(pattern) && !isRare(pattern)).map(([pattern]) => `no case has ${pattern}`));

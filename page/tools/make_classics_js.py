@@ -1,5 +1,6 @@
-"""Makes made/classics.js from docs/CLASSIC.md. The file contains, for each example, the question, the answer, the deciding events, what goes wrong
-without the check, and the broken lists that lack the check. It also contains the kind of each broken list.
+"""Makes made/classics.js from docs/CLASSIC.md. For each example, the file contains the question, the answer, the
+deciding events, what goes wrong without the check, and the broken lists that lack the check. The file also contains the
+kind of each broken list.
 """
 import json
 import re
@@ -16,7 +17,7 @@ def paragraph(section, title):
 
 
 def turns_of(section):
-    """Returns the numbers of the deciding events. The page shows their trace lines below the answer to the question."""
+    """Returns the numbers of the deciding events. docs/CLASSIC.md shows the trace lines of these events in the answer."""
     part = section.split("**Answer.**", 1)[1].split("**Without it.**", 1)[0]
     return [int(number) for number in re.findall(r"^    event (\d+) line ", part, re.M)]
 

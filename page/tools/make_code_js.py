@@ -1,6 +1,7 @@
-"""Makes made/code.js from the loops in the proved crates: the source of the functions that execute the steps of calls, with the rows of the step
-table that each line executes. Comments at these lines name the rows ('// row 3', '// rows 5, 6, 7'). The page uses the rows to show each thread at its
-line. On lists with marks, `ceiling` has no loop of its own: the interpreter of the step tables executes it.
+"""Makes made/code.js from the proved crates. The made file contains the functions that execute the steps of calls, with
+the rows of the step table that each line executes. (Comments such as '// row 3' or '// rows 5, 6, 7' name the rows of a
+line.) The page uses the rows to show at which line each thread is. On lists with marks, `ceiling` has no loop of its
+own: the interpreter of the step tables executes it.
 """
 
 import json
@@ -20,7 +21,7 @@ HEAD = """// The proved loops of the lists as they stand in crates/, with the ro
 
 
 def lines_of(lines):
-    """Yields each line that names rows: its number, its step, the rows."""
+    """Yields each line that names rows of the step table: the number of the line, the step, and the rows."""
     for number, line in enumerate(lines, 1):
         code, _, said = line.partition(" // row")
         if said:
@@ -29,7 +30,7 @@ def lines_of(lines):
 
 
 def is_last(lines, number):
-    """Returns whether the call returns at this line, or later in the block of this line."""
+    """Returns whether the call returns at line `number`, or later in the block that contains the line."""
     for line in lines[number - 1:]:
         if re.search(r"_last\(|\breturn\b", line):
             return True
@@ -39,8 +40,8 @@ def is_last(lines, number):
 
 
 def steps_of(found, lines):
-    """Yields the steps of a file. If several steps execute the same row, each of them also states whether a call begins
-    at its line, and whether a call returns at its line."""
+    """Yields the steps of a file. If several steps execute the same row, each of these steps also states whether a call
+    begins, and whether a call returns, at the step's line."""
     rows = [row for *_, made in found for row in made]
     for number, step, made in found:
         told = {"line": number, "rows": made}

@@ -1,8 +1,8 @@
-"""Converts pages of docs/ to HTML, in the frame of page/index.html. Each moment of a picture and each line of a trace links to the event of the run. Each
-row of a step table links to an event of an example that executes the row (traces.js), if there is one. Each broken list links to the schedule that
-breaks it (examples/schedules/lacks).
+"""Converts pages of docs/ to HTML, in the frame of page/index.html. Each moment in a picture and each line of a trace links to the corresponding
+event of the run. Each row of a step table links to an event of an example that executes the row (traces.js), if there is one. Each broken list links
+to the schedule that breaks it (examples/schedules/lacks).
 
-Python-Markdown makes the HTML; this script changes its output. Text for the terminal is left out: lines of code blocks that begin with `$`, and
+Python-Markdown makes the HTML, and the script changes it. The script leaves out text for the terminal: lines of code blocks that begin with `$`, and
 everything between the comments `<!-- terminal -->` and `<!-- end -->`.
 """
 
@@ -48,15 +48,15 @@ PAGE = """<!doctype html>
 
 
 def frame(index):
-    """Returns the links and the header of index.html, for a page beside it."""
+    """Returns the `<link>` elements and the header of index.html, for use in the other pages."""
     header = re.search(r"<header\b.*?</header>", index, re.S)[0]
     header = re.sub(r' (data-to|aria-current)="[^"]*"', "", header.replace('href="#', 'href="index.html#'))
     return {"links": "\n".join(re.findall(r"^<link .*>$", index, re.M)), "header": header}
 
 
 class Runs:
-    """The runs of the classic examples, read from their traces: the lines of each example's events, and for each row of a
-    step table the first event that executes the row."""
+    """The runs of the classic examples, read from traces. Contains the lines of each example's events and, for each row
+    of a step table, the first event that executes the row."""
 
     def __init__(self, text):
         self.events, self.rows = {}, {kind: {} for kind in KINDS.values()}
@@ -70,15 +70,14 @@ class Runs:
                 stood[thread] = row
 
     def link(self, name, event, said):
-        """Returns a link to an event of an example's run. If the run has fewer events, returns the text without a
-        link.
+        """Returns the text `said` as a link to an event of an example's run. If the run has fewer events, returns the text without a link.
         """
         if event > len(self.events.get(name, [])):
             return said
         return f'<a href="index.html#example={name}&amp;event={event}">{said}</a>'
 
     def numbers(self, name, text):
-        """Returns a text with links from its numbers to the events of an example."""
+        """Returns `text` with each number linked to the event of that number in the example `name`."""
         return re.sub(r"\d+", lambda it: self.link(name, int(it[0]), it[0]), text)
 
 
@@ -89,7 +88,7 @@ class Document:
         self.runs, self.broken, self.example, self.kinds, self.lists_told = runs, broken, None, [], 0
 
     def body(self, text):
-        """Returns the HTML of the page's text, with links."""
+        """Converts the Markdown text of a page to HTML and adds the links."""
         made = markdown.markdown(text, extensions=["tables", "toc", "sane_lists"], extension_configs={"toc": {"slugify": slug_of}})
         made = re.sub(r'<a href="([^"]*)">(.*?)</a>', link_of, made)
         made = FILE.sub(lambda it: self.runs.link(it[1], 0, it[0]) if it[1] in self.runs.events else it[0], made)
@@ -111,8 +110,8 @@ class Document:
         return made
 
     def table(self, made):
-        """Returns a table with links in its first column: from the number of a row to an event that executes this row, or
-        from the number of an event to the event.
+        """Returns a table with links in the first column. The number of a row links to an event that executes the row,
+        and the number of an event links to that event.
         """
         kind = re.search("<th>(.*?)</th>", made)[1]
         first = {"Row": self.row, "Events": lambda cell: self.runs.numbers(self.example, cell)}.get(kind, str)
@@ -123,7 +122,7 @@ class Document:
         return self.runs.link(*found, cell) if found else cell
 
     def broken_list(self, found):
-        """Links the name of a broken list to the schedule that breaks it. The page knows the list by its number."""
+        """Links the name of a broken list to the schedule that breaks the list. In the link, the list is named by its number."""
         if found[2] not in self.broken:
             return found[0]
         self.lists_told += 1
@@ -131,14 +130,13 @@ class Document:
         return f'<li><a href="{address}">{found[1]}</a>'
 
     def code(self, lines):
-        """Returns a block of code. A picture or a trace of the section's example gets links to its run."""
+        """Returns the HTML of a code block. If the block is a picture or a trace of the section's example, it gets links to the example's run."""
         events = self.runs.events.get(self.example, [])
         is_picture = (found := PICTURE.match(lines[0])) and int(found[1]) == len(events)
         return "<pre>" + "\n".join(self.of_run(line, is_picture, html.unescape(line) in events) for line in lines) + "</pre>"
 
     def of_run(self, line, is_picture, is_event):
-        """Returns a line of a block of code. In the picture and the trace of the section's example, moments link to the
-        run.
+        """Returns a line of a code block. In the picture and the trace of the section's example, each moment links to the event of the run.
         """
         if is_picture and line.startswith("moment "):
             return self.runs.numbers(self.example, line)
@@ -147,7 +145,7 @@ class Document:
 
 
 def address_of(schedule):
-    """Returns a schedule in the form that it has in an address (see src/run/address.js)."""
+    """Encodes a schedule for an address (see src/run/address.js)."""
     title, *lines = schedule.splitlines()
     words = [line.split() for line in lines]
     opening = [values[0] for word, *values in words[3:] if word == "opening"]
@@ -169,7 +167,7 @@ def kinds_in(text):
 
 
 def link_of(found):
-    """Returns a link from a page in docs/, rewritten for the folder page/."""
+    """Rewrites a link in a page of docs/ for the folder page/."""
     target, said = found.groups()
     said = f"“{NAMES[said]}”" if said in NAMES else said
     path, sign, heading = target.partition("#")
@@ -184,7 +182,7 @@ def page_of(source, text, document, framed):
     """Returns the HTML of a page."""
     body = document.body(LEFT_OUT.sub("", text))
     nav = [f'<a href="{PAGES[it]}">{name}</a>' if it != source else f"<b>{name}</b>" for it, name in NAMES.items()]
-    # (the contents follow the introduction, unless the introduction already links to most sections)
+    # (the table of contents follows the introduction, unless the introduction already links to most sections)
     contents = [f'<a href="#{slug}">{re.sub("</?a[^>]*>", "", said)}</a>' for slug, said in re.findall(r'<h2 id="(.*?)">(.*?)</h2>', body)]
     before, sign, after = body.partition("<h2")
     if before.count('href="#') < len(contents) / 2:

@@ -1,5 +1,5 @@
-"""Makes made/rows.js from docs/TABLES.md, the step tables of the lists. The made file contains the texts that the page
-shows for a thread's row, and the properties of rows on which the page's sentences depend.
+"""Makes made/rows.js from docs/TABLES.md, the step tables of the lists. The made file contains the text that the page
+shows for each row of a step table, and the properties of rows on which the page's sentences depend.
 """
 import json
 import re
@@ -8,7 +8,7 @@ from lists import lists as all_lists
 
 REGISTERS = ["pred", "curr", "succ", "node", "pkey", "ckey"]
 CALLS = ["add", "remove", "contains", "ceiling"]
-# Patterns for the column "Then", by the reason of a jump to another row.
+# Patterns for the column "Then" of a step table, keyed by the reason for the jump to another row.
 LEADS = {
     "below": r"below K: (?:[^;]*, )?(\d+)",  # on with the walk
     "invalid": r"reply none, (\d+)",  # the validation failed
@@ -22,7 +22,7 @@ def plain(text):
 
 
 def leads_of(then):
-    """Returns the rows that can follow a row, keyed by the reason for the jump. `then` is the text in the row's column "Then"."""
+    """Returns the rows to which a row can jump, keyed by the reason for the jump. `then` is the text of the row in the column "Then"."""
     found = {name: re.search(pattern, then) for name, pattern in LEADS.items()}
     return {name: int(next(filter(None, match.groups()))) for name, match in found.items() if match}
 
@@ -38,8 +38,9 @@ def rows_of(section):
 
 
 def deciding_rows(section):
-    """Returns the rows at which a call adds, removes, and leaves. If calls leave by returning, the third number is one
-    past the table's last row.
+    """Returns the row at which a call adds its key, the row at which a call removes its key, and the row at which a
+    call leaves. If the section names no row for leaving, the third number is one more than the number of the table's
+    last row.
     """
     def row_of(pattern):
         found = re.search(pattern, section)
@@ -48,7 +49,7 @@ def deciding_rows(section):
 
 
 def reads_of(section):
-    """Returns the rows of the step table for `contains` and `ceiling`, for lists that take no lock in these calls."""
+    """Returns the rows of the step table that `contains` and `ceiling` execute, if the list takes no lock in these calls."""
     rows = rows_of(section)
     ceiling = int(re.search(r"`ceiling` at row (\d+)", section)[1])
     return {"contains": {number: row for number, row in rows.items() if number < ceiling},
@@ -61,7 +62,7 @@ def registers_in(rows):
 
 
 def calls_of(section, reads):
-    """Returns the numbers of the rows that each call can execute, and the registers that these rows set."""
+    """Returns the numbers of the rows that each operation can execute, and the registers that these rows set."""
     rows = rows_of(section)
     adds, removes, leaves = deciding_rows(section)
     left_out = {"add": range(removes, leaves), "remove": range(adds, removes)}

@@ -1,10 +1,11 @@
 #!/usr/bin/python3
-"""Measures the page in a browser: the bytes that the path loads, and the times until the first picture is shown and until a step
-chosen on the slider is shown.
+"""Measures the page in a browser: how many bytes the path (the guided tour) loads, how long it takes to show the first
+picture, and how long it takes to show a step that is chosen on the slider.
 
     page/tools/measure.py [--browser chromium] [--calls 12]
 
-The step is chosen in a generated run with this number of calls (12 calls: about 280 events). Times depend on the load, which is printed."""
+The step is chosen in a generated run of `--calls` calls. (A run of 12 calls has about 280 events.) Times depend on the
+machine's load average, which is printed too."""
 
 import argparse
 import functools

@@ -1,5 +1,4 @@
-"""Scenarios: a person uses the page with keys, clicks and touches, and sees the results. They run in each
-installed browser.
+"""Fixtures for the scenarios, in which a person uses the page with keys, clicks and touches, and sees the results. The scenarios run in each installed browser.
 
 pytest page/tests/scenarios [--browser chromium] [--shots FOLDER]
 """
@@ -60,7 +59,7 @@ class Visitor(webdriver.Browser):
         self.wait("return document.body.dataset.ready === 'yes'")
 
     def inside(self, text, *given):
-        """Evaluates a script in the page. In the script, `listsets` has everything that the page's modules export."""
+        """Evaluates a script in the page. In the script, the object `listsets` contains everything that the page's modules export."""
         words = f"JSON.stringify(((...given) => {{ {text} }})(...{json.dumps(given)}) ?? null)"
         return json.loads(self.script("return (window.wrappedJSObject ?? window).eval(arguments[0])", words))
 
@@ -73,11 +72,11 @@ class Visitor(webdriver.Browser):
         return found
 
     def idle(self):
-        """Waits until nothing is being played."""
+        """Waits until no figure of the page is playing steps."""
         self.wait("return document.body.dataset.busy !== 'yes'")
 
     def revealed(self):
-        """Waits until the answer is shown and nothing is being played."""
+        """Waits until the page shows the answer and no figure is playing steps."""
         self.wait("return document.querySelector('.reveal') !== null && document.body.dataset.busy !== 'yes'")
 
     def step(self, keys):
@@ -94,7 +93,7 @@ class Visitor(webdriver.Browser):
         return self.script("return document.querySelector(arguments[0])?.innerText ?? ''", what)
 
     def is_seen(self, what):
-        """Returns whether a part is on the page and not hidden. It can be outside of the window."""
+        """Returns whether a part is on the page and not hidden. The part can be outside of the window."""
         return self.script("return [...document.querySelectorAll(arguments[0])].some((it) => it.getClientRects().length > 0)", what)
 
     def in_window(self, what):
@@ -125,7 +124,7 @@ class Visitor(webdriver.Browser):
         self.point(*self.middle(what, words), "touch")
 
     def choose(self, what, value):
-        """Chooses an option by sending the event to the page; the browser's own list is not opened."""
+        """Chooses an option by sending a `change` event to the page, without opening the browser's list of options."""
         self.script("""const it = document.querySelector(arguments[0]); it.focus(); it.value = arguments[1];
             it.dispatchEvent(new Event("change", { bubbles: true }))""", what, value)
 
@@ -170,7 +169,7 @@ def place(request):
 
 
 class Turns:
-    """Provides browsers of one kind, one at a time. Replaces a browser after some scenarios, or if it has crashed."""
+    """Provides browsers of one kind, one at a time. Replaces the browser after a number of scenarios, or if the browser has crashed."""
 
     def __init__(self, name, place):
         self.name, self.place, self.one, self.left = name, place, None, 0

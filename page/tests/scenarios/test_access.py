@@ -71,8 +71,8 @@ def go(visitor, address):
 
 
 def next_stop(visitor, stops):
-    """Presses Tab and returns the focused element. Presses Tab a second time if necessary: in Firefox, the focus can be in the
-    browser's own buttons, after the last element of a page.
+    """Presses Tab and returns the focused element. Presses Tab a second time if necessary, because in Firefox the focus
+    moves from the last element of a page to the browser's own buttons.
     """
     for _ in range(2):
         visitor.press("Tab")

@@ -2,7 +2,7 @@
 
 
 def hurried(visitor):
-    """Shows the run to its end at once by pressing a key."""
+    """Presses a key, so that the page shows the rest of the run at once."""
     visitor.press("Right")
     visitor.revealed()
 

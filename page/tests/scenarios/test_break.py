@@ -1,5 +1,4 @@
-"""Tests Break: a visitor wins each level, the page does not reveal the answer, and it shows the contradiction and
-strikes out the missing check.
+"""Tests the Break activity: a visitor can win each level, and the page does not reveal the answer, shows the contradiction, and strikes out the missing check.
 """
 
 import pathlib
@@ -9,7 +8,7 @@ SCHEDULES = pathlib.Path(__file__).resolve().parents[3] / "examples/schedules/la
 
 
 def won(visitor):
-    """Wins level 1 as its hints say: both threads walk, B completes its add, then A completes its own."""
+    """Wins level 1 as the hints say: both threads walk, B completes its add, and then A completes its own add."""
     step_until_broken(visitor)
     time.sleep(1)  # a click soon after the verdict is ignored
 
@@ -112,7 +111,7 @@ def test_hints_use_words_instead_of_row_numbers(visitor):
 
 
 def test_the_schedule_of_the_examples_breaks_each_level(visitor):
-    """Opens each level by a link to the schedule that breaks its list. The page shows that the list is broken. The
+    """Opens each level by a link to the schedule that breaks the level's list. The page shows that the list is broken. The
     visitor then names the missing check, and the page strikes it out.
     """
     visitor.open("#break")

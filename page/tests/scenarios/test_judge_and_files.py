@@ -1,4 +1,4 @@
-"""Tests the judge, Compare, files, and the messages about wrong files."""
+"""Tests the Judge and Compare activities, opening and saving files, and the messages about wrong files."""
 
 import pytest
 from test_stage import fit

@@ -1,4 +1,4 @@
-"""Tests lessons: one is attempted, solved and changed, and a teacher's course is passed from one profile to another."""
+"""Tests lessons: a student attempts, solves and changes a lesson, and a teacher passes a course from one browser profile to another."""
 
 COURSE = """listset-course 1
 course Monday

@@ -1,4 +1,4 @@
-"""Tests the path: a first-time visitor follows it with clicks, guesses and keys, and finds the way back."""
+"""Tests the path (the guided tour): a first-time visitor follows the path with clicks, guesses and keys, and finds the way back."""
 
 import time
 
@@ -356,7 +356,7 @@ def test_a_link_to_the_current_place_restarts_it(visitor):
 
 
 def place(visitor, call, part):
-    """Presses the bar of a call, at a part of its width from the left."""
+    """Presses the bar of a call. `part` is the distance from the bar's left end, as a fraction of the bar's width."""
     left, top, wide, high = visitor.script("""const box = document.querySelector(`.strip [data-call="${arguments[0]}"] rect`).getBoundingClientRect();
         return [box.left, box.top, box.width, box.height]""", call)
     visitor.point(left + part * wide, top + high / 2)

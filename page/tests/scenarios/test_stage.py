@@ -1,5 +1,5 @@
-"""Tests the stage in windows of laptops, a large screen and a phone: labels are readable, and nothing is cut off or
-covered.
+"""Tests the stage (the drawing of the list) in windows of the sizes of laptops, a large screen and a phone: labels are
+readable, and nothing is cut off or covered.
 """
 
 import pathlib
@@ -73,7 +73,7 @@ def fit(visitor, width, height):
 
 
 class Walk:
-    """Walks through the page in one window, collects everything that is wrong, and reports it at the end."""
+    """Goes through the page in a window of one size, collects all errors, and reports them at the end."""
 
     def __init__(self, visitor, size):
         self.visitor, self.least, self.faults = visitor, SIZES[size], []

@@ -1,5 +1,4 @@
-"""Tests the page for teachers: a lecture, an assignment as a single link, and the hand-ins of a class. Also tests what
-a student sees who opens the link.
+"""Tests the page for teachers: the lecture, a link to an assignment, and the hand-ins of a class. Also tests what a student who opens the link sees.
 """
 
 import json
@@ -139,7 +138,7 @@ BROKEN = "break lock #list=coarse&threads=2&quota=2&opening=3.7&s=b0.add.5,b1.ad
 
 
 def marked(number):
-    """Returns a different solution for each number: thread A first looks for keys that depend on the number."""
+    """Returns a solution of the lesson `marked-in-chain` that is different for each number: thread A first looks for keys that depend on the number."""
     return MARKED.format("".join(f"b0.contains.{1 + int(digit)},g0.2," for digit in f"{number:05b}"))
 
 

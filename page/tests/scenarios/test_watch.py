@@ -1,5 +1,5 @@
-"""Tests the bench, the part of the page that runs any schedule: single steps, keys, playing a run, printing, frames,
-and the browser's history.
+"""Tests the bench (the part of the page that runs any schedule): single steps, keys, playing a run, printing, embedding
+the page in a frame, and the browser's history.
 """
 
 
@@ -83,7 +83,7 @@ def test_keys_and_the_slider_move_through_the_run(visitor):
 
 
 def test_live_regions_say_a_sentence_once(visitor):
-    """Checks that a screen reader reads the sentence of a step once on the bench, and at most once per list in Compare."""
+    """Checks that a screen reader announces the sentence about a step once on the bench, and at most once for each list in Compare."""
     for address, key, most in (("#example=snip", "Right", 1), ("#compare", "Left", 2)):
         visitor.open(address)
         visitor.script("""window.said = []; const isLive = (it) => it?.closest("[aria-live=polite], [role=status], [role=alert], output") ?? null;

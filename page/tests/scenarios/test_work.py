@@ -1,4 +1,4 @@
-"""Tests a student's work: schedules as text, their errors, judging a run, and all examples."""
+"""Tests a student's work: editing schedules as text, the errors in schedules, judging a run, and all examples."""
 
 import json
 
@@ -134,7 +134,7 @@ def test_a_numbered_run_is_the_same_for_everyone(visitor, another):
 
 
 def test_a_slow_network(visitor):
-    """Checks that the page shows a description of itself while the engine is being loaded."""
+    """Checks that the page shows its description while the engine is being loaded."""
     visitor.go(f"{visitor.place}/slow.html#example=snip&event=3")
     assert "Two threads share one list" in visitor.text("#scene") and not visitor.is_seen("#bench")
     visitor.wait("return document.body.dataset.ready === 'yes'")

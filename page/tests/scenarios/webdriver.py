@@ -43,7 +43,7 @@ def free_port():
 
 
 def started(words, folder):
-    """Starts a process that ends together with this one. `folder` contains the settings of the new process."""
+    """Starts a process that ends when the calling process ends. `folder` contains the settings of the started process."""
     homes = {f"XDG_{it}_HOME": folder for it in ("CONFIG", "DATA", "CACHE")}
     silent = {"stdin": subprocess.DEVNULL, "stdout": subprocess.DEVNULL, "stderr": subprocess.DEVNULL}
     return subprocess.Popen([*processes.guarded(), *words], **silent, env={**os.environ, **homes})
@@ -177,7 +177,7 @@ class Browser:
         pathlib.Path(path).write_bytes(base64.b64decode(self.at.command("picture", {"full": False})))
 
     def press(self, *keys):
-        """Presses keys one after another. `Shift+Left` holds the first one down."""
+        """Presses keys one after another. A key such as `Shift+Left` means that Shift is held down while Left is pressed."""
         deeds = []
         for key in keys:
             *held, last = key.split("+") if len(key) > 1 else [key]
@@ -189,7 +189,7 @@ class Browser:
         self.at.command("act", {"actions": [{"type": "key", "id": "keys", "actions": deeds}]})
 
     def faults(self):
-        """Returns the script errors since the last call, if the browser reports them."""
+        """Returns the errors of scripts since the previous call, if the browser reports such errors."""
         if self.name != "chromium":
             return []
         return [it["message"] for it in self.at.command("log", {"type": "browser"}) if it["source"] == "javascript"]
