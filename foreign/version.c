@@ -4,7 +4,7 @@ const char *listset_version(void) { return TOLD; }
 
 unsigned listset_version_number(void) { return NUMBER; }
 
-// The numbers are the values of `listset_fault` in listset.h.
+// Returns the text of an error code. The numbers are the values of `listset_fault` in listset.h.
 const char *listset_fault_text(unsigned char fault) {
   switch (fault) {
   case 0: return "nothing is refused";
