@@ -62,7 +62,7 @@ HEADER = ["Header", "Kind", "Threads", "Quota"]  # the cause of the error, by th
 
 
 def rows():
-    """Returns the kind, text, line and cause of each text in the table."""
+    """Returns the rows of the table: for each refused text its kind, the text, and the line and cause of the error."""
     for line in TABLE.strip().splitlines():
         about, *texts = line.split(" | ")
         kind, due = about.split(": ", 1)

@@ -1075,7 +1075,7 @@ template <class Make, class Key> struct tester {
         return found.said.empty() ? passed(all) : failed(all, found, until);
     }
 
-    // Returns the verdict after the failed run `first`. Further runs end at the time `until`.
+    // Returns the verdict after the failed run `first`. Makes longer runs until the time `until`, for a clearer refusal.
     verdict failed(verdict all, const outcome &first, clock::time_point until) const {
         const auto [found, refused_of] = first.is_cut_short ? std::pair(first, std::string()) : clearest(first, until);
         found.text->is_kept = true;

@@ -133,7 +133,7 @@ function done() {
   focusOn();
 }
 
-// Stores that a part of a screen is finished. The screen is finished when all its parts are, apart from the extra ones.
+// Records that a part of a screen is finished. The screen is finished when all its parts are, apart from the optional ones.
 function keepPart({ number, at }, { id }) {
   const done = { ...keptStory().done, [`${id}.${at}`]: true };
   if (partsOf(number).every((screen) => screen.isExtra || done[`${id}.${partName(screen)}`])) done[id] = true;
