@@ -1017,7 +1017,7 @@ const OF_OWN = [
   [/^Right: in this order every reply is correct, and the calls leave the numbers of this run \(checked by a program that is proved correct\)\.$/, (it) => faultsOf(it).length === 0],
   [/^The program that made this run has the same order\.$/, (it) => it.answer.order().map(({ call }) => call.id).join() === it.places.map(({ call }) => call).join()],
   [/^The program that made this run has another order: both are right\.$/, (it) => faultsOf(it).length === 0 && it.answer.order().map(({ call }) => call.id).join() !== it.places.map(({ call }) => call).join()],
-  [/^(\S+ of [A-D]) cannot return (\S+) there: (before your first call|after (\S+ of [A-D]) in your order) the set is {(.*)}, and the call would return (\S+)\.$/,
+  [/^(\S+ of [A-D]) cannot return (\S+) there: (before the first call of your order|after (\S+ of [A-D]) in your order) the set is {(.*)}, and the call would return (\S+)\.$/,
     (it, [name, reply, , other, set, due]) => faultsOf(it).some(({ call, before, keys, answer, said }) =>
       nameIn(call) === name && said === reply && (before === null ? other === undefined : nameIn(before) === other) && keys.join(", ") === set && answer === due && due !== reply)],
   [/^(\S+ of [A-D]) does not return (\S+) in this run\.$/, (it, [name, reply]) => it.answer.order().some(({ call, reply: said }) => nameIn(call) === name && said === reply && call.reply !== said)],

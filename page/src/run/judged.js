@@ -116,7 +116,7 @@ function rightInWords(answer) {
 function faultInWords(answer, { fault, call, place, reply, set, answer: due, begun, other, ended }) {
   const named = (id) => nameOfCall(answer.exercise.calls[Number(id)]);
   if (fault === "SetReply") {
-    const before = Number(place) === 1 ? "before your first call" : `after ${named(answer.order()[Number(place) - 2].call.id)} in your order`;
+    const before = Number(place) === 1 ? "before the first call of your order" : `after ${named(answer.order()[Number(place) - 2].call.id)} in your order`;
     return `${named(call)} cannot return ${reply} there: ${before} the set is ${set}, and the call would return ${due}.`;
   }
   if (fault === "HistoryReply") return `${named(call)} does not return ${reply} in this run. Look at what its thread sees before the call returns.`;

@@ -196,7 +196,7 @@ def test_two_locks_lose_nothing_in_any_order(visitor, number, keys):
     visitor.open(f"#story={number}")
     visitor.step(keys)
     visitor.revealed()
-    assert "in any order" in visitor.text(".why b") and not visitor.is_seen(":is(.ledger .gap, .ledger .odd, .list .lost)")
+    assert "whichever call is first" in visitor.text(".why b") and not visitor.is_seen(":is(.ledger .gap, .ledger .odd, .list .lost)")
 
 
 def test_a_screen_is_finished_when_all_its_parts_are(visitor):
