@@ -597,15 +597,17 @@ function isListed(it, told) {
   return until === undefined ? !hasOrderOf(it, Number(key)) : !hasOrder(knownBy(calls, last), Number(key), opens(it, Number(key)));
 }
 
-// Decides whether at least `some` of the completed changes of refused keys have a property, and whether there are at least `all` such changes. (A key is
-// refused if no order explains its calls.) The property is that another add or remove of the same key overlaps the change (`own`), that a change of another key
-// overlaps it (`others`), or that some completed call on its key began before the first add or remove of the key had ended (`first`).
+// Decides whether `some` of `all` times that a change of a refused key was undone can have a property. (A key is refused if no order explains its calls. A change
+// can be undone several times.) The property is that another add or remove of the same key overlaps the change (`own`), that a change of another key overlaps it
+// (`others`), or that some completed call on its key began before the first add or remove of the key had ended (`first`).
 function isOfUndone(it, what, some, all, usual) {
   const hit = it.calls.filter((call) => isChange(call) && call.ended !== null && !hasOrderOf(it, call.key));
   const firstEnd = (key) => Math.min(...ofKey(it, key).filter((call) => call.operation !== "contains").map((call) => call.ended ?? LAST));
   const isFirst = (call) => ofKey(it, call.key).some((one) => one.begun <= firstEnd(call.key) && one.ended !== null);
   const isMet = { own: isSame, others: isBeside, first: (_, call) => isFirst(call) }[what];
-  return Number(some) <= Number(all) && Number(all) <= hit.length && Number(some) <= hit.filter((call) => isMet(it, call)).length && Number(usual) <= 100;
+  const [known, lacking] = [hit.some((call) => isMet(it, call)), hit.some((call) => !isMet(it, call))];
+  const areThere = (some === "0" || known) && (what === "first" || some === all || lacking);
+  return Number(some) <= Number(all) && hit.length > 0 && areThere && Number(usual) <= 100;
 }
 
 const OF_WHY = [
@@ -845,11 +847,10 @@ const OF_WHY = [
     return wrong.length >= Number(all) && wrong.filter(isMet).length >= Number(some) && Number(some) <= Number(all) && Number(usual) <= 100;
   }],
   [/^because they disagree as long as nothing changes the key$/, () => true],
-  [/^fact another add or remove of the key ran during (\d+) of (\d+) changes that were undone or reported twice \(of all changes: (\d+)%\), a change of another key during (\d+) \((\d+)%\); (\d+) were among the first calls of their key \((\d+)%\)$/, (it, [own, all, usual, others, beside, first, early]) =>
+  [/^fact (\d+) of the (\d+) times that a change was undone or reported twice, another add or remove of the key overlapped the change \(of all changes: (\d+)%\); (\d+) times, a change of another key \((\d+)%\); (\d+) times, the first calls of the key were still running \((\d+)%\)$/, (it, [own, all, usual, others, beside, first, early]) =>
     isOfUndone(it, "own", own, all, usual) && isOfUndone(it, "others", others, all, beside) && isOfUndone(it, "first", first, all, early)],
-  [/^because (another add or remove of the key|a change of another key) ran during (\d+) of (\d+) changes that were undone or reported twice \(of all changes: (\d+)%\)$/, (it, [what, some, all, usual]) =>
-    isOfUndone(it, what.startsWith("another") ? "own" : "others", some, all, usual)],
-  [/^because among the first calls of their key are (\d+) of (\d+) changes that were undone or reported twice \(of all changes: (\d+)%\)$/, (it, found) => isOfUndone(it, "first", ...found)],
+  [/^because (\d+) of the (\d+) times that a change was undone or reported twice, (another add or remove of the key overlapped the change|a change of another key overlapped the change|the first calls of the key were still running) \(of all changes: (\d+)%\)$/, (it, [some, all, what, usual]) =>
+    isOfUndone(it, what.startsWith("the first") ? "first" : what.startsWith("another") ? "own" : "others", some, all, usual)],
   [/^because after (\d+) of (\d+) successful adds the next call found the key absent$/, (it, [lost, adds]) => {
     const seen = keysOf(it).filter((key) => !hasOrderOf(it, key)).flatMap((key) => nextCallsSee(ofKey(it, key), "add"));
     return lost === adds && seen.length === Number(adds) && seen.every((isSeen) => !isSeen);

@@ -222,14 +222,20 @@ fn put_because_of_unlinks(out: &mut String, further: &Further) -> Result<(), All
 /// Writes the fact that supports `cause`, if calls at the same time undo each other.
 fn put_because_of_meets(out: &mut String, meets: &Meets, cause: Cause) -> Result<(), AllocError> {
     let (what, share) = match cause {
-        Cause::SameKey => ("another add or remove of the key ran during", meets.own),
-        Cause::OtherKeys => ("a change of another key ran during", meets.others),
-        _ => ("among the first calls of their key are", meets.first),
+        Cause::SameKey => (
+            "another add or remove of the key overlapped the change",
+            meets.own,
+        ),
+        Cause::OtherKeys => (
+            "a change of another key overlapped the change",
+            meets.others,
+        ),
+        _ => ("the first calls of the key were still running", meets.first),
     };
     let Share { count, of, usual } = share;
     writeln!(
         out,
-        "{what} {count} of {of} changes that were undone or reported twice (of all changes: {usual}%)"
+        "{count} of the {of} times that a change was undone or reported twice, {what} (of all changes: {usual}%)"
     )
 }
 

@@ -319,7 +319,7 @@ fn put_meets(out: &mut String, meets: &Meets) -> Result<(), AllocError> {
     }
     writeln!(
         out,
-        "another add or remove of the key ran during {met} of {of} changes that were undone or reported twice (of all changes: {usual}%), a change of another key during {beside} ({usually}%); {early} were among the first calls of their key ({often}%)"
+        "{met} of the {of} times that a change was undone or reported twice, another add or remove of the key overlapped the change (of all changes: {usual}%); {beside} times, a change of another key ({usually}%); {early} times, the first calls of the key were still running ({often}%)"
     )
 }
 
