@@ -113,7 +113,7 @@ def out_of_memory_at_each(program, words, refuse):
 
 
 def texts(program, room):
-    """Writes the input files, most of which are schedules with one thread. Returns a dict from each file's name to its
+    """Writes the input files. Most are schedules with one thread. Returns a dict from each file's name to its
     path.
     """
     files = {name: room / f"{name.lower()}.text" for name in ("OPENING", "ENDED", "TRIES", "CHAIN", "DRAWN")}

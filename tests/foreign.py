@@ -73,7 +73,7 @@ class InstalledLibraries:
         assert well(*words, **how) == "2000 keys are left\n"
 
     def first_judge(self, *words, **how):
-        """Runs a program in the folder foreign/first on two recordings, only one of which is linearizable, and checks
+        """Runs a program in the folder foreign/first on a recording that is linearizable and one that is not, and checks
         both verdicts.
         """
         refused = (TOP / "examples" / "recorders" / "both-true.calls").read_text()

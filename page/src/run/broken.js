@@ -1,4 +1,4 @@
-// Broken lists, each of which lacks one check. A run breaks its list if neither the order of the linearization points nor any other order explains the calls.
+// Broken lists. Each list lacks one check. A run breaks its list if neither the order of the linearization points nor any other order explains the calls.
 // (Proved programs decide both.)
 import { LACKING } from "../../made/classics.js";
 import { readReport, readVerdict } from "../engine/answers.js";
