@@ -49,8 +49,8 @@ impl Model for Oracle {
 }
 
 impl Oracle {
-    /// Returns the empty set for `threads` threads, each of which can make `quota` successful adds. Accepts any
-    /// numbers. Allocates a counter for each thread. Returns `AllocError` if an allocation fails.
+    /// Returns the empty set for `threads` threads. Each thread can make `quota` successful adds. Accepts any numbers.
+    /// Allocates a counter for each thread. Returns `AllocError` if an allocation fails.
     pub fn new(alloc: Global, threads: u32, quota: u32) -> Result<Oracle, AllocError>
         ensures { IfOk result (λ o. o ≡ set_opened (empty threads quota)) }
     {

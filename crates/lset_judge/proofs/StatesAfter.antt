@@ -48,7 +48,7 @@ pub left_alike : (ev other : ℕ → Event) (b left : Bool) (last : ℕ) → ((j
     → may_leave ev b left last ≡ may_leave other b left last
 left_alike ev other b left last same = ap (λ (o : Option State). is_some (stepped last (leaves left) o)) (same_after ev other b last same)
 
--- ---- Lemmas about the calls on key k, none of which starts or ends after moment T
+-- ---- Lemmas about the calls on key k. No call starts or ends after moment T
 
 module _ (calls : List CallRecord) (T : ℕ) (behind : latest_moment calls ≤ T) (k : ℕ) (opens : Bool) where
   abbrev event : ℕ → Event

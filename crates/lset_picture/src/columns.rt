@@ -149,7 +149,8 @@ pub(crate) fn put_call(out: &mut String, call: Call) -> Result<(), AllocError> {
     write!(out, "{word} {key}")
 }
 
-/// Appends a sign. After each sign except the end of a call, the call's bar continues with `-`.
+/// Appends a sign: `[add 5-` for a start, `*-` for a call that takes effect and changes the set, `o-` for a call that
+/// takes effect without a change, and `true] ` or `false] ` for an end. The call's bar continues with `-` until the end.
 fn put_sign(out: &mut String, sign: Sign) -> Result<(), AllocError> {
     match sign {
         Sign::Begin(call) => {

@@ -1,7 +1,7 @@
--- Proofs by two explicit runs, in each of which two threads hinder each other forever. In the first run, two threads
--- add keys to a broken list without locks, which is therefore not lock-free. In the second run, one thread adds a key
--- to a broken list with locks, and the other thread removes a key. The broken list with locks is therefore free neither
--- from livelock nor from deadlock.
+-- Proofs by two explicit runs. In each run, two threads hinder each other forever. In the first run, two threads add
+-- keys to a broken list without locks. Therefore this list is not lock-free. In the second run, one thread adds a key
+-- to a broken list with locks, and the other thread removes a key. Therefore this list is free neither from livelock
+-- nor from deadlock.
 use Rattle.std.specs.Prelude.{◌≡◌, ℕ, ◌<◌, Bool, List, [], ◌∷◌, refl}
 use Rattle.std.proofs.Common.{arith, zero, suc}
 use Rattle.lset_words.specs.declared.Call.TheVariants.{Add, Remove}

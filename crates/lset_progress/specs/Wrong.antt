@@ -1,4 +1,4 @@
--- [Wrong machines]: broken lists, each of which has one or two wrong rows in its step table and breaks a law of
+-- [Wrong machines]: broken lists. Each broken list has one or two wrong rows in its step table, and breaks a law of
 -- progress.
 use Rattle.std.specs.Prelude.{ℕ, ◌+◌, ◌*◌, if◌then◌else◌, ◌==◌, Bool, Option, Some, None}
 use Rattle.lset_words.specs.declared.Call.{Call}

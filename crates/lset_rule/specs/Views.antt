@@ -42,7 +42,7 @@ pub record Stands (m : Table) (v : View) : Type 0 where
   pub others : AreIdle (at_end m v.shape v.seen) v.thread v.past v.others
   pub in_range : (t : ℕ) → HasThread v t → t < v.shape.threads
   -- The record of calls belongs to the thread that makes the calls of the seat (one thread's access to the set). The
-  -- seat's record and the records that were merged into it belong to different threads, all of which the seat has.
+  -- seat's record and the records that were merged into it belong to different threads. The seat has all these threads.
   pub of_thread : root v.past ≡ v.thread
   pub apart : Apart v.past
   pub named : (u : ℕ) → IsIn u v.past → HasThread v u

@@ -24,7 +24,7 @@ impl Model for Opened {
 }
 
 impl Opened {
-    /// Returns the parameters of a set that opens with the keys `keys` and `threads` threads, each of which may make
+    /// Returns the parameters of a set that opens with the keys `keys` and `threads` threads. Each thread can make
     /// `quota` successful adds.
     pub fn new(threads: u32, quota: u32, keys: Vec<u32>) -> Opened
         ensures { result ≡ record { threads = threads; quota = quota; keys = keys.items } }

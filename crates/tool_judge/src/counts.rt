@@ -164,7 +164,7 @@ fn put_backs(out: &mut String, count: &Count) -> Result<(), AllocError> {
 
 /// Writes the three lines of a contradiction by counting. Line 1 lists the calls that need the key in one state. Line 2
 /// states how many times the key must change back between the calls of line 1. Line 3 lists the calls that could have
-/// changed the key back, of which there are too few. Shortens long lists of calls. Allocates.
+/// changed the key back. There are too few of these calls. Shortens long lists of calls. Allocates.
 pub fn put_count(out: &mut String, count: &Count) -> Result<(), AllocError> {
     write!(out, "contradiction: ")?;
     put_calls(out, count)?;

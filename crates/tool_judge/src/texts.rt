@@ -130,7 +130,7 @@ fn end_of(clash: Option<Clash>) -> Option<u64> {
 fn later_note(alloc: Global, refusal: Refusal, clash: Option<Clash>) -> Result<String, AllocError> {
     match (refusal.moment, end_of(clash)) {
         (Some(moment), Some(end)) if moment < end => format!(in alloc;
-            "  (this contradiction ends after moment {moment}; among the calls up to {moment}, no two contradicting ones were found)\n"
+            "  (the calls up to moment {moment} already have no order, but no two of them were found to contradict each other)\n"
         ),
         _ => Ok(String::new(alloc)),
     }

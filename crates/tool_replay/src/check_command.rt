@@ -11,9 +11,9 @@ use std::alloc::Global;
 use std::io::{Read, Write};
 use tool_base::{Answer, Input, Tool, Trouble, run_tool};
 
-/// Returns the line that `check` prints for an order with the error `fault`: `refused`, the name of the error and,
-/// except for `WrongSet`, the call's number. Returns `Memory` if an allocation fails, or if `fault` itself is a failed
-/// allocation.
+/// Returns the line that `check` prints for an order with the error `fault`: `refused`, the name of the error (such as
+/// `WrongReply`) and, except for `WrongSet`, the call's number. Returns `Memory` if an allocation fails, or if `fault`
+/// itself is a failed allocation.
 fn refusal_text(alloc: Global, fault: OrderFault) -> Result<Vec<u8>, Trouble>
     ensures of_the_order { OnOk result (fault ≢ order.Memory) }
     ensures line { IfOk result (λ text. text.items ≡ refusal_text fault) }
