@@ -1,5 +1,10 @@
-//! Facts about a refused recording: no order explains its calls. The message and the likely cause are derived from
-//! these facts.
+//! Collects the facts about a recording that is not linearizable. The sentences of a diagnosis and the likely cause are
+//! derived from these facts.
+//!
+//! A contradiction (type `Place`): a call leaves its key in one state (present or absent), a later call on the key
+//! needs the other state, and no change of the key can have come between. A loss of a key is a contradiction in which a
+//! present key became absent without a `remove` that returned true. A return is one in which an absent key became
+//! present without an `add` that returned true. A moment is a time in the recording.
 
 use crate::meets::{Meets, meets_of};
 use crate::odd_facts::{Odd, find_odd, places_of_odd};
@@ -11,57 +16,78 @@ use tool_calls::{
     bound_of, longest_split, merged_keys, places_of,
 };
 
-/// The facts that determine the likely cause.
+/// The facts about a recording that is not linearizable, as far as most likely causes need them.
 #[derive(Clone, Copy)]
 pub struct Evidence {
-    /// Two refused keys: the calls on each key have no order, but all of them have one if they are taken as calls on
-    /// one key.
+    /// Two keys that the set seems to treat as one: the calls on each key are not linearizable, but the calls on both,
+    /// taken as calls on one key, are. `None` if no such keys were found.
     pub merged: Option<(u32, u32)>,
+    /// The facts about the operation that alone is wrong: without its completed calls that changed nothing, all calls
+    /// are linearizable. `None` if there is no such operation.
     pub odd: Option<Odd>,
+    /// Counts of the contradictions of all keys. All counts are 0 if one operation alone is wrong.
     pub tally: Tally,
+    /// How wrong answers depend on the calling thread, and on replies to other threads. A wrong answer is the wrong
+    /// reply of a call that changed nothing.
     pub patterns: Patterns,
-    /// The calls at the same time as undone changes. Has no cases if one operation alone is wrong.
+    /// Which other calls ran during the changes that contradictions undo. All counts are 0 if one operation alone is
+    /// wrong.
     pub meets: Meets,
+    /// A split is a period without a change of a key, in which calls alternately found the key present and absent. This
+    /// is the split with the most calls. `None` if no key has a split, or if one operation alone is wrong.
     pub split: Option<Split>,
-    /// Two keys that undo each other's changes.
+    /// Two keys that undo each other's changes: nearly all undone changes of the first key overlapped a change of the
+    /// second. `None` if no such keys were found, or if one operation alone is wrong.
     pub bound: Option<Bound>,
-    /// The number of keys of the recording.
+    /// The number of keys of the recording, including opening and final keys without calls.
     pub keys: u64,
     /// The number of calls of the recording.
     pub calls: u64,
-    /// Whether these are only the first calls of a longer recording.
+    /// Whether the recording has only the first calls of a longer recording.
     pub is_part: bool,
-    /// Whether the calls on the smallest key have an order, and the calls on at least two other keys have none.
+    /// Whether the calls on the smallest key are linearizable, and the calls on at least two other keys are not. False
+    /// if the smallest key has less than half as many calls as the smallest of those keys.
     pub is_first_spared: bool,
-    /// The difference between the largest and the smallest key.
+    /// The largest key of the recording minus the smallest key.
     pub span: u32,
 }
 
-/// If at least this many contradictions were found, the remaining refused keys are left out.
+/// If at least this many contradictions were found, the keys that were not searched yet are left out. The limit keeps
+/// the memory for contradictions small.
 const MOST_PLACES: usize = 20_000;
 
-/// The results of the search in a recording: the contradictions (`places`), and the operation that alone is wrong. If
-/// there is no such operation, also the counts of the contradictions, and the longest split (a period without a change
-/// of a key, although calls disagree about the key).
+/// The results of the search for contradictions in a recording that is not linearizable.
 #[derive(Drop)]
 pub struct Found {
+    /// If one operation alone is wrong, contradictions between its wrong answers and the other calls, at most 400.
+    /// Otherwise the contradictions of all keys that were searched.
     pub places: Vec<Place>,
-    /// The first wrong answer of the operation that alone is wrong.
+    /// The wrong answer that ended first on the smallest key with wrong answers, if one operation alone is wrong.
+    /// Otherwise `None`.
     pub wrong: Option<Made>,
+    /// The facts about the operation that alone is wrong: without its completed calls that changed nothing, all calls
+    /// are linearizable. `None` if there is no such operation.
     pub odd: Option<Odd>,
+    /// Counts of the contradictions. All counts are 0 if one operation alone is wrong.
     pub tally: Tally,
+    /// A split is a period without a change of a key, in which calls alternately found the key present and absent. This
+    /// is the split with the most calls. `None` if no key has a split, or if one operation alone is wrong.
     pub split: Option<Split>,
+    /// How many keys have a partner (another key with changes that overlap nearly all undone changes of the key), and
+    /// the best pair. Empty if one operation alone is wrong.
     pub bound: BoundKeys,
 }
 
-/// Only losses of keys that last at most this many moments are compared with removes of other keys. During a longer
-/// loss, a remove of another key can run by chance.
+/// Some counts consider only losses of keys that last at most this many moments (times in the recording). During a
+/// longer loss, any other call can run by chance.
 const MOST_MOMENTS: u64 = 200;
 
-/// If a recording has fewer losses than this, the losses are not compared with the number of keys present.
+/// Losses of keys are compared with the number of keys present at that time only if there are at least this many
+/// losses, and no returns of keys. Fewer losses can agree by chance.
 const LEAST_LOST: u64 = 10;
 
-/// Returns the losses and returns of keys that a call shows, ordered by time.
+/// Returns the losses and returns of keys among contradictions, ordered by begin. Leaves out those that only the final
+/// keys show, not a later call.
 fn gone_of(alloc: Global, places: &[Place]) -> Result<Vec<Place>, AllocError> {
     let mut gone = Vec::new(alloc);
     for place in places {
@@ -73,7 +99,7 @@ fn gone_of(alloc: Global, places: &[Place]) -> Result<Vec<Place>, AllocError> {
     Ok(gone)
 }
 
-/// Returns the contradictions that have this symptom.
+/// Returns the contradictions of one kind (symptom), for example losses, in the given order.
 fn of_symptom(alloc: Global, places: &[Place], symptom: Symptom) -> Result<Vec<Place>, AllocError> {
     let mut found = Vec::new(alloc);
     for place in places {
@@ -84,7 +110,8 @@ fn of_symptom(alloc: Global, places: &[Place], symptom: Symptom) -> Result<Vec<P
     Ok(found)
 }
 
-/// Returns the contradictions that a call shows and that one wrong reply explains, ordered by time.
+/// Returns the contradictions that would not exist if one call had returned the opposite reply, ordered by begin.
+/// Leaves out those that only the final keys show.
 fn replies_of(alloc: Global, places: &[Place]) -> Result<Vec<Place>, AllocError> {
     let mut found = Vec::new(alloc);
     for place in places {
@@ -97,7 +124,7 @@ fn replies_of(alloc: Global, places: &[Place]) -> Result<Vec<Place>, AllocError>
     Ok(found)
 }
 
-/// Returns the losses of keys that a call shows within `MOST_MOMENTS`.
+/// Returns the losses of keys in `gone` that last at most `MOST_MOMENTS`, in the given order.
 fn losses_of(alloc: Global, gone: &[Place]) -> Result<Vec<Place>, AllocError> {
     let mut losses = Vec::new(alloc);
     for place in gone {
@@ -109,8 +136,9 @@ fn losses_of(alloc: Global, gone: &[Place]) -> Result<Vec<Place>, AllocError> {
     Ok(losses)
 }
 
-/// Returns whether the first of these contradictions begins at or before the moment of the refusal: already the key's
-/// calls up to this moment have no order. The contradictions must be ordered by time.
+/// Returns whether the first contradiction of a key begins at or before the moment in `refused`: the first moment such
+/// that the key's calls up to this moment are not linearizable. `places` are the contradictions of the key, ordered by
+/// time. Returns false if there are none.
 fn has_first(places: &[Place], refused: Refused) -> bool {
     match places.first() {
         Some(place) => place.clash.begun() <= refused.moment,
@@ -118,7 +146,8 @@ fn has_first(places: &[Place], refused: Refused) -> bool {
     }
 }
 
-/// Adds the contradictions of a refused key.
+/// Adds the contradictions and counts of a key with calls that are not linearizable to `found`. `key` has the calls on
+/// the key, and `neighbours` the completed changes of all keys.
 fn add_key(
     alloc: Global,
     found: &mut Found,
@@ -143,7 +172,7 @@ fn add_key(
     Ok(())
 }
 
-/// Adds the counts that depend on the contradictions of all keys.
+/// Adds the counts that depend on the contradictions of all keys. All keys must have been added by `add_key`.
 fn add_all(
     alloc: Global,
     found: &mut Found,
@@ -169,7 +198,8 @@ fn add_all(
     Ok(())
 }
 
-/// Returns the contradictions of all refused keys, with their counts.
+/// Returns the contradictions of all keys, with their counts. `refused` are the keys with calls that are not
+/// linearizable.
 fn places_of_all(
     alloc: Global,
     runs: &Runs<'_>,
@@ -196,7 +226,8 @@ fn places_of_all(
     Ok(found)
 }
 
-/// Returns the split with the larger number of answers.
+/// Returns the split (a period without a change of a key, in which calls disagree about the key) with the larger number
+/// of calls, or `one` if both have the same number.
 fn larger_split(one: Option<Split>, two: Option<Split>) -> Option<Split> {
     let (Some(first), Some(second)) = (one, two) else {
         return one.or(two);
@@ -208,8 +239,10 @@ fn larger_split(one: Option<Split>, two: Option<Split>) -> Option<Split> {
     }
 }
 
-/// Returns the contradictions of the wrong answers if one operation alone is wrong. Otherwise returns the
-/// contradictions of all refused keys.
+/// Searches a recording for contradictions. If one operation alone is wrong, returns only contradictions between its
+/// wrong answers and the other calls. Otherwise returns the contradictions of all keys, but leaves out keys after
+/// 20,000 contradictions (`MOST_PLACES`). `refused` are the keys with calls that are not linearizable, in increasing
+/// order; `neighbours` has the completed changes of all keys. Fails only if an allocation fails. Allocates.
 pub fn find_all(
     alloc: Global,
     runs: &Runs<'_>,
@@ -232,7 +265,9 @@ pub fn find_all(
     })
 }
 
-/// Returns the facts that determine the likely cause. `keys` are all keys of the recording. Allocates.
+/// Returns the facts from which the likely cause is chosen. `keys` are all keys of the recording, and `refused` are
+/// those with calls that are not linearizable, both in increasing order. `found` is the result of `find_all`;
+/// `neighbours` has the completed changes of all keys. Fails only if an allocation fails. Allocates.
 pub fn evidence_of(
     alloc: Global,
     runs: &Runs<'_>,
@@ -260,7 +295,7 @@ pub fn evidence_of(
     })
 }
 
-/// Returns the difference between the largest and the smallest key. `keys` must be in increasing order.
+/// Returns the largest key minus the smallest key; 0 if there are no keys. `keys` must be in increasing order.
 fn span_of(keys: &[u32]) -> u32 {
     match (keys.first(), keys.last()) {
         (Some(first), Some(last)) => last.saturating_sub(*first),
@@ -268,8 +303,9 @@ fn span_of(keys: &[u32]) -> u32 {
     }
 }
 
-/// Returns whether the calls on the smallest key have an order, and at least two other keys are refused, although the
-/// smallest key has at least half as many calls as the first refused key.
+/// Returns whether the calls on the smallest key are linearizable, and the calls on at least two other keys are not.
+/// Returns false if the smallest key has less than half as many calls as the first key in `refused`: few calls can be
+/// linearizable by chance.
 fn is_first_spared(runs: &Runs<'_>, keys: &[u32], refused: &[Refused]) -> bool {
     let (Some(first), Some(hit)) = (keys.first(), refused.first()) else {
         return false;

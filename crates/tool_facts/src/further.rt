@@ -1,4 +1,8 @@
-//! Further facts about a refused recording, which only some likely causes need.
+//! Further facts about a recording that is not linearizable, which only some likely causes need.
+//!
+//! An answer is a completed call that changed nothing: a `contains`, or an `add` or `remove` that returned false. One
+//! operation alone is wrong if all calls except its answers are linearizable. An answer is wrong if it contradicts
+//! these calls. A moment is a time in the recording.
 
 use crate::evidence::Found;
 use crate::odd::is_answer;
@@ -10,22 +14,27 @@ use tool_calls::{
     stretches_of,
 };
 
-/// How many cases have a property, and the percentage of comparable cases that have it.
+/// How many cases have a property, and how often comparable cases have the property. All numbers are 0 if nothing was
+/// counted.
 #[derive(Clone, Copy, Default)]
 pub struct Share {
+    /// The number of cases with the property.
     pub count: u64,
+    /// The number of all cases, with and without the property.
     pub of: u64,
+    /// The percentage of comparable cases with the property: 100 if there are none, 0 before `against` sets it.
     pub usual: u64,
 }
 
 impl Share {
-    /// Counts a case.
+    /// Counts a case; `is_so` says whether the case has the property. Does not allocate.
     pub fn add(&mut self, is_so: bool) {
         more(&mut self.of);
         self.count = self.count.saturating_add(u64::from(is_so));
     }
 
-    /// Returns this share with the percentage of another share, or with 100 if the other share has no cases.
+    /// Returns this share with the percentage of `other` as `usual`: the share of the comparable cases. The percentage
+    /// is 100 if `other` has no cases. Does not allocate.
     pub fn against(self, other: Share) -> Share {
         let usual = other.count.saturating_mul(100).checked_div(other.of);
         Share {
@@ -35,54 +44,61 @@ impl Share {
     }
 }
 
-/// Further facts about a refused recording.
+/// Further facts about a recording that is not linearizable. Facts that do not apply are 0 or `None`.
 #[derive(Clone, Copy, Default)]
 pub struct Further {
-    /// The first moment such that some key's calls up to this moment have no order.
+    /// The first moment such that some key's calls up to this moment are not linearizable; `NEVER` if only final keys
+    /// contradict the calls. 0 if `contains` or `remove` alone is wrong.
     pub moment: u64,
-    /// If only `add` is wrong: the removes that its checked wrong answers did not see, and how many of these overlap a
-    /// successful remove of another key.
+    /// The removes that wrong answers of `add` did not see, and how many of these overlap a `remove` of another key
+    /// that returned true. No cases unless `add` alone is wrong. `usual` is always 0.
     pub unseen: Share,
-    /// If only `add` is wrong, and each wrong answer is checked: how many wrong answers another call outlasts. The
-    /// other call begins earlier and ends later. Comparable are the other answers of `add`.
+    /// The wrong answers of `add`, and how many of these another call outlasts: the other call begins earlier and ends
+    /// later. Comparable are the right answers of `add`. No cases unless `add` alone is wrong and a contradiction was
+    /// kept for each wrong answer.
     pub outlasted: Share,
-    /// The two wrong replies of the only two contradictions, if they are of overlapping calls, of two threads and two
-    /// keys, and each is the reply that was expected of the other.
+    /// Two overlapping calls of different threads that seem to have returned each other's replies. Only if the
+    /// recording has exactly two contradictions, on different keys: each of the two calls has a wrong reply in one of
+    /// them, and the two replies differ.
     pub swap: Option<(Made, Made)>,
-    /// The numbers of keys, if many keys are added during the recording.
+    /// The numbers of keys, if many keys are added during the recording. `None` if not, or if one operation alone is
+    /// wrong.
     pub growth: Option<Growth>,
 }
 
-/// The numbers of keys of a recording that adds many keys.
+/// The numbers of keys in a recording during which many keys are added.
 #[derive(Clone, Copy)]
 pub struct Growth {
-    /// The first moment such that some key's calls have no order.
+    /// The first moment such that some key's calls up to this moment are not linearizable.
     pub moment: u64,
     /// The number of opening keys.
     pub from: u64,
-    /// The number of keys that are known to be present after all calls.
+    /// The number of keys that are known to be present at the end: the last completed call on the key left it present,
+    /// or an opening key has no completed calls.
     pub to: u64,
-    /// The number of keys with a call before `moment` and a call after it.
+    /// The number of keys that are in use at `moment`: calls on the key begin before `moment` and end after it.
     pub active: u64,
 }
 
-/// Returns whether a call is an add or remove that returned false, overlaps a change, and found the state before the
-/// change.
+/// Returns whether `call` is an `add` or `remove` that returned false, overlaps the change `change`, and found the
+/// state before this change. Both must be calls on the same key. Does not allocate.
 pub fn is_refusal_during(call: Made, change: Made) -> bool {
     let is_refusal = call.reads() && call.operation != Operation::Contains;
     let is_met = call.begun < change.ended && change.begun < call.ended;
     is_refusal && is_met && call.needs() == change.makes().map(other)
 }
 
-/// Returns the remove that a wrong answer of `add` did not see. Returns `None` if two removes of the key overlap, since
-/// either can have taken effect last.
+/// Returns the `remove` that `answer`, a wrong answer of `add`, did not see: the last `remove` of the key that returned
+/// true and had begun before `answer`. Returns `None` if there is none, if it had not ended, or if an earlier `remove`
+/// overlaps it: either of the two can have taken effect last. `key` has all calls on the key.
 fn unseen_by(key: &KeyCalls, answer: Made) -> Option<Made> {
     let remove = key.change_before(Presence::Absent, answer.begun)?;
     let is_last = key.no_change_runs(Presence::Absent, remove.begun);
     (remove.ended < answer.begun && is_last).then_some(remove)
 }
 
-/// Returns the removes that the wrong answers of `add` did not see, each counted once if its answers follow one another.
+/// Returns the removes that the wrong answers of `add` did not see, and how many of them overlap a `remove` of another
+/// key. A `remove` is counted once for wrong answers that follow one another.
 fn unseen_of(runs: &Runs<'_>, found: &Found, neighbours: &Neighbours) -> Result<Share, AllocError> {
     let mut unseen = Share::default();
     let mut last: Option<Made> = None;
@@ -101,7 +117,8 @@ fn unseen_of(runs: &Runs<'_>, found: &Found, neighbours: &Neighbours) -> Result<
     Ok(unseen)
 }
 
-/// Returns the call of a contradiction that was expected to return the opposite reply.
+/// Returns a call of a contradiction that was expected to return the opposite reply: the calls that begin before its
+/// end are not linearizable, but would be with the opposite reply. Returns `None` if there is no such call.
 fn expected_in(alloc: Global, runs: &Runs<'_>, place: &Place) -> Result<Option<Made>, AllocError> {
     let key = runs.calls_of(place.key)?;
     let stretches = stretches_of(alloc, &key)?;
@@ -114,8 +131,9 @@ fn expected_in(alloc: Global, runs: &Runs<'_>, place: &Place) -> Result<Option<M
     Ok(None)
 }
 
-/// Returns the two wrong replies of the only two contradictions, if they are of overlapping calls, of two threads and
-/// two keys, and each is the reply that was expected of the other.
+/// Returns two overlapping calls of different threads that seem to have returned each other's replies. Returns `None`
+/// unless the recording has exactly two contradictions, on different keys, each with a call that was expected to return
+/// the reply of the other.
 fn swap_of(
     alloc: Global,
     runs: &Runs<'_>,
@@ -142,7 +160,7 @@ fn swap_of(
     Ok(is_swap.then_some((one, two)))
 }
 
-/// Returns the begins of the wrong answers in increasing order, each once.
+/// Returns the begins of the wrong answers among contradictions, in increasing order, each once.
 fn begins_of_wrong(alloc: Global, found: &Found) -> Result<Vec<u64>, AllocError> {
     let mut begins = Vec::new(alloc);
     for answer in found.places.iter().filter_map(|place| place.wrong) {
@@ -153,8 +171,9 @@ fn begins_of_wrong(alloc: Global, found: &Found) -> Result<Vec<u64>, AllocError>
     Ok(begins)
 }
 
-/// Returns how many wrong answers, and what percentage of the other answers, another call outlasts. `calls` must be
-/// ordered by begin.
+/// Returns how many wrong answers of the operation another call outlasts (it begins earlier and ends later), and the
+/// percentage of right answers that a call outlasts. Returns no cases unless `found` has a contradiction for each wrong
+/// answer. `calls` must be ordered by begin.
 fn outlasted_of(
     alloc: Global,
     calls: &[Made],
@@ -179,17 +198,20 @@ fn outlasted_of(
     Ok(wrong.against(others))
 }
 
-/// Many keys are added only if the recording has at least this many keys.
+/// `growth_of` returns `None` if the recording has fewer keys than this: with few keys, a table that grows is an
+/// unlikely cause.
 const MANY_KEYS: usize = 64;
 
-/// Many keys are added only if at least this many keys are known to be present after all calls.
+/// `growth_of` returns `None` if fewer keys than this are known to be present after all calls: the set then has hardly
+/// grown.
 const LEAST_PRESENT: u64 = 32;
 
-/// Many keys are added only if at least this many keys are in use at the same time.
+/// `growth_of` returns `None` if fewer keys than this are in use at the given moment: a table that grows can only lose
+/// changes of keys in use.
 const LEAST_ACTIVE: u64 = 8;
 
-/// Returns whether a key has a call that began before a moment, and a call that ended after it. `calls` must be ordered
-/// by begin.
+/// Returns whether a key is in use at a moment: the first of its calls begins before the moment, and the last ends
+/// after it. `calls` are the calls on the key, ordered by begin.
 fn is_active(calls: &[Made], moment: u64) -> bool {
     match (calls.first(), calls.last()) {
         (Some(first), Some(last)) => first.begun < moment && moment < last.ended,
@@ -197,8 +219,9 @@ fn is_active(calls: &[Made], moment: u64) -> bool {
     }
 }
 
-/// Returns the numbers of keys if many keys are added: at least four times as many as the opening keys, and many of
-/// them are in use at `moment`.
+/// Returns the numbers of keys if many keys are added: after all calls, at least four times as many keys as the opening
+/// keys are known to be present, and many keys are in use at `moment`. Returns `None` otherwise. `keys` are all keys of
+/// the recording.
 fn growth_of(
     alloc: Global,
     runs: &Runs<'_>,
@@ -225,8 +248,9 @@ fn growth_of(
     Ok((is_large && active >= LEAST_ACTIVE).then_some(growth))
 }
 
-/// Returns the further facts about a refused recording. `keys` are all keys of the recording. `moment` is the first
-/// moment such that some key's calls up to it have no order. Allocates.
+/// Returns the further facts about a recording that is not linearizable. `keys` are all keys of the recording. `moment`
+/// is the first moment such that some key's calls up to this moment are not linearizable. `found` is the result of
+/// `find_all`; `neighbours` has the completed changes of all keys. Fails only if an allocation fails. Allocates.
 pub fn further_of(
     alloc: Global,
     runs: &Runs<'_>,

@@ -1,25 +1,30 @@
-//! Writes a recording of one key: all calls on the key or, if they are not linearizable, a few calls that are not
-//! linearizable either.
+//! Writes a recording of one key, taken from a larger recording: all calls on the key or, if these are not
+//! linearizable, a few of them that are not linearizable either.
 
 use lset_words::Presence;
 use std::alloc::{AllocError, Global};
 use tool_calls::{Made, NEVER, Recorded, failing_moment, has_order, put_call};
 
-/// A part of a key's calls is small enough if it has at most this many calls.
+/// A part (consecutive calls on a key) with at most this many calls is short enough to read. Short parts are tried
+/// first.
 const ENOUGH: usize = 16;
 
-/// How many calls are tried as the first call of a part: this many of the last calls, and this many earlier calls.
+/// The maximum number of calls that are tried as the first call of a part: each attempt judges all earlier calls on the
+/// key again. Applies separately to the last `ENOUGH` calls and to the earlier calls.
 const MOST_TRIED: usize = 64;
 
-/// Consecutive calls on a key, with the key's state before these calls and, if known, its final state.
+/// A part of a key's calls: consecutive calls, in the order of their begins.
 #[derive(Clone, Copy)]
 struct Part<'a> {
     calls: &'a [Made],
+    /// The key's state (present or absent) before the first of these calls.
     opening: Presence,
+    /// The key's state after the last of these calls; `None` if unknown.
     left: Option<Presence>,
 }
 
-/// Returns the indices of calls that begin while no other call on the key is pending.
+/// Returns the indices of the calls that begin while no other call on the key is pending. Only such a call can be the
+/// first call of a part. `calls` are the calls on one key, ordered by begin.
 fn quiet_starts(alloc: Global, calls: &[Made]) -> Result<Vec<usize>, AllocError> {
     let mut starts = Vec::new(alloc);
     let mut latest = 0;
@@ -32,8 +37,9 @@ fn quiet_starts(alloc: Global, calls: &[Made]) -> Result<Vec<usize>, AllocError>
     Ok(starts)
 }
 
-/// Returns the presence of the key after some calls, if all orders of the calls agree on it. Returns `None` if the key
-/// can be present or absent, or if the calls have no order.
+/// Returns the key's state after some calls on the key, if the state is certain: all linearizations of the calls agree.
+/// Returns `None` if the key can be present or absent, or if the calls are not linearizable. `opening` is the key's
+/// state before the calls.
 fn only_state(
     alloc: Global,
     calls: &[Made],
@@ -48,7 +54,8 @@ fn only_state(
     })
 }
 
-/// Returns the part that starts at index `first`, if the key's state before that call is known.
+/// Returns the calls of `whole` from index `first` on as a part. Returns `None` if the key's state before call `first`
+/// is not certain.
 fn part_from<'a>(
     alloc: Global,
     whole: Part<'a>,
@@ -67,8 +74,9 @@ fn part_from<'a>(
     }))
 }
 
-/// Returns a smaller part that is not linearizable, or the whole part if no such part is found. Tries the last calls as
-/// the first call of the part, then earlier calls.
+/// Returns the last calls of `whole`, from a call before which the key's state is certain. `whole` must not be
+/// linearizable; the returned part then is not linearizable either. The calls among the last `ENOUGH` are tried first,
+/// then earlier calls, the latest first. Returns `whole` if no call fits.
 fn small_part<'a>(alloc: Global, whole: Part<'a>) -> Result<Part<'a>, AllocError> {
     let starts = quiet_starts(alloc, whole.calls)?;
     let few = whole.calls.len().saturating_sub(ENOUGH);
@@ -92,7 +100,8 @@ fn small_part<'a>(alloc: Global, whole: Part<'a>) -> Result<Part<'a>, AllocError
     Ok(whole)
 }
 
-/// Returns a part of a key's calls as a recording.
+/// Returns a part of a key's calls as the text of a recording. The last line is `cut` if the final state of the key is
+/// unknown, otherwise `end`.
 fn text_of(alloc: Global, key: u32, part: Part<'_>) -> Result<String, AllocError> {
     let mut out = String::from_str(alloc, "listset-calls 1\n")?;
     if part.opening == Presence::Present {
@@ -114,9 +123,9 @@ fn text_of(alloc: Global, key: u32, part: Part<'_>) -> Result<String, AllocError
     Ok(out)
 }
 
-/// Returns the recording of a key's calls. If the calls are not linearizable, returns only a part that is not
-/// linearizable either. Returns `None` if the key has no calls, and its final state is its opening state or unknown.
-/// Allocates.
+/// Returns the text of a recording that has only calls on `key`, taken from `recorded`. If the calls on the key are not
+/// linearizable, the text has only some of them, which are not linearizable either. Returns `None` if the key has no
+/// calls, and its final state is its opening state or unknown. Fails only if an allocation fails. Allocates.
 pub fn recording_of_key(
     alloc: Global,
     recorded: &Recorded,

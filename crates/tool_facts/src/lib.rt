@@ -1,6 +1,7 @@
-//! Facts about a recording that no order explains: calls that contradict each other, the operation that is wrong and
-//! how often, and the calls that ran at the same time. All facts follow from the calls of the recording. None of them
-//! decides the verdict.
+//! Facts about a recording that is not linearizable. A recording lists calls of a concurrent set (`add`, `remove`,
+//! `contains`), each with its key, thread, begin, end and reply. The facts are the contradictions between calls on a
+//! key, the operation that alone is wrong, and the calls that ran at the same time. All facts are computed from the
+//! calls; none affects the verdict. The crate `tool_guess` chooses a likely cause from the facts.
 #![tactic(auto)]
 
 mod causes;

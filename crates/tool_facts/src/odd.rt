@@ -1,5 +1,7 @@
-//! Finds the operation that alone is wrong: without its answers (its calls that changed nothing), all calls are
-//! linearizable.
+//! Decides whether one operation alone is wrong, and finds its wrong answers. An answer is a completed call that
+//! changed nothing: a `contains`, or an `add` or `remove` that returned false. An operation alone is wrong if the
+//! recording is not linearizable, but all calls except the answers of this operation are. An answer is then wrong if
+//! these calls are not linearizable with this one answer added.
 
 use crate::stream_calls::stream_call;
 use lset_judge::{Judge, StreamFault, Verdict};
@@ -7,12 +9,13 @@ use lset_words::{Presence, increases};
 use std::alloc::{AllocError, Global};
 use tool_calls::{KeyState, Made, NEVER, Operation, Pending, Recorded, has_order};
 
-/// Returns `true` if a call is an answer of this operation: it has ended and changed nothing.
+/// Returns `true` if a call is an answer of `operation`: a completed call that changed nothing. Does not allocate.
 pub fn is_answer(call: Made, operation: Operation) -> bool {
     call.operation == operation && call.reads()
 }
 
-/// Returns a key's calls without the answers of an operation.
+/// Returns the calls on a key except the answers of `operation` (its completed calls that changed nothing). Fails only
+/// if an allocation fails. Allocates.
 pub fn without(
     alloc: Global,
     calls: &[Made],
@@ -27,7 +30,9 @@ pub fn without(
     Ok(others)
 }
 
-/// Returns `true` if a key's calls are linearizable without the answers of an operation. Allocates.
+/// Returns `true` if the calls on a key, except the answers of `operation` (its completed calls that changed nothing),
+/// are linearizable. `opening` is the key's state before the calls. `left` is the state after the calls; if `None`,
+/// every final state is accepted. Fails only if an allocation fails. Allocates.
 pub fn is_explained_without(
     alloc: Global,
     calls: &[Made],
@@ -39,8 +44,9 @@ pub fn is_explained_without(
     has_order(alloc, &others, opening, left)
 }
 
-/// Returns `true` if the judge accepts all calls without the answers of an operation. If `is_cut`, the final keys are
-/// ignored. Allocates.
+/// Returns `true` if the judge (crate `lset_judge`) finds all calls of a recording, except the answers of `operation`
+/// (its completed calls that changed nothing), linearizable. If `is_cut`, every set of final keys is accepted. Returns
+/// `false` if the judge cannot read the recording. Fails only if an allocation fails. Allocates.
 pub fn is_judged_without(
     alloc: Global,
     recorded: &Recorded,
@@ -69,33 +75,45 @@ pub fn is_judged_without(
     Ok(matches!(verdict, Verdict::Linearizable))
 }
 
-/// The maximum number of steps of the search for wrong answers.
+/// The maximum number of steps of the search for wrong answers, over all keys. A step looks at one call that begins
+/// after a tested answer. Without a limit, a long recording could need a number of steps that grows with the square of
+/// its length.
 const MOST_STEPS: u64 = 50_000_000;
 
-/// The wrong answers of an operation. If any one of them is added to the calls without answers, these calls are not
-/// linearizable.
+/// The wrong answers of an operation. If any one of them is added to all calls that are not answers of the operation,
+/// these calls are not linearizable.
 #[derive(Drop)]
 pub struct WrongAnswers {
+    /// The wrong answers, grouped by key in the order in which keys were added. The answers of a key are ordered by
+    /// end.
     pub wrong: Vec<Made>,
+    /// The number of steps that the search can still make (see `MOST_STEPS`).
     steps: u64,
-    /// Whether all answers were checked, and the calls without the wrong answers are linearizable.
+    /// Whether each answer was tested and, for each key, the calls without the wrong answers are linearizable. If
+    /// false, the operation can have more wrong answers.
     pub is_exact: bool,
 }
 
-/// The state of a pass over a key's calls.
+/// The state of a pass over the calls on a key, in the order of their begins and ends.
 #[derive(Drop)]
 struct Walk<'a> {
     alloc: Global,
     operation: Operation,
+    /// The calls that have not begun yet, ordered by begin.
     rest: &'a [Made],
+    /// The final state of the key; `None` if every final state is accepted.
     left: Option<Presence>,
+    /// The state of the key after the calls so far, without the answers of the operation.
     key: KeyState,
+    /// The calls that have begun and end later, including answers of the operation.
     pending: Pending,
 }
 
 impl Walk<'_> {
-    /// Returns `true` if an answer is wrong: if it alone is added, the other calls are not linearizable. The answer
-    /// ends now and does not agree with the state.
+    /// Returns `true` if an answer is wrong: added alone to the other calls, it makes them not linearizable. `call` is
+    /// the answer; its end is the current moment, and its reply does not agree with the state `self.key`. Follows the
+    /// later calls with the answer and without it, until the answer can make no difference any more. If the steps in
+    /// `found` run out, returns `false` and sets `is_exact` to false.
     fn is_wrong(&self, call: Made, found: &mut WrongAnswers) -> Result<bool, AllocError> {
         let mut with = self.key.copied(self.alloc)?;
         if !with.flip(call.ended) {
@@ -124,8 +142,9 @@ impl Walk<'_> {
         Ok(self.both_end(&mut key, &mut with, &mut pending, NEVER) || !with.may_be_left(self.left))
     }
 
-    /// Processes the calls that end before a moment, in a state without the tested answer (`key`) and in a state with
-    /// it (`with`). Returns `true` if no order explains the calls in the state `with`.
+    /// Processes the calls that end before the moment `at`, in a state without the tested answer (`key`) and in a state
+    /// with the answer (`with`). Returns `true` if the reply of a call does not fit the state `with`: the answer is
+    /// then wrong.
     fn both_end(
         &self,
         key: &mut KeyState,
@@ -148,7 +167,8 @@ impl Walk<'_> {
         false
     }
 
-    /// Processes the calls that end before a moment, and collects the wrong answers.
+    /// Processes the calls that end before the moment `at`, in the order of their ends. Adds the wrong answers among
+    /// them to `found`.
     fn end_before(&mut self, at: u64, found: &mut WrongAnswers) -> Result<(), AllocError> {
         for _ in 0..self.pending.len() {
             let Some(call) = self.pending.next_before(at) else {
@@ -164,7 +184,8 @@ impl Walk<'_> {
     }
 }
 
-/// Returns `true` if a key's calls without the wrong answers are linearizable.
+/// Returns `true` if the calls on a key without the answers in `wrong` are linearizable. Calls are identified by their
+/// begins, which are all different.
 fn is_rest_explained(
     alloc: Global,
     calls: &[Made],
@@ -187,7 +208,7 @@ fn is_rest_explained(
 }
 
 impl WrongAnswers {
-    /// Creates an empty collection.
+    /// Creates an empty collection. Does not allocate.
     pub fn new(alloc: Global) -> WrongAnswers {
         WrongAnswers {
             wrong: Vec::new(alloc),
@@ -196,7 +217,9 @@ impl WrongAnswers {
         }
     }
 
-    /// Adds the wrong answers for a key. The key's other calls must be linearizable. Allocates.
+    /// Adds the wrong answers among the calls on a key. `calls` are all calls on the key, ordered by begin. Without the
+    /// answers of `operation` (its completed calls that changed nothing), they must be linearizable, from the state
+    /// `opening` to the final state `left` (`None`: to any state). Fails only if an allocation fails. Allocates.
     pub fn add_of_key(
         &mut self,
         alloc: Global,

@@ -1,5 +1,9 @@
-//! Facts about the operation that alone is wrong: the number of wrong answers, the calls that ran during them, and the
-//! next answers.
+//! Facts about the operation that alone is wrong, in a recording that is not linearizable: how many of its answers are
+//! wrong, which calls ran during the wrong answers, and what the next answers were.
+//!
+//! An answer is a completed call that changed nothing: a `contains`, or an `add` or `remove` that returned false. An
+//! operation alone is wrong if all calls except its answers are linearizable. An answer of this operation is then wrong
+//! if these calls are not linearizable with this one answer added. A moment is a time in the recording.
 
 use crate::odd::{WrongAnswers, is_answer, is_explained_without, is_judged_without, without};
 use lset_words::Presence;
@@ -9,107 +13,135 @@ use tool_calls::{
     Stretch, clash_of, other, stretches_of, symptom_of_reply,
 };
 
-/// The operation that alone is wrong: without its answers (its calls that changed nothing), all calls have an order.
+/// Facts about the operation that alone is wrong: all calls except its answers (its completed calls that changed
+/// nothing) are linearizable. A wrong answer is an answer that contradicts these calls. All counts are over all keys of
+/// the recording.
 #[derive(Clone, Copy)]
 pub struct Odd {
+    /// The operation that alone is wrong.
     pub operation: Operation,
-    /// The number of wrong answers of the operation. If any one of them is added to the other calls, these have no
-    /// order.
+    /// The number of wrong answers. If any one of them is added to all calls that are not answers of the operation,
+    /// these calls are not linearizable.
     pub wrong: u64,
-    /// Whether `wrong` counts all wrong answers. Otherwise the operation can have more wrong answers.
+    /// Whether `wrong` counts all wrong answers. If false, the search was stopped, or there are further answers that
+    /// are wrong only together.
     pub is_exact: bool,
-    /// The number of all answers of the operation.
+    /// The number of all answers of the operation, right and wrong.
     pub of: u64,
-    /// The number of wrong answers that missed a present key.
+    /// The number of wrong answers that found their key absent.
     pub missed: u64,
-    /// The number of wrong answers that found an absent key.
+    /// The number of wrong answers that found their key present.
     pub found: u64,
-    /// The number of wrong answers that overlap a change of the key to the state that they did not see.
+    /// The number of wrong answers that overlap a change of their key to the state that the answer did not see: an
+    /// `add` if the answer found the key absent, otherwise a `remove`. Calls that returned false do not count; calls
+    /// with an unknown reply do.
     pub running: u64,
-    /// The number of wrong answers that overlap a change of the key to the state that they saw.
+    /// The number of wrong answers that overlap a change of their key to the state that the answer saw: a `remove` if
+    /// the answer found the key absent, otherwise an `add`. Calls that returned false do not count; calls with an
+    /// unknown reply do.
     pub starting: u64,
-    /// The number of wrong answers that overlap a change of another key.
+    /// The number of wrong answers that overlap an `add` or `remove` of another key that returned true.
     pub beside: u64,
-    /// The number of wrong answers that overlap a successful remove of another key.
+    /// The number of wrong answers that overlap a `remove` of another key that returned true.
     pub removing: u64,
-    /// The number of wrong answers that overlap a successful add of another key.
+    /// The number of wrong answers that overlap an `add` of another key that returned true.
     pub adding: u64,
-    /// The number of wrong answers that overlap another add or remove of the same key, successful or not.
+    /// The number of wrong answers that overlap another `add` or `remove` of their key, whatever its reply.
     pub same: u64,
-    /// The number of wrong answers that overlap another add of the same key, successful or not.
+    /// The number of wrong answers that overlap another `add` of their key, whatever its reply.
     pub same_adds: u64,
-    /// The number of wrong answers that overlap another remove of the same key, successful or not.
+    /// The number of wrong answers that overlap another `remove` of their key, whatever its reply.
     pub same_removes: u64,
-    /// The number of wrong answers that did not see a completed change by their own thread.
+    /// The number of wrong answers that did not see a change by their own thread: the last change of the key to the
+    /// state that the answer did not see had ended before the answer began. Leaves out answers for which an earlier
+    /// change to this state overlapped the last one, since either can have taken effect last.
     pub by_same: u64,
-    /// The number of wrong answers that did not see a completed change by another thread.
+    /// The number of wrong answers that did not see a change by another thread: the last change of the key to the state
+    /// that the answer did not see had ended before the answer began. Leaves out answers for which an earlier change to
+    /// this state overlapped the last one, since either can have taken effect last.
     pub by_others: u64,
-    /// The maximum number of moments from the end of a change that was not seen to the begin of the wrong answer.
+    /// The largest number of moments from the end of a change to the begin of the wrong answer that did not see it,
+    /// among the answers in `by_same` and `by_others`. 0 if there are none.
     pub latest: u64,
-    /// The number of wrong answers that began at most `SOON` moments after the end of a change that they did not see.
+    /// The number of answers in `by_same` and `by_others` that began at most 50 moments (`SOON`) after the end of the
+    /// change that they did not see.
     pub soon: u64,
-    /// The number of wrong answers that overlap another add or remove of the same key, or a change of another key.
+    /// The number of wrong answers that overlap another `add` or `remove` of their key, whatever its reply, or an `add`
+    /// or `remove` of another key that returned true.
     pub active: u64,
-    /// The number of wrong answers that overlap another add or remove of any key, successful or not.
+    /// The number of wrong answers that overlap another `add` or `remove` of any key, whatever its reply.
     pub writing: u64,
-    /// The percentage of the operation's sampled other answers, not counted as wrong, that overlap another add or
-    /// remove of any key, successful or not.
+    /// The percentage of sampled right answers of the operation that overlap another `add` or `remove` of any key,
+    /// whatever its reply. For comparison with `writing`. 0 if there are no right answers.
     pub usually_writing: u64,
-    /// The percentage of the operation's sampled other answers, not counted as wrong, that overlap a change of another
-    /// key.
+    /// The percentage of sampled right answers of the operation that overlap an `add` or `remove` of another key that
+    /// returned true. For comparison with `beside`. 0 if there are no right answers.
     pub usual: u64,
-    /// The percentage of the operation's sampled other answers, not counted as wrong, that overlap another add or
-    /// remove of the same key.
+    /// The percentage of sampled right answers of the operation that overlap another `add` or `remove` of their key,
+    /// whatever its reply. For comparison with `same`. 0 if there are no right answers.
     pub usually_same: u64,
-    /// The percentage of the operation's sampled other answers, not counted as wrong, that overlap another add or
-    /// remove of the same key, or a change of another key.
+    /// The percentage of sampled right answers of the operation that overlap another `add` or `remove` of their key,
+    /// whatever its reply, or an `add` or `remove` of another key that returned true. For comparison with `active`. 0
+    /// if there are no right answers.
     pub usually_active: u64,
-    /// The number of wrong answers that are followed by a right call of the operation on the key, with no change of the
-    /// key in between.
+    /// The number of wrong answers after which the next completed call of the operation on the key was right, although
+    /// no other change of the key can have come between.
     pub then_right: u64,
-    /// The number of wrong answers that are followed by another wrong call of the operation on the key, with no change
-    /// of the key in between.
+    /// The number of wrong answers after which the next completed call of the operation on the key was wrong, too,
+    /// although no change of the key can have come between.
     pub then_wrong: u64,
-    /// The number of wrong answers that were checked for overlapping calls; see `apart`.
+    /// The number of wrong answers with a contradicting earlier call (or opening state) that was kept as a
+    /// contradiction: at most 400 (`MOST_PLACED`).
     pub placed: u64,
-    /// The number of checked wrong answers with sequential calls around them: no call that began during the
-    /// contradiction began while another call was running.
+    /// How many contradictions in `placed` are among calls that do not overlap: no call, on any key, that began during
+    /// the contradiction began while another call was running.
     pub apart: u64,
-    /// Whether the final keys are ignored, in addition to the operation's answers.
+    /// Whether the final keys of the recording were ignored in the search for this operation. Can be true only for
+    /// `contains`.
     pub puts_left_aside: bool,
     /// The number of keys with wrong answers.
     pub keys: u64,
-    /// Whether the operation never found any of the keys with wrong answers, but found other keys.
+    /// Whether no call of the operation ever found a key with wrong answers present, although a call of the operation
+    /// found another key present.
     pub never_finds: bool,
-    /// The number of wrong answers that agree with the last earlier call on the same key by the same thread.
+    /// The number of wrong answers that agree with the last earlier call on the key by their own thread: this call left
+    /// the key in the state that the answer saw.
     pub own: u64,
-    /// The number of wrong answers that were compared with the presence of other keys.
+    /// The number of wrong answers for which the other keys were examined, at most 200. 0 unless the operation is
+    /// `contains` and all its wrong answers found their key absent.
     pub compared: u64,
-    /// The part of `compared` with no other key known to be present when the answer began.
+    /// How many answers in `compared` began while no other key was known to be present. A key is known to be present if
+    /// the last completed call on the key left it present.
     pub lonely: u64,
-    /// The percentage of sampled calls that began while at most one key was known to be present.
+    /// The percentage of sampled calls of any operation that began while at most one key was known to be present. For
+    /// comparison with `lonely`. 0 if `compared` is 0.
     pub usually_lonely: u64,
-    /// The part of `compared` with no larger key known to be present when the answer began. 0 if the recording has more
-    /// than `MOST_KEYS` keys with calls.
+    /// How many answers in `compared` began while no larger key was known to be present. 0 if more than 16 keys
+    /// (`MOST_KEYS`) have calls.
     pub largest: u64,
-    /// The percentage of sampled `contains` calls that found their key present and began while no larger key was known
-    /// to be present.
+    /// Among sampled calls of `contains` that found their key present, the percentage that began while no larger key
+    /// was known to be present. For comparison with `largest`. 100 if no call found its key; 0 if `compared` is 0 or
+    /// more than 16 keys have calls.
     pub usually_largest: u64,
 }
 
-/// The operation that alone is wrong, its wrong answers, and whether the final keys are ignored.
+/// The operation that alone is wrong (all calls except its completed calls that changed nothing are linearizable), with
+/// its wrong answers.
 #[derive(Drop)]
 pub struct OddFound {
     operation: Operation,
+    /// Whether the final keys of the recording were ignored in the search for this operation.
     puts_left_aside: bool,
+    /// The wrong answers: completed calls of the operation that contradict the other calls.
     pub answers: WrongAnswers,
 }
 
-/// The maximum number of calls that the judge judges again. If there are more calls, only the judge's test of each key
-/// is applied, which has the same result.
+/// If a recording has more calls than this, `is_odd` judges only each key alone. The judgement of all calls together
+/// has the same result but needs more time.
 const MOST_JUDGED: usize = 500_000;
 
-/// Returns the final state of a key. `None` if the final state is not known, or is ignored (`aside`).
+/// Returns the final state of a key. Returns `None` if the final state is unknown, or if `aside` (the final keys are
+/// ignored).
 fn left_of(runs: &Runs<'_>, key: u32, aside: bool) -> Option<Presence> {
     if aside {
         None
@@ -118,8 +150,9 @@ fn left_of(runs: &Runs<'_>, key: u32, aside: bool) -> Option<Presence> {
     }
 }
 
-/// Returns whether the calls on all refused keys have an order without the answers of an operation. If `aside`, the
-/// final keys are ignored.
+/// Returns whether `operation` alone is wrong: all calls except its answers (its completed calls that changed nothing)
+/// are linearizable. `refused` are the keys with calls that are not linearizable. If `aside`, every set of final keys
+/// is accepted.
 fn is_odd(
     alloc: Global,
     runs: &Runs<'_>,
@@ -141,7 +174,7 @@ fn is_odd(
     is_judged_without(alloc, runs.recorded, operation, is_cut)
 }
 
-/// Returns the wrong answers of the operation that alone is wrong.
+/// Returns the wrong answers of `operation`, which alone must be wrong: `is_odd` returns true for the same arguments.
 fn wrong_answers(
     alloc: Global,
     runs: &Runs<'_>,
@@ -162,10 +195,13 @@ fn wrong_answers(
     })
 }
 
-/// If the final keys are ignored, an operation is blamed only if it has at least this many answers.
+/// If the final keys have to be ignored, `contains` is blamed only if it has at least this many answers, and fewer than
+/// half of them are wrong. A few answers that contradict the changes can be right.
 const LEAST_ANSWERS: u64 = 10;
 
-/// Returns the operation that alone is wrong. `None` if there is no such operation. Allocates.
+/// Returns the operation that alone is wrong, with its wrong answers. Tries `contains`, `contains` with the final keys
+/// ignored, `add` and `remove`, in this order. `refused` are the keys with calls that are not linearizable. Returns
+/// `None` if no operation alone is wrong. Fails only if an allocation fails. Allocates.
 pub fn find_odd(
     alloc: Global,
     runs: &Runs<'_>,
@@ -182,8 +218,8 @@ pub fn find_odd(
             let found = wrong_answers(alloc, runs, refused, operation, aside)?;
             let wrong = u64::try_from(found.answers.wrong.len()).unwrap_or(u64::MAX);
             let of = count_answers(&runs.recorded.calls, operation);
-            // If the operation has only a few answers, these can be right and the other calls wrong, for example if an
-            // `add` was lost.
+            // If the operation has only a few answers (completed calls that changed nothing), these can be right and
+            // the other calls wrong, for example if an `add` was lost.
             let is_mostly_right = of >= LEAST_ANSWERS && wrong.saturating_mul(2) < of;
             let is_blamed = !aside || is_mostly_right;
             if is_blamed && !found.answers.wrong.is_empty() {
@@ -194,18 +230,21 @@ pub fn find_odd(
     Ok(None)
 }
 
-/// The maximum number of adds and removes that are checked for an overlap with an answer.
+/// The maximum number of adds and removes that one search for an overlap with an answer checks, to limit the time of
+/// the search.
 const MOST_WRITERS: usize = 100_000;
 
-/// The adds and removes among some calls, successful or not, ordered by begin. `latest[i]` is the latest end of the
-/// first i + 1 adds and removes.
+/// Adds and removes, whatever their replies, indexed to find those that overlap a call.
 #[derive(Drop)]
 struct Writers {
+    /// The adds and removes, ordered by begin.
     calls: Vec<Made>,
+    /// `latest[i]` is the latest end of the first i + 1 adds and removes; `NEVER` if one of these is pending.
     latest: Vec<u64>,
 }
 
 impl Writers {
+    /// Indexes the adds and removes among `calls`, which must be ordered by begin.
     fn of(alloc: Global, calls: &[Made]) -> Result<Writers, AllocError> {
         let mut writers = Writers {
             calls: Vec::new(alloc),
@@ -222,8 +261,8 @@ impl Writers {
         Ok(writers)
     }
 
-    /// Returns whether a call in the list, other than `answer` itself, overlaps `answer`. If an operation is given,
-    /// considers only calls of this operation.
+    /// Returns whether an add or remove other than `answer` itself overlaps `answer`. If `operation` is given, only
+    /// calls of this operation count.
     fn overlap(&self, answer: Made, operation: Option<Operation>) -> bool {
         let end = self.calls.partition_point(|call| call.begun < answer.ended);
         let calls = self.calls.get(..end).unwrap_or(&[]);
@@ -241,19 +280,25 @@ impl Writers {
     }
 }
 
-/// A key with wrong answers: its calls without the answers of the wrong operation, and all its adds and removes.
+/// A key with wrong answers, indexed for searches. Sound calls are the calls on the key except the answers (completed
+/// calls that changed nothing) of the wrong operation: they are linearizable.
 #[derive(Drop)]
 struct Sound {
+    /// The sound calls.
     calls: KeyCalls,
+    /// The stretches of the key: groups of overlapping changes. Empty if the key has at least `MOST_STRETCHED` sound
+    /// calls.
     stretches: Vec<Stretch>,
+    /// All adds and removes of the key, whatever their replies.
     writers: Writers,
 }
 
-/// If a key has at least this many calls, its overlapping changes are not searched for contradictions with the wrong
-/// answers.
+/// If a key has at least this many calls, not counting the answers of the wrong operation, groups of overlapping
+/// changes of the key are not searched for contradictions. The limit keeps the search short.
 const MOST_STRETCHED: usize = 50_000;
 
-/// Returns the calls on a key without the answers of the wrong operation, indexed for searches.
+/// Returns the calls on `key` without the answers (completed calls that changed nothing) of the wrong operation,
+/// indexed for searches. `found` is the result of `find_odd`.
 fn sound_calls(
     alloc: Global,
     runs: &Runs<'_>,
@@ -277,7 +322,8 @@ fn sound_calls(
     })
 }
 
-/// Returns the contradiction between a wrong answer and the right calls.
+/// Returns the contradiction between the wrong answer `call` and the right calls on its key. `clash` are the
+/// contradicting calls, as `clash_of` returns them.
 fn place_of_answer(sound: &KeyCalls, call: Made, clash: Clash) -> Place {
     Place {
         key: sound.key,
@@ -290,7 +336,7 @@ fn place_of_answer(sound: &KeyCalls, call: Made, clash: Clash) -> Place {
     }
 }
 
-/// Returns the facts about the wrong operation with the number of its wrong answers; all other counts are 0.
+/// Returns the facts about the wrong operation that `found` contains. All other counts are 0.
 fn odd_of(found: &OddFound) -> Odd {
     Odd {
         operation: found.operation,
@@ -338,11 +384,13 @@ pub(crate) fn more(count: &mut u64) {
     *count = count.saturating_add(1);
 }
 
-/// The maximum number of wrong answers with contradictions that are collected.
+/// The maximum number of contradictions that are kept for wrong answers. The limit keeps the memory, and the time of
+/// later searches, small.
 const MOST_PLACED: usize = 400;
 
-/// Adds the contradictions of the wrong answers to `places`, and returns the facts about the wrong operation.
-/// Allocates.
+/// Appends the contradictions of the wrong answers to `places`, and returns the facts about the wrong operation.
+/// `found` is the result of `find_odd`; `neighbours` has the completed changes of all keys. Fails only if an allocation
+/// fails. Allocates.
 pub fn places_of_odd(
     alloc: Global,
     runs: &Runs<'_>,
@@ -403,10 +451,13 @@ fn begins_of(alloc: Global, calls: &[Made]) -> Result<Vec<u64>, AllocError> {
     Ok(begins)
 }
 
-/// The maximum number of calls on a key that are searched for the last call of a thread.
+/// The maximum number of earlier calls on a key that are searched for the last call by a thread, to limit the time of
+/// the search.
 const MOST_OWN: usize = 2_000;
 
-/// Returns whether the last call on the key by the answer's thread left the key in the state that the answer needs.
+/// Returns whether the last call on the key by the thread of `answer`, before `answer`, left the key in the state that
+/// `answer` saw. `calls` are the calls on the key, ordered by begin. Returns false if the thread has no such call among
+/// the last `MOST_OWN`.
 fn was_left_so(calls: &[Made], answer: Made) -> bool {
     let end = calls.partition_point(|call| call.begun < answer.begun);
     let earlier = calls.get(..end).unwrap_or(&[]).iter().rev();
@@ -418,10 +469,12 @@ fn was_left_so(calls: &[Made], answer: Made) -> bool {
     false
 }
 
-/// The maximum number of earlier calls on a key that are checked for an overlap with a sampled call.
+/// The maximum number of calls on a key that are checked for an overlap with a call, to limit the time of a sample.
 const MOST_BEFORE: usize = 64;
 
-/// Returns whether another add or remove of the same key, successful or not, overlaps a call.
+/// Returns whether another add or remove of the same key, whatever its reply, overlaps the call `answer`. `calls` are
+/// the calls on the key, ordered by begin. Considers only the `MOST_BEFORE` calls that began last before the end of
+/// `answer`.
 pub(crate) fn runs_beside(calls: &[Made], answer: Made) -> bool {
     let end = calls.partition_point(|call| call.begun < answer.ended);
     let earlier = calls.get(..end).unwrap_or(&[]).iter().rev();
@@ -434,14 +487,15 @@ pub(crate) fn runs_beside(calls: &[Made], answer: Made) -> bool {
     false
 }
 
-/// Returns whether a change of a key can have taken effect from `since` to `until`.
+/// Returns whether a change of a key can have taken effect from the moment `since` to the moment `until`.
 fn is_changed(sound: &KeyCalls, since: u64, until: u64) -> bool {
     sound.may_become(Presence::Present, since, until)
         || sound.may_become(Presence::Absent, since, until)
 }
 
-/// Returns the next completed call of the same operation that begins after an answer has ended, if no other change of
-/// the key overlaps the time from the answer to this call. The returned call can itself change the key.
+/// Returns the next completed call of the same operation on the key that begins after `answer` has ended. Returns
+/// `None` if there is no such call, or if another change of the key can have come between. The returned call can itself
+/// be a change. `calls` are all calls on the key, ordered by begin.
 fn next_call(sound: &KeyCalls, calls: &[Made], answer: Made) -> Option<Made> {
     let first = calls.partition_point(|call| call.begun <= answer.ended);
     for call in calls.get(first..).unwrap_or(&[]) {
@@ -461,8 +515,9 @@ fn next_call(sound: &KeyCalls, calls: &[Made], answer: Made) -> Option<Made> {
     None
 }
 
-/// Counts a wrong answer in `own` if it agrees with the last call on the key by its own thread, and in `then_wrong` or
-/// `then_right` by the next call of the operation. `wrong` has the begins of all wrong answers in increasing order.
+/// Counts the wrong answer `call` in `own` if it agrees with the last call on the key by its own thread, and in
+/// `then_wrong` or `then_right` by the next call of the operation. `calls` are all calls on the key. `wrong` has the
+/// begins of all wrong answers in increasing order.
 fn count_around(sound: &KeyCalls, calls: &[Made], call: Made, odd: &mut Odd, wrong: &[u64]) {
     if was_left_so(calls, call) {
         more(&mut odd.own);
@@ -475,10 +530,11 @@ fn count_around(sound: &KeyCalls, calls: &[Made], call: Made, odd: &mut Odd, wro
     }
 }
 
-/// The maximum number of wrong answers that are compared with the other keys.
+/// The maximum number of wrong answers for which the other keys are examined, to limit the time.
 const MOST_COMPARED: usize = 200;
 
-/// Returns whether the key was present after the last call that had ended before a moment.
+/// Returns whether a key was present after the last call on it that had ended before a moment, or in the opening state
+/// if there is no such call. `calls` are the calls on the key, ordered by begin.
 fn is_left_present(calls: &[Made], opening: Presence, moment: u64) -> bool {
     let (mut left, mut latest) = (Some(opening), 0);
     for call in calls {
@@ -493,11 +549,15 @@ fn is_left_present(calls: &[Made], opening: Presence, moment: u64) -> bool {
     left == Some(Presence::Present)
 }
 
-/// Wrong answers are compared with larger keys only in recordings with at most this many keys.
+/// Wrong answers are compared with larger keys only if at most this many keys have calls: each comparison looks at all
+/// calls on these keys.
 const MOST_KEYS: usize = 16;
 
-/// Returns whether no larger key is known to be present just before a call.
+/// Returns whether no key larger than the key of `call` was known to be present just before `call` began. At most
+/// `MOST_KEYS` keys of the recording must have calls.
 fn is_largest(runs: &Runs<'_>, call: Made) -> bool {
+    // An opening key without calls stays present. The last `MOST_KEYS` + 1 opening keys suffice, since at least one of
+    // them has no calls.
     let opening = runs.recorded.opening.iter().rev();
     for key in opening.take(MOST_KEYS.saturating_add(1)) {
         if *key > call.key && runs.place(*key) == usize::MAX {
@@ -514,8 +574,8 @@ fn is_largest(runs: &Runs<'_>, call: Made) -> bool {
     true
 }
 
-/// Returns the percentage of sampled `contains` calls that found their key present and began while no larger key was
-/// known to be present. Returns 100 if no such call was sampled.
+/// Samples calls of `contains` that found their key present, and returns the percentage that began while no larger key
+/// was known to be present. Returns 100 if there are no such calls.
 fn usually_largest(runs: &Runs<'_>) -> u64 {
     let calls = &runs.recorded.calls;
     let step = calls.len().checked_div(SAMPLED).unwrap_or(0);
@@ -532,7 +592,8 @@ fn usually_largest(runs: &Runs<'_>) -> u64 {
     count.saturating_mul(100).checked_div(tried).unwrap_or(100)
 }
 
-/// Counts the wrong answers that began while no other key, or no larger key, was known to be present.
+/// Counts the wrong answers that began while no other key, or no larger key, was known to be present. Considers the
+/// first `MOST_COMPARED` answers in `wrong`.
 fn compare_keys(
     alloc: Global,
     runs: &Runs<'_>,
@@ -560,11 +621,12 @@ fn compare_keys(
     Ok(())
 }
 
-/// A sample of calls has about this many calls.
+/// A sample has about this many calls, spread over the recording.
 const SAMPLED: usize = 500;
 
-/// Computes the percentages of sampled answers that overlap other changes. Leaves out the wrong answers: `wrong` has
-/// their begins in increasing order.
+/// Computes the percentages of sampled right answers that overlap changes, for comparison with the wrong answers.
+/// `wrong` has the begins of the wrong answers in increasing order; `writers` has all adds and removes of the
+/// recording.
 fn count_usual(
     runs: &Runs<'_>,
     odd: &mut Odd,
@@ -600,12 +662,13 @@ pub(crate) fn percent(some: u64, all: u64) -> u64 {
     some.saturating_mul(100).checked_div(all).unwrap_or(0)
 }
 
-/// Returns whether a call of an operation found its key present.
+/// Returns whether a call is of `operation` and found its key present.
 fn has_found(call: Made, operation: Operation) -> bool {
     call.operation == operation && call.needs() == Some(Presence::Present)
 }
 
-/// Adds a wrong answer to the counts, by its kind and by the changes that overlap it.
+/// Counts the wrong answer `call` by the state that it saw, and by the changes that overlap it. `sound` has the calls
+/// on its key; `neighbours` has the completed changes of all keys.
 fn count_answer(sound: &Sound, call: Made, odd: &mut Odd, neighbours: &Neighbours) {
     let Some(needs) = call.needs() else {
         return;
@@ -644,12 +707,13 @@ fn count_answer(sound: &Sound, call: Made, odd: &mut Odd, neighbours: &Neighbour
     }
 }
 
-/// A wrong answer is counted in `soon` if it begins at most this many moments after the end of the change.
+/// A wrong answer is counted in `soon` if it began at most this many moments (times in the recording) after the end of
+/// the change that it did not see.
 const SOON: u64 = 50;
 
-/// Counts a wrong answer that did not see a completed change to the state `was`: by the thread that made the change,
-/// and by the time since the change. Counts nothing if two changes to this state overlap, since either can have taken
-/// effect last.
+/// Counts the wrong answer `call` if it did not see the last change of its key to the state `was`: by the thread of
+/// this change, and by the time since then. Counts nothing if the change had not ended, or if an earlier change to the
+/// same state overlaps it: either of the two can have taken effect last.
 fn count_unseen(sound: &KeyCalls, call: Made, was: Presence, odd: &mut Odd) {
     let Some(change) = sound.change_before(was, call.begun) else {
         return;
@@ -669,7 +733,7 @@ fn count_unseen(sound: &KeyCalls, call: Made, was: Presence, odd: &mut Odd) {
     }
 }
 
-/// Returns the number of answers of an operation.
+/// Returns the number of answers of an operation: its completed calls that changed nothing.
 fn count_answers(calls: &[Made], operation: Operation) -> u64 {
     let mut count = 0u64;
     for call in calls {

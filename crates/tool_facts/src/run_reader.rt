@@ -1,16 +1,23 @@
+//! Reads the text of a recording: the calls of a concurrent set, one on each line, between the lines of the opening
+//! keys and the lines of the final keys.
 use crate::stream_calls::made_of;
 use lset_recording::{Line, Section, line_told};
 use std::alloc::{AllocError, Global};
 use std::io::Read;
 use tool_calls::Recorded;
 
-/// A reader of a recording that keeps all calls. Checks the form of each line. Does not check that keys increase, or
-/// that each call can follow the calls before it: the judge checks that.
+/// A reader of the text of a recording, which keeps all calls in memory. The reader checks the form of each line. It
+/// does not check that keys increase, or that a call can follow the calls before it: the judge (crate `lset_judge`)
+/// checks that.
 #[derive(Drop)]
 pub struct RunReader {
+    /// The lines that were read.
     recorded: Recorded,
+    /// Which kinds of lines can come next: for example, no opening key comes after a call.
     section: Section,
+    /// The beginning of the next line, if its newline has not been read.
     line: Vec<u8>,
+    /// Whether all lines so far have the form of a line that is allowed at their position.
     is_whole: bool,
     alloc: Global,
 }
@@ -33,6 +40,7 @@ impl RunReader {
         }
     }
 
+    /// Adds the content of a line to the recording.
     fn keep(&mut self, line: Line) -> Result<(), AllocError> {
         match line {
             Line::Opening(key) => self.recorded.opening.push(key)?,
@@ -45,6 +53,8 @@ impl RunReader {
         Ok(())
     }
 
+    /// Reads a whole line, without its newline. A line of a wrong form is not an error: the line is skipped, and
+    /// `finish` then returns `None`.
     fn read_line(&mut self, line: &[u8]) -> Result<(), AllocError> {
         match line_told(self.section, line) {
             Ok(line) => self.keep(line),
@@ -55,6 +65,7 @@ impl RunReader {
         }
     }
 
+    /// Reads the line that ends with the bytes `last`. The line begins with the bytes in `self.line`.
     fn end_line(&mut self, last: &[u8]) -> Result<(), AllocError> {
         if self.line.is_empty() {
             return self.read_line(last);
@@ -64,7 +75,8 @@ impl RunReader {
         self.read_line(&whole)
     }
 
-    /// Reads the next piece of the text. Allocates. Does not block.
+    /// Reads the next bytes of the text, which can end in the middle of a line. Fails only if an allocation fails.
+    /// Allocates. Does not block.
     pub fn feed(&mut self, piece: &[u8]) -> Result<(), AllocError> {
         let mut rest = piece;
         for _ in 0..piece.len() {
@@ -78,8 +90,8 @@ impl RunReader {
         Ok(())
     }
 
-    /// Returns the recording. `None` if a line does not have the form of a line that is allowed at its position, or if
-    /// the last line of the text is not `end` or `cut`. Does not allocate.
+    /// Returns the recording. Returns `None` if a line does not have the form of a line that is allowed at its
+    /// position, or if the text does not end with the line `end` or `cut` and a newline. Does not allocate.
     pub fn finish(self) -> Option<Recorded> {
         let is_done = matches!(self.section, Section::Done);
         if is_done && self.is_whole && self.line.is_empty() {
@@ -89,13 +101,14 @@ impl RunReader {
         }
     }
 
-    /// Returns everything read so far.
+    /// Returns everything read so far. Lines of a wrong form are left out. Does not allocate.
     pub fn recorded(&self) -> &Recorded {
         &self.recorded
     }
 
-    /// Reads to the end of the input, or until more than `most` calls are kept. Returns `true` if the input has ended,
-    /// and `None` if a read fails. Allocates. Blocks while reading.
+    /// Reads from `input` until the input ends, or until more than `most` calls are kept. Returns `Some(true)` if the
+    /// input has ended, `Some(false)` if more than `most` calls are kept, and `None` if a read fails. Fails only if an
+    /// allocation fails. Allocates. Blocks while reading.
     pub fn read_calls<R: Read>(
         &mut self,
         input: &mut R,
@@ -117,9 +130,9 @@ impl RunReader {
         Ok(None)
     }
 
-    /// Returns the first `count` calls as a recording that was cut off just before the next call began. Leaves out the
-    /// calls that ended later and changed nothing. Returns `None` unless more than `count` calls were read, or if a
-    /// line has the wrong form. Allocates.
+    /// Returns the first `count` calls as a recording that was cut off just before the next call began. A call that
+    /// ended later becomes pending if it can have changed its key, and is left out otherwise. Returns `None` if at most
+    /// `count` calls were read, or if a line has the wrong form. Fails only if an allocation fails. Allocates.
     pub fn first_calls(&self, count: usize) -> Result<Option<Recorded>, AllocError> {
         let Some(next) = self.recorded.calls.get(count) else {
             return Ok(None);
@@ -144,5 +157,5 @@ impl RunReader {
     }
 }
 
-/// The maximum size of one read, in bytes.
+/// The maximum size of one read, in bytes. Limits the memory for the text.
 const READ_SIZE: usize = 65_536;

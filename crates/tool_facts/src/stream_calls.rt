@@ -1,10 +1,11 @@
-//! Conversions between the calls of a recording and the judge's calls.
+//! Conversions between two types of a recorded call: `Made`, used by the diagnosis, and `StreamCall`, used by the judge
+//! (the crate `lset_judge`, which decides whether a recording is linearizable).
 
 use lset_judge::StreamCall;
 use lset_words::{Call, Key, Reply};
 use tool_calls::{Made, NEVER, Operation};
 
-/// Converts a call from the judge's stream.
+/// Converts a call from the judge's type. A pending call gets the end `NEVER` and no reply.
 pub(crate) fn made_of(call: StreamCall) -> Made {
     let operation = match call.call {
         Call::Add(_) => Operation::Add,
@@ -25,7 +26,7 @@ pub(crate) fn made_of(call: StreamCall) -> Made {
     }
 }
 
-/// Converts the call for the judge's stream.
+/// Converts a call to the judge's type. A call without a reply becomes a pending call. Does not allocate.
 pub fn stream_call(made: Made) -> StreamCall {
     let key = Key(made.key);
     let call = match made.operation {

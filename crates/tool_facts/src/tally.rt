@@ -1,4 +1,14 @@
-//! Counts of contradictions, by kind and by what ran at the same time.
+//! Counts the contradictions in a recording that is not linearizable, by kind and by the calls that ran at the same
+//! time.
+//!
+//! A contradiction (type `Place`): a call leaves its key in one state (present or absent), a later call on the key
+//! needs the other state, and no change of the key can have come between. The contradiction lasts from the begin of the
+//! first of these calls to the end of the second. Only the final keys show a contradiction if the final state of the
+//! key takes the place of the second call.
+//!
+//! A loss of a key is a contradiction in which a present key became absent without a `remove` that returned true. A
+//! return is one in which an absent key became present without an `add` that returned true. A change is an `add` or
+//! `remove` that returned true. A moment is a time in the recording.
 
 use crate::odd_facts::{more, percent};
 use lset_words::Presence;
@@ -7,176 +17,215 @@ use tool_calls::{
     Crossings, Fullness, KeyCalls, Made, Neighbours, Operation, Place, Sought, Symptom, other,
 };
 
-/// Counts of contradictions. A contradiction is a few calls on one key that no order explains. Two counted
-/// contradictions of one key do not overlap in time. Percentages are compared with these counts to see what happens by
-/// chance.
+/// Counts of the contradictions in a recording that is not linearizable. Two contradictions of one key do not overlap
+/// in time. Each `usual..` percentage estimates how often a fact would be true by chance. All counts are 0 if one
+/// operation alone is wrong.
 #[derive(Clone, Copy, Default)]
 pub struct Tally {
     /// All contradictions that were found.
     pub places: u64,
-    /// Losses: a present key became absent, although no remove of the key returned true.
+    /// Losses of keys: contradictions in which a present key became absent, although no `remove` of the key returned
+    /// true.
     pub lost: u64,
-    /// Returns of keys: an absent key became present, although no add of the key returned true.
+    /// Returns of keys: contradictions in which an absent key became present, although no `add` of the key returned
+    /// true.
     pub came_back: u64,
     /// Contradictions between two overlapping adds of a key that both returned true.
     pub both_adds: u64,
     /// Contradictions between two overlapping removes of a key that both returned true.
     pub both_removes: u64,
-    /// Contradictions with a single wrong answer (a call that changed nothing), which found a present key absent.
+    /// Contradictions that one wrong reply explains: a `contains` or `remove` returned false although its key was
+    /// present.
     pub missed: u64,
-    /// Contradictions with a single wrong answer (a call that changed nothing), which found an absent key present.
+    /// Contradictions that one wrong reply explains: a `contains` returned true, or an `add` returned false, although
+    /// its key was absent.
     pub found: u64,
-    /// The adds among `found`: they returned false and changed nothing, although their key was absent.
+    /// How many contradictions in `found` are explained by the wrong reply of an `add`.
     pub refused_adds: u64,
-    /// The removes among `missed`: they returned false and changed nothing, although their key was present.
+    /// How many contradictions in `missed` are explained by the wrong reply of a `remove`.
     pub refused_removes: u64,
-    /// How many of `refused_adds` and `refused_removes` overlap a change of another key.
+    /// How many adds and removes that are counted in `refused_adds` and `refused_removes` overlap an `add` or `remove`
+    /// of another key that returned true.
     pub refused_beside: u64,
-    /// The percentage of sampled adds and removes that overlap a change of another key.
+    /// The percentage of sampled adds and removes, whatever their replies, that overlap an `add` or `remove` of another
+    /// key that returned true. For comparison with `refused_beside`. 0 if there are no adds and removes.
     pub usually_refused_beside: u64,
-    /// Pairs of adds that both returned true and seem to have inserted their key twice: the next change of the key is
-    /// part of another contradiction, in which the key returns or two removes both return true.
+    /// Contradictions in `both_adds` after which the set seems to contain the key twice: the next change of the key is
+    /// part of the next contradiction of the key, which is a return or in `both_removes`.
     pub doubled: u64,
-    /// Contradictions of no simple kind: they are in none of the counts above except `places`.
+    /// Contradictions of no simple kind. They are in `places`, but not in `lost`, `came_back`, `both_adds`,
+    /// `both_removes`, `missed` or `found`.
     pub others: u64,
-    /// Losses and returns of keys that would be explained if one add or remove had returned true instead of false.
+    /// Losses and returns of keys that would be explained if one `add` or `remove` had returned true instead of false,
+    /// if there is exactly one such call.
     pub silent: u64,
     /// Losses and returns of keys that would be explained if one call had returned the opposite reply.
     pub turned: u64,
-    /// Losses and returns of keys that overlap a change of another key. Leaves out those that only the final keys show.
+    /// Losses and returns of keys that overlap an `add` or `remove` of another key that returned true. Leaves out those
+    /// that only the final keys show.
     pub beside: u64,
-    /// How many of `beside` overlap an add of another key.
+    /// How many losses and returns in `beside` overlap an `add` of another key that returned true.
     pub added: u64,
-    /// How many of `beside` overlap a remove of another key.
+    /// How many losses and returns in `beside` overlap a `remove` of another key that returned true.
     pub removed: u64,
-    /// Losses and returns of keys that overlap no change of another key. Leaves out those that only the final keys
-    /// show.
+    /// Losses and returns of keys that do not overlap an `add` or `remove` of another key that returned true. Leaves
+    /// out those that only the final keys show.
     pub alone: u64,
-    /// Losses of a key right after overlapping changes of the same key, if one of these changes is a remove that
-    /// returned true.
+    /// Losses of keys that overlapping changes of the same key had left present: only the numbers of adds and removes
+    /// among these changes show that the key was present.
     pub crossed: u64,
-    /// Losses that overlap at least one and at most `MOST_BESIDE` changes of other keys.
+    /// Losses of keys that overlap at least one and at most 6 (`MOST_BESIDE`) changes of other keys: adds and removes
+    /// that returned true.
     pub sharp: u64,
-    /// How many of `sharp` overlap an add of another key.
+    /// How many losses in `sharp` overlap an `add` of another key that returned true.
     pub displaced: u64,
-    /// How many of `sharp` overlap a remove of another key.
+    /// How many losses in `sharp` overlap a `remove` of another key that returned true.
     pub unlinked: u64,
-    /// Losses that show because a later add of the key returned true.
+    /// Losses of keys that a later `add` of the key shows: the `add` returned true.
     pub readded: u64,
-    /// Returns of keys that undo a known remove: the first call of the contradiction is a remove that returned true.
+    /// Returns of keys that undo a known `remove`: the contradiction begins with a `remove` of the key that returned
+    /// true.
     pub undone: u64,
-    /// How many of `undone` had a loss of another key during this remove.
+    /// For how many returns in `undone` the `remove` overlaps a loss of another key. Only losses that a later call
+    /// shows within 200 moments count.
     pub swapped: u64,
-    /// Losses and returns of keys that overlap a successful remove of a smaller key. Leaves out those that only the
-    /// final keys show.
+    /// Losses and returns of keys that overlap a `remove` of a smaller key that returned true. Leaves out those that
+    /// only the final keys show.
     pub below: u64,
-    /// Losses that a later call shows within 200 moments.
+    /// Losses of keys that a later call shows within 200 moments. 0 if there are fewer than 10 losses of any length, or
+    /// if a key returned.
     pub short: u64,
-    /// The smallest number of keys that were known to be present at a loss counted in `short`.
+    /// The smallest number of keys that were known to be present just before the end of a loss in `short`. A key is
+    /// known to be present if the last completed call on the key left it present. 0 if `short` is 0.
     pub least_full: u64,
-    /// The percentage of sampled calls that began while at least `least_full` keys were known to be present.
+    /// The percentage of sampled calls that began while at least `least_full` keys were known to be present. 0 if
+    /// `short` is 0.
     pub usually_full: u64,
-    /// The percentage of comparison periods that overlap a change of another key. A comparison period lasts as long as
-    /// a loss or return of a key, and begins later.
+    /// The percentage of comparison periods that overlap an `add` or `remove` of another key that returned true, for
+    /// comparison with `beside`. A comparison period is as long as a loss or return of a key, and begins 1,501 or 3,001
+    /// moments later. 0 if `beside` and `alone` are 0.
     pub usual: u64,
     /// Losses and returns of keys that overlap a loss or return of another key. Leaves out those that only the final
     /// keys show.
     pub together: u64,
-    /// The percentage of comparison periods that overlap a loss or return of another key. A comparison period lasts as
-    /// long as a loss or return of a key, and begins later.
+    /// The percentage of comparison periods that overlap a loss or return of another key, for comparison with
+    /// `together`. A comparison period is as long as a loss or return of a key, and begins 1,501 or 3,001 moments
+    /// later.
     pub usually_together: u64,
-    /// Losses and returns of keys that undo a known change of the key. Leaves out those that only the final keys show.
+    /// Losses and returns of keys that undo a known change: before the later call, an `add` of the key that is lost, or
+    /// a `remove` of the key that returns, returned true. Leaves out those that only the final keys show.
     pub made: u64,
-    /// How many of `made` can be due to a stale copy: a change of another key overlapped the undone change and began
-    /// after the key's previous opposite change had begun. The change of the other key can have read the set before the
-    /// undone change and written the set afterwards.
+    /// How many of the undone changes in `made` an older copy of the set can have overwritten: a change of another key
+    /// overlapped the undone change, and began after the last opposite change of the key had begun. The call that made
+    /// this change can have read the set before the undone change, and written the set afterwards.
     pub fits: u64,
-    /// How many of `made` undo a change that overlapped another successful add or remove of the same key.
+    /// How many of the undone changes in `made` overlapped another `add` or `remove` of the same key that returned
+    /// true.
     pub own: u64,
-    /// Losses that undo a known add of the key. Leaves out those that only the final keys show.
+    /// Losses of keys that undo a known `add`: before the later call, an `add` of the key returned true. Leaves out
+    /// losses that only the final keys show.
     pub placed: u64,
-    /// How many of `placed` undo an add that overlapped a successful add of another key.
+    /// How many of the undone adds in `placed` overlapped an `add` of another key that returned true.
     pub with_add: u64,
-    /// How many of `placed` undo an add that overlapped a successful remove of another key.
+    /// How many of the undone adds in `placed` overlapped a `remove` of another key that returned true.
     pub with_remove: u64,
-    /// The percentage of sampled successful adds that overlap a successful add of another key.
+    /// Among sampled adds that returned true, the percentage that overlap an `add` of another key that returned true.
+    /// For comparison with `with_add`. 0 if no `add` returned true.
     pub usually_with_add: u64,
-    /// The percentage of sampled successful adds that overlap a successful remove of another key.
+    /// Among sampled adds that returned true, the percentage that overlap a `remove` of another key that returned true.
+    /// For comparison with `with_remove`. 0 if no `add` returned true.
     pub usually_with_remove: u64,
-    /// Contradictions with a single wrong answer (a call that changed nothing), and losses and returns of keys that the
-    /// opposite reply of one call would explain. Leaves out those that only the final keys show.
+    /// Contradictions that are explained if one call has a wrong reply: those in `missed`, `found` and `turned`. Leaves
+    /// out those that only the final keys show.
     pub replies: u64,
-    /// How many of `replies` overlap a contradiction of another key that is counted in `replies`, too.
+    /// How many contradictions in `replies` overlap a contradiction of another key that is in `replies`, too.
     pub crossed_replies: u64,
-    /// The percentage of comparison periods that overlap a contradiction of another key that is counted in `replies`. A
-    /// comparison period lasts as long as a contradiction, and begins later.
+    /// The percentage of comparison periods that overlap a contradiction of another key in `replies`, for comparison
+    /// with `crossed_replies`. A comparison period is as long as a contradiction in `replies`, and begins 1,501 or
+    /// 3,001 moments later.
     pub usually_crossed: u64,
-    /// Losses whose contradiction begins with an add of the key that returned true.
+    /// Losses of keys with a contradiction that begins with an `add` of the key that returned true. Leaves out losses
+    /// that only the final keys show.
     pub unadded: u64,
-    /// How many of `unadded` had a return of another key during this add.
+    /// For how many losses in `unadded` the `add` overlaps a return of another key. Leaves out returns that only the
+    /// final keys show.
     pub swapped_adds: u64,
-    /// How many of `placed` undo an add that began at most `SOON` moments after the last remove of the key had ended.
+    /// How many of the undone adds in `placed` began at most 20 moments (`SOON`) after the end of the last `remove` of
+    /// the key, or before this end.
     pub soon: u64,
-    /// Successful adds of refused keys that began at most `SOON` moments after the last remove of the key had ended.
+    /// How many of the adds in `adds` began at most 20 moments (`SOON`) after the end of the last `remove` of the key,
+    /// or before this end.
     pub adds_soon: u64,
-    /// Successful adds of refused keys (keys whose calls have no order).
+    /// Adds that returned true, on keys with calls that are not linearizable.
     pub adds: u64,
-    /// Successful adds of refused keys that are followed by a call on the key before any remove can have changed the
-    /// key.
+    /// How many of the adds in `adds` are followed by a completed call on the key before a `remove` can have changed
+    /// the key.
     pub followed_adds: u64,
-    /// How many of `followed_adds` the next call on the key did not see: this call found the key absent.
+    /// How many of the adds in `followed_adds` the next call on the key did not see: this call found the key absent.
     pub unseen_adds: u64,
-    /// Successful removes of refused keys that are followed by a call on the key before any add can have changed the
-    /// key.
+    /// Removes that returned true, on keys with calls that are not linearizable, if they are followed by a completed
+    /// call on the key before an `add` can have changed the key.
     pub followed_removes: u64,
-    /// How many of `followed_removes` the next call on the key did not see: this call found the key present.
+    /// How many of the removes in `followed_removes` the next call on the key did not see: this call found the key
+    /// present.
     pub unseen_removes: u64,
-    /// How many of `missed` overlap a change of another key.
+    /// How many contradictions in `missed` have a wrong reply of a call that overlaps an `add` or `remove` of another
+    /// key that returned true.
     pub missed_beside: u64,
-    /// Contradictions during which no call of the recording began while another call was running.
+    /// Contradictions among calls that do not overlap: no call, on any key, that began during the contradiction began
+    /// while another call was running.
     pub apart: u64,
-    /// Refused keys: keys whose calls have no order.
+    /// The number of keys with calls that are not linearizable.
     pub keys: u64,
-    /// Refused keys whose calls have no order even before the first counted contradiction begins.
+    /// Keys with calls that are not linearizable, and without a contradiction that shows where the calls first fail:
+    /// none begins at or before the first moment such that the key's calls up to this moment are not linearizable.
     pub unplaced: u64,
 }
 
-/// The maximum number of earlier contradictions that are searched for one that overlaps a period.
+/// The maximum number of earlier contradictions that are checked for an overlap with a period, to limit the time of the
+/// search.
 const MOST_LOSSES: usize = 64;
 
-/// A loss that overlaps more changes of other keys than this is not counted in `sharp`.
+/// A loss of a key that overlaps more changes of other keys than this is not counted in `sharp`: with so many changes,
+/// an overlap says little.
 const MOST_BESIDE: usize = 6;
 
-/// An add begins soon after a remove of its key if at most this many moments are between them.
+/// The maximum number of moments (times in the recording) from the end of a `remove` to the begin of an `add` of the
+/// same key that counts as soon.
 const SOON: u64 = 20;
 
-/// Returns whether a change began at most `SOON` moments after an earlier change had ended.
+/// Returns whether `change` began at most `SOON` moments after the end of the earlier change `before`. Returns false if
+/// `before` is `None`.
 fn is_soon(change: Made, before: Option<Made>) -> bool {
     before.is_some_and(|before| change.begun <= before.ended.saturating_add(SOON))
 }
 
 impl Tally {
-    /// Returns the number of contradictions that are losses or returns of keys.
+    /// Returns the number of losses and returns of keys, including those that only the final keys show. Does not
+    /// allocate.
     pub fn gone(&self) -> u64 {
         self.lost.saturating_add(self.came_back)
     }
 
-    /// Returns the number of losses and returns of keys that a call shows.
+    /// Returns the number of losses and returns of keys that a later call shows. Leaves out those that only the final
+    /// keys show. Does not allocate.
     pub fn timed(&self) -> u64 {
         self.beside.saturating_add(self.alone)
     }
 
-    /// Returns how many contradictions are between two overlapping calls that both returned true.
+    /// Returns the number of contradictions between two overlapping adds, or two overlapping removes, that both
+    /// returned true. Does not allocate.
     pub fn both(&self) -> u64 {
         self.both_adds.saturating_add(self.both_removes)
     }
 
-    /// Returns the number of adds and removes that are the only wrong answer of a contradiction.
+    /// Returns the number of contradictions that are explained if one `add` or `remove` that returned false has a wrong
+    /// reply. Does not allocate.
     pub fn refused(&self) -> u64 {
         self.refused_adds.saturating_add(self.refused_removes)
     }
 
-    /// Counts the kind of a contradiction.
+    /// Counts a contradiction in the field for its kind.
     fn add_kind(&mut self, place: &Place) {
         match place.symptom {
             Symptom::Missed(Operation::Remove) => more(&mut self.refused_removes),
@@ -194,7 +243,7 @@ impl Tally {
         }
     }
 
-    /// Counts a contradiction.
+    /// Counts a contradiction by its kind, and by the replies that would explain a loss or return. Does not allocate.
     pub fn add(&mut self, place: &Place) {
         more(&mut self.places);
         self.add_kind(place);
@@ -213,8 +262,10 @@ impl Tally {
         }
     }
 
-    /// Counts a change that was undone. Checks whether a change of another key can have restored a state that it read
-    /// before. `key` has all calls on the key.
+    /// If a contradiction is a loss or return of a key, counts the change that was undone: the last `add` of the key
+    /// that returned true before a loss, or the last `remove` that returned true before a return. Counts nothing if
+    /// only the final keys show the contradiction. `key` has all calls on the key, and `neighbours` the completed
+    /// changes of all keys. Does not allocate.
     pub fn add_change(&mut self, key: &KeyCalls, place: &Place, neighbours: &Neighbours) {
         let Some(second) = place.clash.second else {
             return;
@@ -240,9 +291,8 @@ impl Tally {
         }
     }
 
-    /// Counts the pairs of adds that both returned true, if the next change of the key is part of the next
-    /// contradiction: a return of the key, or a pair of removes that both returned true. `places` are the
-    /// contradictions of the key, ordered by time.
+    /// Counts the pairs of adds that both returned true, after which the set seems to contain the key twice (see
+    /// `doubled`). `places` are the contradictions of the key, ordered by time. Does not allocate.
     pub fn add_doubled(&mut self, key: &KeyCalls, places: &[Place]) {
         for (one, next) in places.iter().zip(places.get(1..).unwrap_or(&[])) {
             if is_doubled(key, one, next) {
@@ -251,7 +301,8 @@ impl Tally {
         }
     }
 
-    /// Counts the completed changes of a key, and those that the next call on the key did not see.
+    /// Counts the completed changes of a key, and how many of them the next call on the key did not see. `key` has all
+    /// calls on the key. Does not allocate.
     pub fn add_followed(&mut self, key: &KeyCalls) {
         for change in &key.calls {
             let Some(state) = change.makes().filter(|_| change.reply.is_some()) else {
@@ -286,7 +337,7 @@ impl Tally {
         }
     }
 
-    /// Counts an add of a key that was lost afterwards, and whether changes of other keys overlapped the add.
+    /// Counts an undone `add` (the key was lost later), and whether the `add` overlapped changes of other keys.
     fn add_placed(&mut self, change: Made, neighbours: &Neighbours) {
         let (key, since, until) = (change.key, change.begun, change.ended);
         more(&mut self.placed);
@@ -298,7 +349,8 @@ impl Tally {
         }
     }
 
-    /// Computes how often changes of other keys overlap an add. `calls` are all calls of the recording.
+    /// Computes how often an `add` that returned true overlaps changes of other keys, for comparison with undone adds.
+    /// `calls` are all calls of the recording.
     fn add_usual(&mut self, calls: &[Made], neighbours: &Neighbours) {
         let step = calls.len().checked_div(MOST_COMPARED).unwrap_or(0);
         let (mut adds, mut removes, mut tried, mut next) = (0u64, 0u64, 0u64, 0usize);
@@ -321,8 +373,8 @@ impl Tally {
         self.usually_with_remove = percent(removes, tried);
     }
 
-    /// Counts the contradictions that one opposite reply would repair, and those that overlap such a contradiction of
-    /// another key. `replies` must be ordered by time.
+    /// Counts the contradictions that are explained if one call has a wrong reply, and how many of them overlap each
+    /// other on different keys. `replies` are these contradictions, ordered by begin. Does not allocate.
     pub fn add_replies(&mut self, replies: &[Place]) {
         self.replies = u64::try_from(replies.len()).unwrap_or(u64::MAX);
         let (together, usually) = count_together(replies);
@@ -330,7 +382,8 @@ impl Tally {
         self.usually_crossed = usually;
     }
 
-    /// Counts the lost keys with a return of another key during their add. `returns` must be ordered by time.
+    /// Counts the losses of keys that begin with an `add` of the key, and how often this `add` overlaps a return of
+    /// another key. `returns` must be ordered by begin. Does not allocate.
     pub fn add_swapped_adds(&mut self, losses: &[Place], returns: &[Place]) {
         for place in losses {
             if let Some(first) = place.clash.first.filter(|first| first.changes()) {
@@ -342,7 +395,8 @@ impl Tally {
         }
     }
 
-    /// Counts a loss of a key. `changes` are changes of other keys that ran during the loss.
+    /// Counts a loss of a key by the changes of other keys that overlap the loss. `changes` has these changes, or
+    /// `MOST_BESIDE` + 1 of them if there are more.
     fn add_beside(&mut self, changes: &[Made]) {
         if changes.is_empty() || changes.len() > MOST_BESIDE {
             return;
@@ -359,8 +413,8 @@ impl Tally {
         }
     }
 
-    /// Adds a contradiction to the counts of contradictions that overlap changes of other keys, and to `readded` and
-    /// `undone`.
+    /// Counts a loss or return of a key by the changes of other keys that overlap the loss or return, and in `readded`
+    /// and `undone`. Ignores other contradictions.
     fn add_time(
         &mut self,
         alloc: Global,
@@ -402,7 +456,8 @@ impl Tally {
         Ok(())
     }
 
-    /// Counts an add or remove that is the only wrong answer of a contradiction and overlaps a change of another key.
+    /// Counts a contradiction in `refused_beside` if the only wrong reply is from an `add` or `remove`, and this call
+    /// overlaps a change of another key.
     fn add_refused(&mut self, place: &Place, neighbours: &Neighbours) {
         let Some(wrong) = place.wrong else {
             return;
@@ -414,8 +469,8 @@ impl Tally {
         }
     }
 
-    /// Counts the keys that a remove had removed and that returned, if another key was lost during the remove. `losses`
-    /// must be ordered by time.
+    /// Counts the returns of keys that undo a known `remove`, if this `remove` overlaps a loss of another key. `losses`
+    /// must be ordered by begin.
     fn add_swapped(&mut self, places: &[Place], losses: &[Place]) {
         for place in places {
             if let (Symptom::CameBack, Some(first)) = (place.symptom, place.clash.first) {
@@ -426,16 +481,18 @@ impl Tally {
         }
     }
 
-    /// Counts the losses and returns of keys that overlap one of another key, and estimates how many would do so by
-    /// chance. `gone` has all losses and returns that a call shows, ordered by time.
+    /// Counts the losses and returns of keys that overlap a loss or return of another key, and estimates how many would
+    /// do so by chance. `gone` are all losses and returns that a later call shows, ordered by begin. Does not allocate.
     pub fn add_together(&mut self, gone: &[Place]) {
         let (together, usually) = count_together(gone);
         self.together = together;
         self.usually_together = usually;
     }
 
-    /// Adds the contradictions to all counts that depend on other calls at the same time. `calls` are all calls of the
-    /// recording. `losses` are all losses of keys, ordered by time.
+    /// Computes the counts that depend on other calls at the same time. `places` are all contradictions, and `calls`
+    /// all calls of the recording, ordered by begin. `neighbours` has the completed changes of all keys. `losses` are
+    /// the losses of keys that a later call shows within 200 moments, ordered by begin. Fails only if an allocation
+    /// fails. Allocates.
     pub fn add_times(
         &mut self,
         alloc: Global,
@@ -465,8 +522,9 @@ impl Tally {
 }
 
 impl Tally {
-    /// Compares the number of keys that are present at a loss with their number at other moments. `calls` are all calls
-    /// of the recording. `losses` are the losses that a call shows within a short time.
+    /// Compares the number of keys present at losses of keys with the number at other moments. `calls` are all calls of
+    /// the recording. `losses` are the losses that a later call shows within 200 moments. `full` has the number of keys
+    /// known to be present at each moment. Does not allocate.
     pub fn add_fullness(&mut self, calls: &[Made], losses: &[Place], full: &Fullness) {
         let mut least = u64::MAX;
         for loss in losses {
@@ -481,8 +539,9 @@ impl Tally {
     }
 }
 
-/// Returns whether a contradiction is a pair of adds that both returned true, and the next change of the key is part of
-/// the next contradiction: a return of the key, or a pair of removes that both returned true.
+/// Returns whether two adds that both returned true (the contradiction `one`) seem to have inserted their key twice:
+/// the next change of the key is part of the next contradiction `next`, which is a return of the key or a pair of
+/// removes that both returned true. `key` has all calls on the key.
 fn is_doubled(key: &KeyCalls, one: &Place, next: &Place) -> bool {
     let is_left = matches!(
         next.symptom,
@@ -498,7 +557,8 @@ fn is_doubled(key: &KeyCalls, one: &Place, next: &Place) -> bool {
     }
 }
 
-/// Returns the percentage of sampled adds and removes that overlap a change of another key.
+/// Returns the percentage of sampled adds and removes, whatever their replies, that overlap a change of another key.
+/// Returns 0 if there are no completed adds and removes.
 fn usual_of_writers(calls: &[Made], neighbours: &Neighbours) -> u64 {
     let step = calls.len().checked_div(MOST_COMPARED).unwrap_or(0);
     let (mut beside, mut tried, mut next) = (0u64, 0u64, 0usize);
@@ -515,9 +575,9 @@ fn usual_of_writers(calls: &[Made], neighbours: &Neighbours) -> u64 {
     percent(beside, tried)
 }
 
-/// Returns the number of contradictions that overlap a contradiction of another key, and the percentage of comparison
-/// periods that do. A comparison period is as long as a contradiction, but begins later. `places` must be ordered by
-/// time.
+/// Returns the number of contradictions in `places` that overlap one of another key in `places`, and the percentage of
+/// comparison periods that do. A comparison period is as long as a contradiction, but begins later (see `LATER`).
+/// `places` must be ordered by begin.
 fn count_together(places: &[Place]) -> (u64, u64) {
     let (mut together, mut beside, mut tried) = (0u64, 0u64, 0u64);
     for place in places {
@@ -536,8 +596,8 @@ fn count_together(places: &[Place]) -> (u64, u64) {
     (together, percent(beside, tried))
 }
 
-/// Returns `true` if a contradiction of another key overlaps the time from `since` to `until`. `places` must be ordered
-/// by time.
+/// Returns `true` if a contradiction in `places` of a key other than `key` overlaps the time from the moment `since` to
+/// the moment `until`. `places` must be ordered by begin. Considers only the `MOST_LOSSES` that began last.
 fn has_beside(key: u32, since: u64, until: u64, places: &[Place]) -> bool {
     let end = places.partition_point(|place| place.clash.begun() <= until);
     let earlier = places.get(..end).unwrap_or(&[]);
@@ -549,16 +609,17 @@ fn has_beside(key: u32, since: u64, until: u64, places: &[Place]) -> bool {
     false
 }
 
-/// The moments from the begin of a contradiction to the begins of its comparison periods, which are as long as the
-/// contradiction.
+/// The moments from the begin of a contradiction to the begins of its two comparison periods. A comparison period is as
+/// long as the contradiction and shows how often the same overlap happens by chance.
 const LATER: [u64; 2] = [1_501, 3_001];
 
-/// The maximum number of contradictions that `usual_share` compares with later periods, and the size of a sample of
-/// calls.
+/// The maximum number of contradictions that `usual_share` considers, and the approximate size of a sample of calls.
+/// Limits the time of a diagnosis.
 const MOST_COMPARED: usize = 400;
 
 /// Returns the percentage of comparison periods that overlap a change of another key. A comparison period is as long as
-/// a loss or a return of a key, but begins later.
+/// a loss or return of a key, but begins later (see `LATER`). Considers only the first `MOST_COMPARED` contradictions,
+/// and only losses and returns that a later call shows.
 fn usual_share(places: &[Place], neighbours: &Neighbours) -> u64 {
     let (mut beside, mut tried) = (0u64, 0u64);
     for place in places.iter().take(MOST_COMPARED) {

@@ -1,4 +1,6 @@
-//! The contradiction that the judge names in its verdict.
+//! The contradiction that the judge names in its verdict. The judge (crate `lset_judge`) decides whether a recording is
+//! linearizable. A contradiction is two calls on a key: the first leaves the key in one state (present or absent), the
+//! second needs the other state, and no change of the key can have come between.
 
 use crate::stream_calls::{made_of, stream_call};
 use lset_judge::{Judge, StreamFault, Verdict};
@@ -6,10 +8,12 @@ use lset_words::increases;
 use std::alloc::{AllocError, Global};
 use tool_calls::{Clash, Made, NEVER, Recorded};
 
-/// Recordings with more calls than this are not judged again.
+/// Recordings with more calls than this are not judged again, to limit the time of a diagnosis.
 const MOST_JUDGED: usize = 500_000;
 
-/// Converts a contradiction from the judge's type.
+/// Converts a contradiction from the judge's type. The result lasts from the begin of its first call (0 if the opening
+/// state takes the place of this call) to the later end of its two calls (`NEVER` if the final state takes the place of
+/// the second call).
 fn converted(clash: lset_judge::Clash) -> Clash {
     let first = clash.first.map(made_of);
     let second = clash.second.map(made_of);
@@ -24,7 +28,8 @@ fn converted(clash: lset_judge::Clash) -> Clash {
     }
 }
 
-/// Judges a recording. Returns `None` if a line cannot follow the lines above it.
+/// Judges a recording. Returns `None` if the judge cannot read the recording: its opening or final keys do not
+/// increase, or a call cannot follow the calls before it.
 fn judged(alloc: Global, recorded: &Recorded) -> Result<Option<Verdict>, AllocError> {
     if !increases(&recorded.opening) || !increases(&recorded.left) {
         return Ok(None);
@@ -45,8 +50,9 @@ fn judged(alloc: Global, recorded: &Recorded) -> Result<Option<Verdict>, AllocEr
     Ok(Some(verdict))
 }
 
-/// Returns the contradiction that the judge names when it refuses a recording. Returns `None` if the judge names none,
-/// or if the recording has more than `MOST_JUDGED` calls. Allocates.
+/// Returns the contradiction that the judge names as the reason why `recorded` is not linearizable. Returns `None` if
+/// the recording is linearizable, if the judge names no contradiction or cannot read the recording, or if the recording
+/// has more than 500,000 calls (`MOST_JUDGED`). Fails only if an allocation fails. Allocates.
 pub fn verdict_clash(alloc: Global, recorded: &Recorded) -> Result<Option<Clash>, AllocError> {
     if recorded.calls.len() > MOST_JUDGED {
         return Ok(None);
