@@ -14,8 +14,8 @@ use tool_calls::{
     stretches_of,
 };
 
-/// How many cases have a property, and how often comparable cases have the property. All numbers are 0 if nothing was
-/// counted.
+/// How many cases have a property, and how often comparable cases have the property. `count` and `of` are 0 if no case
+/// was counted.
 #[derive(Clone, Copy, Default)]
 pub struct Share {
     /// The number of cases with the property.
@@ -53,9 +53,9 @@ pub struct Further {
     /// The removes that wrong answers of `add` did not see, and how many of these overlap a `remove` of another key
     /// that returned true. No cases unless `add` alone is wrong. `usual` is always 0.
     pub unseen: Share,
-    /// The wrong answers of `add`, and how many of these another call outlasts: the other call begins earlier and ends
-    /// later. Comparable are the right answers of `add`. No cases unless `add` alone is wrong and a contradiction was
-    /// kept for each wrong answer.
+    /// The wrong answers of `add`, and how many of these another call on any key outlasts: the other call begins
+    /// earlier and ends later, or never ends. Comparable are the right answers of `add`. All numbers are 0 unless `add`
+    /// alone is wrong and a contradiction was kept for each wrong answer.
     pub outlasted: Share,
     /// Two overlapping calls of different threads that seem to have returned each other's replies. Only if the
     /// recording has exactly two contradictions, on different keys: each of the two calls has a wrong reply in one of
@@ -89,8 +89,9 @@ pub fn is_refusal_during(call: Made, change: Made) -> bool {
 }
 
 /// Returns the `remove` that `answer`, a wrong answer of `add`, did not see: the last `remove` of the key that returned
-/// true and had begun before `answer`. Returns `None` if there is none, if it had not ended, or if an earlier `remove`
-/// overlaps it: either of the two can have taken effect last. `key` has all calls on the key.
+/// true and had begun before `answer`. Returns `None` if there is no such `remove`, if the `remove` had not ended when
+/// `answer` began, or if an earlier `remove` overlaps the last one, since either can have taken effect last. `key` has
+/// all calls on the key.
 fn unseen_by(key: &KeyCalls, answer: Made) -> Option<Made> {
     let remove = key.change_before(Presence::Absent, answer.begun)?;
     let is_last = key.no_change_runs(Presence::Absent, remove.begun);

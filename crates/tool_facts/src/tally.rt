@@ -47,8 +47,9 @@ pub struct Tally {
     /// How many adds and removes that are counted in `refused_adds` and `refused_removes` overlap an `add` or `remove`
     /// of another key that returned true.
     pub refused_beside: u64,
-    /// The percentage of sampled adds and removes, whatever their replies, that overlap an `add` or `remove` of another
-    /// key that returned true. For comparison with `refused_beside`. 0 if there are no adds and removes.
+    /// The percentage of sampled completed adds and removes, whatever their replies, that overlap an `add` or `remove`
+    /// of another key that returned true. For comparison with `refused_beside`. 0 if there are no completed adds and
+    /// removes.
     pub usually_refused_beside: u64,
     /// Contradictions in `both_adds` after which the set seems to contain the key twice: the next change of the key is
     /// part of the next contradiction of the key, which is a return or in `both_removes`.
@@ -103,27 +104,27 @@ pub struct Tally {
     pub usually_full: u64,
     /// The percentage of comparison periods that overlap an `add` or `remove` of another key that returned true, for
     /// comparison with `beside`. A comparison period is as long as a loss or return of a key, and begins 1,501 or 3,001
-    /// moments later. 0 if `beside` and `alone` are 0.
+    /// moments later. 0 if a later call shows no loss or return among the first 400 contradictions.
     pub usual: u64,
     /// Losses and returns of keys that overlap a loss or return of another key. Leaves out those that only the final
     /// keys show.
     pub together: u64,
     /// The percentage of comparison periods that overlap a loss or return of another key, for comparison with
     /// `together`. A comparison period is as long as a loss or return of a key, and begins 1,501 or 3,001 moments
-    /// later.
+    /// later. 0 if a later call shows no loss or return.
     pub usually_together: u64,
-    /// Losses and returns of keys that undo a known change: before the later call, an `add` of the key that is lost, or
-    /// a `remove` of the key that returns, returned true. Leaves out those that only the final keys show.
+    /// Losses and returns of keys that undo a known change: an `add` of the key that is lost, or a `remove` of the key
+    /// that returns, began before the later call and returned true. Leaves out those that only the final keys show.
     pub made: u64,
     /// How many of the undone changes in `made` an older copy of the set can have overwritten: a change of another key
-    /// overlapped the undone change, and began after the last opposite change of the key had begun. The call that made
-    /// this change can have read the set before the undone change, and written the set afterwards.
+    /// overlapped the undone change, and began after the last opposite change of the undone key had begun. The call on
+    /// the other key can have read the set before the undone change, and written the set afterwards.
     pub fits: u64,
     /// How many of the undone changes in `made` overlapped another `add` or `remove` of the same key that returned
     /// true.
     pub own: u64,
-    /// Losses of keys that undo a known `add`: before the later call, an `add` of the key returned true. Leaves out
-    /// losses that only the final keys show.
+    /// Losses of keys that undo a known `add`: an `add` of the key began before the later call and returned true.
+    /// Leaves out losses that only the final keys show.
     pub placed: u64,
     /// How many of the undone adds in `placed` overlapped an `add` of another key that returned true.
     pub with_add: u64,
@@ -142,7 +143,7 @@ pub struct Tally {
     pub crossed_replies: u64,
     /// The percentage of comparison periods that overlap a contradiction of another key in `replies`, for comparison
     /// with `crossed_replies`. A comparison period is as long as a contradiction in `replies`, and begins 1,501 or
-    /// 3,001 moments later.
+    /// 3,001 moments later. 0 if `replies` is 0.
     pub usually_crossed: u64,
     /// Losses of keys with a contradiction that begins with an `add` of the key that returned true. Leaves out losses
     /// that only the final keys show.
@@ -557,8 +558,8 @@ fn is_doubled(key: &KeyCalls, one: &Place, next: &Place) -> bool {
     }
 }
 
-/// Returns the percentage of sampled adds and removes, whatever their replies, that overlap a change of another key.
-/// Returns 0 if there are no completed adds and removes.
+/// Returns the percentage of sampled completed adds and removes, whatever their replies, that overlap an `add` or
+/// `remove` of another key that returned true. Returns 0 if there are no completed adds and removes.
 fn usual_of_writers(calls: &[Made], neighbours: &Neighbours) -> u64 {
     let step = calls.len().checked_div(MOST_COMPARED).unwrap_or(0);
     let (mut beside, mut tried, mut next) = (0u64, 0u64, 0usize);
