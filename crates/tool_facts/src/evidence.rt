@@ -12,8 +12,8 @@ use crate::patterns::{Patterns, patterns_of};
 use crate::tally::Tally;
 use std::alloc::{AllocError, Global};
 use tool_calls::{
-    Bound, BoundKeys, Fullness, KeyCalls, Made, Neighbours, Place, Refused, Runs, Split, Symptom,
-    bound_of, longest_split, merged_keys, places_of,
+    Bound, BoundKeys, Fullness, KeyCalls, Made, NEVER, Neighbours, Place, Refused, Runs, Split,
+    Symptom, bound_of, longest_split, merged_keys, places_of,
 };
 
 /// The facts about a recording that is not linearizable, as far as most likely causes need them.
@@ -124,6 +124,20 @@ fn replies_of(alloc: Global, places: &[Place]) -> Result<Vec<Place>, AllocError>
     Ok(found)
 }
 
+/// Returns the last moment of a recording: the last begin or end of a call in `calls`. Returns 0 if there are no calls.
+fn last_moment(calls: &[Made]) -> u64 {
+    let mut last = 0;
+    for call in calls {
+        let end = if call.ended < NEVER {
+            call.ended
+        } else {
+            call.begun
+        };
+        last = end.max(last);
+    }
+    last
+}
+
 /// Returns the losses of keys in `gone` that last at most `MOST_MOMENTS`, in the given order.
 fn losses_of(alloc: Global, gone: &[Place]) -> Result<Vec<Place>, AllocError> {
     let mut losses = Vec::new(alloc);
@@ -181,9 +195,10 @@ fn add_all(
 ) -> Result<(), AllocError> {
     let calls = &runs.recorded.calls;
     let gone = gone_of(alloc, &found.places)?;
-    found.tally.add_together(&gone);
+    let last = last_moment(calls);
+    found.tally.add_together(&gone, neighbours, last);
     let replies = replies_of(alloc, &found.places)?;
-    found.tally.add_replies(&replies);
+    found.tally.add_replies(&replies, last);
     let returns = of_symptom(alloc, &gone, Symptom::CameBack)?;
     let lost = of_symptom(alloc, &gone, Symptom::Lost)?;
     found.tally.add_swapped_adds(&lost, &returns);

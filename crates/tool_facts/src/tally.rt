@@ -103,15 +103,15 @@ pub struct Tally {
     /// `short` is 0.
     pub usually_full: u64,
     /// The percentage of comparison periods that overlap an `add` or `remove` of another key that returned true, for
-    /// comparison with `beside`. A comparison period is as long as a loss or return of a key, and begins 1,501 or 3,001
-    /// moments later. 0 if a later call shows no loss or return among the first 400 contradictions.
+    /// comparison with `beside`. A comparison period is as long as a loss or return of a key, and begins at another
+    /// time. Considers only the first 400 losses and returns that a later call shows. 0 if there are none.
     pub usual: u64,
     /// Losses and returns of keys that overlap a loss or return of another key. Leaves out those that only the final
     /// keys show.
     pub together: u64,
     /// The percentage of comparison periods that overlap a loss or return of another key, for comparison with
-    /// `together`. A comparison period is as long as a loss or return of a key, and begins 1,501 or 3,001 moments
-    /// later. 0 if a later call shows no loss or return.
+    /// `together`. A comparison period is as long as a loss or return of a key, and begins at another time. 0 if a
+    /// later call shows no loss or return.
     pub usually_together: u64,
     /// Losses and returns of keys that undo a known change: an `add` of the key that is lost, or a `remove` of the key
     /// that returns, began before the later call and returned true. Leaves out those that only the final keys show.
@@ -142,8 +142,8 @@ pub struct Tally {
     /// How many contradictions in `replies` overlap a contradiction of another key that is in `replies`, too.
     pub crossed_replies: u64,
     /// The percentage of comparison periods that overlap a contradiction of another key in `replies`, for comparison
-    /// with `crossed_replies`. A comparison period is as long as a contradiction in `replies`, and begins 1,501 or
-    /// 3,001 moments later. 0 if `replies` is 0.
+    /// with `crossed_replies`. A comparison period is as long as a contradiction in `replies`, and begins at
+    /// another time. 0 if `replies` is 0.
     pub usually_crossed: u64,
     /// Losses of keys with a contradiction that begins with an `add` of the key that returned true. Leaves out losses
     /// that only the final keys show.
@@ -375,10 +375,11 @@ impl Tally {
     }
 
     /// Counts the contradictions that are explained if one call has a wrong reply, and how many of them overlap each
-    /// other on different keys. `replies` are these contradictions, ordered by begin. Does not allocate.
-    pub fn add_replies(&mut self, replies: &[Place]) {
+    /// other on different keys. `replies` are these contradictions, ordered by begin. `last` is the last moment of the
+    /// recording. Does not allocate.
+    pub fn add_replies(&mut self, replies: &[Place], last: u64) {
         self.replies = u64::try_from(replies.len()).unwrap_or(u64::MAX);
-        let (together, usually) = count_together(replies);
+        let (together, usually) = count_together(replies, last);
         self.crossed_replies = together;
         self.usually_crossed = usually;
     }
@@ -482,12 +483,15 @@ impl Tally {
         }
     }
 
-    /// Counts the losses and returns of keys that overlap a loss or return of another key, and estimates how many would
-    /// do so by chance. `gone` are all losses and returns that a later call shows, ordered by begin. Does not allocate.
-    pub fn add_together(&mut self, gone: &[Place]) {
-        let (together, usually) = count_together(gone);
+    /// Counts the losses and returns of keys that overlap a loss or return of another key. Estimates how many would do
+    /// so by chance, and how many would overlap a change of another key by chance. `gone` are all losses and returns
+    /// that a later call shows, ordered by begin. `neighbours` has the completed changes of all keys. `last` is the last
+    /// moment of the recording. Does not allocate.
+    pub fn add_together(&mut self, gone: &[Place], neighbours: &Neighbours, last: u64) {
+        let (together, usually) = count_together(gone, last);
         self.together = together;
         self.usually_together = usually;
+        self.usual = usual_share(gone, neighbours, last);
     }
 
     /// Computes the counts that depend on other calls at the same time. `places` are all contradictions, and `calls`
@@ -504,7 +508,6 @@ impl Tally {
     ) -> Result<(), AllocError> {
         let crossings = Crossings::of(alloc, calls)?;
         self.add_swapped(places, losses);
-        self.usual = usual_share(places, neighbours);
         self.add_usual(calls, neighbours);
         self.usually_refused_beside = usual_of_writers(calls, neighbours);
         for place in places {
@@ -577,17 +580,17 @@ fn usual_of_writers(calls: &[Made], neighbours: &Neighbours) -> u64 {
 }
 
 /// Returns the number of contradictions in `places` that overlap one of another key in `places`, and the percentage of
-/// comparison periods that do. A comparison period is as long as a contradiction, but begins later (see `LATER`).
-/// `places` must be ordered by begin.
-fn count_together(places: &[Place]) -> (u64, u64) {
+/// comparison periods (see `compared_period`) that do. `places` must be ordered by begin. `last` is the last moment of
+/// the recording.
+fn count_together(places: &[Place], last: u64) -> (u64, u64) {
     let (mut together, mut beside, mut tried) = (0u64, 0u64, 0u64);
     for place in places {
         let (since, until) = (place.clash.begun(), place.clash.until);
         if has_beside(place.key, since, until, places) {
             more(&mut together);
         }
-        for later in LATER {
-            let (since, until) = (since.saturating_add(later), until.saturating_add(later));
+        for thirds in 1..=2 {
+            let (since, until) = compared_period(since, until, thirds, last);
             more(&mut tried);
             if has_beside(place.key, since, until, places) {
                 more(&mut beside);
@@ -610,26 +613,35 @@ fn has_beside(key: u32, since: u64, until: u64, places: &[Place]) -> bool {
     false
 }
 
-/// The moments from the begin of a contradiction to the begins of its two comparison periods. A comparison period is as
-/// long as the contradiction and shows how often the same overlap happens by chance.
-const LATER: [u64; 2] = [1_501, 3_001];
+/// Returns a comparison period of a contradiction that lasts from the moment `since` to the moment `until`. The
+/// comparison period shows how often the same overlap happens by chance. The comparison period is as long as the
+/// contradiction, and begins one or two (`thirds`) thirds of the recording later. If the end of the recording is
+/// reached, the comparison period begins in the first part of the recording. `last` is the recording's last moment.
+fn compared_period(since: u64, until: u64, thirds: u64, last: u64) -> (u64, u64) {
+    let length = until.saturating_sub(since);
+    let begins = last.saturating_sub(length).saturating_add(1);
+    let later = since.saturating_add((last / 3).saturating_mul(thirds));
+    let begin = later.checked_rem(begins).unwrap_or(0);
+    (begin, begin.saturating_add(length))
+}
 
 /// The maximum number of contradictions that `usual_share` considers, and the approximate size of a sample of calls.
 /// Limits the time of a diagnosis.
 const MOST_COMPARED: usize = 400;
 
-/// Returns the percentage of comparison periods that overlap a change of another key. A comparison period is as long as
-/// a loss or return of a key, but begins later (see `LATER`). Considers only the first `MOST_COMPARED` contradictions,
-/// and only losses and returns that a later call shows.
-fn usual_share(places: &[Place], neighbours: &Neighbours) -> u64 {
+/// Returns the percentage of comparison periods (see `compared_period`) that overlap a change of another key. Considers
+/// only the first `MOST_COMPARED` contradictions of `gone`, the losses and returns of keys that a later call shows.
+/// `last` is the last moment of the recording.
+fn usual_share(gone: &[Place], neighbours: &Neighbours, last: u64) -> u64 {
     let (mut beside, mut tried) = (0u64, 0u64);
-    for place in places.iter().take(MOST_COMPARED) {
-        if !place.is_gone() || place.clash.second.is_none() {
-            continue;
-        }
-        for later in LATER {
-            let since = place.clash.begun().saturating_add(later);
-            let until = place.clash.until.saturating_add(later);
+    for place in gone.iter().take(MOST_COMPARED) {
+        for thirds in 1..=2 {
+            let (since, until) = compared_period(
+                place.clash.begun(),
+                place.clash.until,
+                thirds,
+                last,
+            );
             more(&mut tried);
             if neighbours.overlap(place.key, since, until, None) {
                 more(&mut beside);
