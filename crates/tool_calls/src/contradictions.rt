@@ -1,7 +1,8 @@
-//! Finds contradictions: pairs of calls on a key that no order explains. A call needs its key present or absent, and
-//! leaves it present or absent. Two calls contradict each other if the first leaves the key in one state, the second
-//! needs the other state, and no call that can change the key to this other state overlaps the time from the first
-//! call's begin to the second call's end.
+//! Finds contradictions: pairs of calls on one key that no order explains. The first call leaves the key in one state
+//! (present or absent), and the second call needs the opposite state. No add or remove that can have changed the key to
+//! this opposite state was running between the begin of the first call and the end of the second. The opening state or
+//! a stretch (a group of overlapping changes) can replace the first call, and the final state can replace the second.
+//! Two overlapping calls contradict each other if no order of the two is possible.
 
 use crate::key_calls::KeyCalls;
 use crate::made_calls::{Made, NEVER, drop_ended, other};
@@ -9,23 +10,30 @@ use crate::stretches::{Stretch, stretch_before};
 use lset_words::Presence;
 use std::alloc::{AllocError, Global};
 
-/// A contradiction between calls on one key.
+/// A contradiction on one key: the first call (or `stretch`, or the opening state) leaves the key in the state `was`,
+/// the second call (or the final state) needs the opposite state, and no call can have made this change in between.
 #[derive(Clone, Copy)]
 pub struct Clash {
-    /// The call that leaves the key in the state `was`. `None` if `stretch` leaves this state, or if it is the opening
-    /// state.
+    /// The call that leaves the key in the state `was`. `None` if `stretch` leaves this state, or if the key opens in
+    /// this state.
     pub first: Option<Made>,
-    /// The call that needs the state opposite to `was`. `None` if the final state is the opposite of `was`.
+    /// The call that needs the state opposite to `was`. `None` if the final state is this opposite state.
     pub second: Option<Made>,
-    /// Overlapping changes that leave the key in the state `was`, as the numbers of adds and removes among them show.
+    /// A group of overlapping adds and removes after which the key is in the state `was`, in whichever order they took
+    /// effect.
     pub stretch: Option<Stretch>,
+    /// The state (present or absent) in which the contradiction begins.
     pub was: Presence,
+    /// The moment (a time in the recording) at which the contradiction begins; 0 if the opening state replaces the
+    /// first call.
     pub since: u64,
+    /// The moment at which the last of the contradicting calls ended; `NEVER` if the final state replaces the second
+    /// call.
     pub until: u64,
 }
 
 impl Clash {
-    /// Returns `true` if the two calls overlap.
+    /// Returns `true` if the contradiction is between two calls that overlap each other in time.
     pub fn overlaps(&self) -> bool {
         match (self.first, self.second) {
             (Some(first), Some(second)) => second.begun < first.ended,
@@ -33,9 +41,9 @@ impl Clash {
         }
     }
 
-    /// Returns when the contradiction begins: when its first call began. If `stretch` takes the place of this call, the
-    /// contradiction begins with the stretch or its call `read`. If the opening state takes its place, it begins with
-    /// the second call.
+    /// Returns the moment at which the contradiction begins: the begin of `first`, of `stretch.read` or, without this
+    /// call, of `stretch`. If the opening state replaces these calls, returns the begin of `second`; without `second`,
+    /// returns 0.
     pub fn begun(&self) -> u64 {
         match (self.stretch, self.first, self.second) {
             (Some(stretch), _, _) => stretch.read.map_or(stretch.begun, |read| read.begun),
@@ -46,16 +54,22 @@ impl Clash {
     }
 }
 
-/// The presence of the key that a call needs, or the final presence, with the call's begin and end.
+/// A need for a state of the key: a call, or the end of the recording, needs the key present or absent.
 #[derive(Clone, Copy)]
 struct Need {
+    /// The call; `None` for the final state.
     second: Option<Made>,
+    /// The state that is needed.
     state: Presence,
+    /// When the call began; `NEVER` for the final state.
     begun: u64,
+    /// When the call ended; `NEVER` for the final state.
     ended: u64,
 }
 
-/// Finds earlier calls that had ended and contradict the state that a later call needs, or the final state.
+/// Returns a contradiction between `need` and the opening state, a call that ended before `need.begun`, or a stretch (a
+/// group of overlapping changes) that ended before. `stretches` are all stretches of the key. `None` if no
+/// contradiction is found.
 fn clash_before(key: &KeyCalls, stretches: &[Stretch], need: Need) -> Option<Clash> {
     let was = other(need.state);
     let first = key.proof_before(was, need.begun);
@@ -86,7 +100,9 @@ fn clash_before(key: &KeyCalls, stretches: &[Stretch], need: Need) -> Option<Cla
     None
 }
 
-/// Finds earlier calls that had ended before `call` began and contradict it.
+/// Returns a contradiction between `call` and what happened before: a call that had ended before `call` began, a
+/// stretch (a group of overlapping changes), or the opening state. `stretches` are all stretches of the key. `None` if
+/// no contradiction is found, or if `call` is pending.
 pub fn clash_of(key: &KeyCalls, stretches: &[Stretch], call: Made) -> Option<Clash> {
     let need = Need {
         second: Some(call),
@@ -97,7 +113,8 @@ pub fn clash_of(key: &KeyCalls, stretches: &[Stretch], call: Made) -> Option<Cla
     clash_before(key, stretches, need)
 }
 
-/// Finds calls that contradict the final state of the key.
+/// Returns a contradiction between the final state of the key and an earlier call, a stretch or the opening state.
+/// `None` if no contradiction is found, or if the final state is unknown.
 fn clash_at_end(key: &KeyCalls, stretches: &[Stretch]) -> Option<Clash> {
     let need = Need {
         second: None,
@@ -108,8 +125,9 @@ fn clash_at_end(key: &KeyCalls, stretches: &[Stretch]) -> Option<Clash> {
     clash_before(key, stretches, need)
 }
 
-/// Returns `true` if call `one` leaves a state that call `two` does not need, and no call can have changed this state
-/// from `since` to `until`.
+/// Returns `true` if `two` cannot take effect after `one` in the time from `since` to `until`: `one` leaves the key in
+/// the state opposite to the one that `two` needs, and no call that can have changed the key to the needed state was
+/// running in this time.
 fn excludes(key: &KeyCalls, one: Made, two: Made, until: u64, since: u64) -> bool {
     match two.needs() {
         Some(needs) => one.leaves() == Some(other(needs)) && !key.may_become(needs, since, until),
@@ -117,8 +135,8 @@ fn excludes(key: &KeyCalls, one: Made, two: Made, until: u64, since: u64) -> boo
     }
 }
 
-/// Returns a contradiction if two overlapping calls contradict each other whichever of them takes effect first. The
-/// call `first` began before the call `second`.
+/// Returns a contradiction between two overlapping calls if neither can take effect after the other. `first` began
+/// before `second`.
 fn clash_at_once(key: &KeyCalls, first: Made, second: Made) -> Option<Clash> {
     let (since, until) = (first.begun, first.ended.max(second.ended));
     let was = first.leaves()?;
@@ -135,18 +153,18 @@ fn clash_at_once(key: &KeyCalls, first: Made, second: Made) -> Option<Clash> {
     None
 }
 
-/// The maximum number of contradictions kept for a key.
+/// At most this many contradictions of a key are kept. The limit bounds memory, and the time to examine them.
 const MOST_PLACES: usize = 20_000;
 
-/// Contradictions that do not overlap each other in time.
+/// Contradictions of one key that do not overlap each other in time, ordered by time.
 #[derive(Drop)]
 struct Apart {
     found: Vec<Clash>,
 }
 
 impl Apart {
-    /// Adds a contradiction if it overlaps none of those kept earlier. If it overlaps only the last kept contradiction
-    /// and ends before the last one does, replaces the last one.
+    /// Adds `clash` if it begins after the last contradiction in the list has ended, and the list has room. If `clash`
+    /// overlaps only the last contradiction and ends earlier, replaces the last one. Otherwise drops `clash`.
     fn keep(&mut self, clash: Clash) -> Result<(), AllocError> {
         let Some(last) = self.found.last().copied() else {
             self.found.push(clash)?;
@@ -168,8 +186,8 @@ impl Apart {
     }
 }
 
-/// Returns contradictions of a key, ordered by time. If two contradictions overlap each other in time, only one of them
-/// is returned. Allocates.
+/// Returns at most `MOST_PLACES` contradictions of a key, ordered by time. If two of them overlap each other in time,
+/// returns only one of the two. `stretches` are all stretches (groups of overlapping changes) of the key. Allocates.
 pub fn clashes_of(
     alloc: Global,
     key: &KeyCalls,

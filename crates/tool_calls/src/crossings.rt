@@ -1,7 +1,9 @@
+//! Finds periods of sequential calls: no call in such a period began while another call was running.
+
 use crate::made_calls::Made;
 use std::alloc::{AllocError, Global};
 
-/// The numbers of calls that began while another call was running.
+/// Counts of the calls that began while another call was running.
 #[derive(Drop)]
 pub struct Crossings {
     /// `counts[i]` is the number of calls among the first i + 1 that began while another call was running.
@@ -9,7 +11,8 @@ pub struct Crossings {
 }
 
 impl Crossings {
-    /// Counts the calls that began while another call was running. The calls must be ordered by begin. Allocates.
+    /// Counts the calls that began while an earlier call in `calls` was running. `calls` must be ordered by begin.
+    /// Allocates.
     pub fn of(alloc: Global, calls: &[Made]) -> Result<Crossings, AllocError> {
         let mut counts = Vec::new(alloc);
         let (mut count, mut latest) = (0u32, 0u64);
@@ -28,7 +31,8 @@ impl Crossings {
         self.counts.get(count.wrapping_sub(1)).copied().unwrap_or(0)
     }
 
-    /// Returns `true` if none of the calls that began from `since` to `until` began while another call was running.
+    /// Returns `true` if the calls that began at the moments from `since` to `until` are sequential: none of them began
+    /// while another call was running. `calls` must be the calls that were passed to `of`.
     pub fn has_none(&self, calls: &[Made], since: u64, until: u64) -> bool {
         let first = calls.partition_point(|call| call.begun < since);
         let end = calls.partition_point(|call| call.begun <= until);

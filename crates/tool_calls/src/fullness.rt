@@ -1,19 +1,23 @@
+//! Estimates how many keys the set contains at each moment of a recording.
+
 use crate::made_calls::Made;
 use crate::runs::Runs;
 use lset_words::Presence;
 use std::alloc::{AllocError, Global};
 
-/// The number of keys that are known to be present at each moment. A key is known to be present if its last completed
-/// call left it present.
+/// The number of keys that were known to be present, at each moment of a recording. A key is known to be present if the
+/// last call on the key that ended left it present or, before any such call, if the set opened with the key.
 #[derive(Drop)]
 pub struct Fullness {
-    /// The moments when the number changes, in increasing order.
+    /// The moments at which the number changes, in increasing order.
     ends: Vec<u64>,
+    /// `counts[i]` is the number of keys after the moment `ends[i]`.
     counts: Vec<u64>,
+    /// The number of opening keys.
     first: u64,
 }
 
-/// Returns the completed calls of a recording in the order of their ends.
+/// Returns the completed calls in `calls`, in the order of their ends.
 fn by_ends(alloc: Global, calls: &[Made]) -> Result<Vec<Made>, AllocError> {
     let mut ended = Vec::new(alloc);
     for call in calls {
@@ -26,7 +30,7 @@ fn by_ends(alloc: Global, calls: &[Made]) -> Result<Vec<Made>, AllocError> {
 }
 
 impl Fullness {
-    /// Computes the numbers for a recording. Allocates.
+    /// Counts the keys that are known to be present after the end of each call. Allocates.
     pub fn of(alloc: Global, runs: &Runs<'_>) -> Result<Fullness, AllocError> {
         let opening = &runs.recorded.opening;
         let mut present = Vec::from_elem(alloc, false, runs.places())?;
@@ -59,7 +63,7 @@ impl Fullness {
         Ok(full)
     }
 
-    /// Returns the number of keys that are known to be present just before a moment.
+    /// Returns the number of keys that were known to be present just before `moment`.
     pub fn before(&self, moment: u64) -> u64 {
         let at = self.ends.partition_point(|end| *end < moment);
         self.counts
@@ -69,7 +73,7 @@ impl Fullness {
     }
 
     /// Returns the percentage of sampled calls that began while at least `least` and at most `most` keys were known to
-    /// be present.
+    /// be present. The sample has calls at equal distances in `calls`; without calls, returns 100.
     pub fn share_between(&self, calls: &[Made], least: u64, most: u64) -> u64 {
         let step = calls.len().checked_div(SAMPLED).unwrap_or(0);
         let (mut count, mut tried, mut next) = (0u64, 0u64, 0usize);
@@ -88,5 +92,6 @@ impl Fullness {
     }
 }
 
-/// The maximum size of a sample of calls.
+/// The sample has every call if there are fewer calls than this; otherwise at least this many calls, and less than
+/// twice as many. Bounds the time of `share_between`.
 const SAMPLED: usize = 500;

@@ -1,15 +1,22 @@
+//! The calls on one key of a recording, indexed for two searches: which earlier call shows the state of the key, and
+//! whether a change of the key overlaps a period. A change is an add or remove that returned true or is pending (it can
+//! have taken effect).
+
 use crate::made_calls::{Made, Operation};
 use lset_words::Presence;
 use std::alloc::{AllocError, Global};
 
-/// The changes of a key to one state, ordered by begin. `latest[i]` is the latest end of the first i + 1 changes.
+/// The changes of a key to one state, ordered by begin: the adds, or the removes, that returned true or are pending.
 #[derive(Drop)]
 struct Makers {
+    /// The moments at which the changes began, in increasing order.
     begins: Vec<u64>,
+    /// `latest[i]` is the latest end of the first i + 1 changes.
     latest: Vec<u64>,
 }
 
 impl Makers {
+    /// Collects the changes to `state` among `calls`, the key's calls ordered by begin.
     fn of(alloc: Global, calls: &[Made], state: Presence) -> Result<Makers, AllocError> {
         let mut begins = Vec::new(alloc);
         let mut latest = Vec::new(alloc);
@@ -24,7 +31,7 @@ impl Makers {
         Ok(Makers { begins, latest })
     }
 
-    /// Returns whether all changes that began before a moment had ended by this moment.
+    /// Returns `true` if all changes that began before `moment` had ended before `moment`.
     fn have_ended(&self, moment: u64) -> bool {
         let at = self.begins.partition_point(|begun| *begun < moment);
         match self.latest.get(at.wrapping_sub(1)) {
@@ -33,6 +40,7 @@ impl Makers {
         }
     }
 
+    /// Returns `true` if a change was running at a moment from `since` to `until`, both included.
     fn overlap(&self, since: u64, until: u64) -> bool {
         let at = self.begins.partition_point(|begun| *begun <= until);
         match self.latest.get(at.wrapping_sub(1)) {
@@ -42,15 +50,18 @@ impl Makers {
     }
 }
 
-/// The completed calls that left a key in a given state: their ends in increasing order. For each end, also the call
-/// that began last among the calls that had ended by this end.
+/// The completed calls that left a key in one state, ordered by end. Each call is a proof that the key was in this
+/// state at a moment while the call was running.
 #[derive(Drop)]
 struct Proofs {
+    /// The moments at which the calls ended, in increasing order.
     ends: Vec<u64>,
+    /// `last[i]` is the call that began last among the first i + 1 calls.
     last: Vec<Made>,
 }
 
 impl Proofs {
+    /// Collects the completed calls among `calls` that left the key in `state`.
     fn of(alloc: Global, calls: &[Made], state: Presence) -> Result<Proofs, AllocError> {
         let mut found: Vec<Made> = Vec::new(alloc);
         for call in calls {
@@ -74,27 +85,36 @@ impl Proofs {
         Ok(Proofs { ends, last })
     }
 
+    /// Returns the call that began last among those that ended before `moment`. `None` if no call ended before.
     fn before(&self, moment: u64) -> Option<Made> {
         let at = self.ends.partition_point(|end| *end < moment);
         self.last.get(at.wrapping_sub(1)).copied()
     }
 }
 
-/// The calls on a key, with its opening state and, if known, its final state.
+/// The calls on one key of a recording, indexed for searches.
 #[derive(Drop)]
 pub struct KeyCalls {
     pub key: u32,
+    /// The calls on the key, ordered by begin.
     pub calls: Vec<Made>,
+    /// The state of the key (present or absent) before the first call.
     pub opening: Presence,
+    /// The state of the key after all calls; `None` if it is unknown.
     pub left: Option<Presence>,
+    /// The adds that changed the key, or can have changed it.
     puts: Makers,
+    /// The removes that changed the key, or can have changed it.
     takes: Makers,
+    /// The completed calls that left the key present.
     present: Proofs,
+    /// The completed calls that left the key absent.
     absent: Proofs,
 }
 
 impl KeyCalls {
-    /// Indexes the calls on a key for searches. The calls must be ordered by begin. Allocates.
+    /// Indexes `calls`, the calls on `key` ordered by begin, for searches. `opening` is the key's state before these
+    /// calls. `left` is the state after them, if known. Allocates.
     pub fn new(
         alloc: Global,
         key: u32,
@@ -118,8 +138,9 @@ impl KeyCalls {
         })
     }
 
-    /// Returns `true` if a call that changed the key to this state, or can have changed it, overlaps the time from
-    /// `since` to `until`.
+    /// Returns `true` if the key can have been changed to `state` between the moments `since` and `until`, both
+    /// included: an add (for present) or a remove (for absent) that returned true or is pending was running at that
+    /// time.
     pub fn may_become(&self, state: Presence, since: u64, until: u64) -> bool {
         match state {
             Presence::Present => self.puts.overlap(since, until),
@@ -127,7 +148,8 @@ impl KeyCalls {
         }
     }
 
-    /// Returns `true` if no call that changes the key to this state, or can change it, was running at a moment.
+    /// Returns `true` if no call that changed the key to `state` was running at `moment`: every add (for present) or
+    /// remove (for absent) that returned true or is pending, and began before `moment`, had ended before `moment`.
     pub fn no_change_runs(&self, state: Presence, moment: u64) -> bool {
         match state {
             Presence::Present => self.puts.have_ended(moment),
@@ -135,8 +157,8 @@ impl KeyCalls {
         }
     }
 
-    /// Returns the call that left the key in this state and had ended before a moment. If there are several, returns
-    /// the call that began last.
+    /// Returns a completed call that ended before `moment` and left the key in `state`. If several calls did, returns
+    /// the one that began last; `None` if no call did.
     pub fn proof_before(&self, state: Presence, moment: u64) -> Option<Made> {
         match state {
             Presence::Present => self.present.before(moment),
@@ -144,18 +166,18 @@ impl KeyCalls {
         }
     }
 
-    /// Returns how many calls had begun by a moment.
+    /// Returns how many of the key's calls began at `moment` or earlier.
     pub fn begun_by(&self, moment: u64) -> usize {
         self.calls.partition_point(|call| call.begun <= moment)
     }
 
-    /// Returns the calls that began after a moment.
+    /// Returns the key's calls that began later than `moment`, ordered by begin.
     pub fn after(&self, moment: u64) -> &[Made] {
         self.calls.get(self.begun_by(moment)..).unwrap_or(&[])
     }
 
-    /// Returns the calls of an operation that returned false and overlap the time from `since` to `until`. Of the calls
-    /// that began before `since`, considers only the last `MOST_OLDER`.
+    /// Returns the calls of `operation` that returned false and were running at a moment from `since` to `until`. Of
+    /// the calls that began by `since`, checks only the last `MOST_OLDER`. Allocates.
     pub fn refusals(
         &self,
         alloc: Global,
@@ -175,8 +197,8 @@ impl KeyCalls {
         Ok(found)
     }
 
-    /// Returns `true` if another add or remove of the key that returned true overlaps a change. Considers only the
-    /// `MOST_OLDER` calls that began last.
+    /// Returns `true` if another add or remove of the key that returned true overlaps the call `change` in time. Of the
+    /// calls that began by the end of `change`, checks only the last `MOST_OLDER`.
     pub fn has_change_beside(&self, change: Made) -> bool {
         let end = self.begun_by(change.ended);
         let earlier = self.calls.get(..end).unwrap_or(&[]);
@@ -189,8 +211,9 @@ impl KeyCalls {
         false
     }
 
-    /// Returns the last completed change of the key to this state that had begun by a moment. Considers only the
-    /// `MOST_CHANGED` calls that began last.
+    /// Returns the last call that began by `moment` and changed the key to `state`: an add (for present) or a remove
+    /// (for absent) that returned true. Checks only the last `MOST_CHANGED` calls that began by `moment`; `None` if no
+    /// such call is among them.
     pub fn change_before(&self, state: Presence, moment: u64) -> Option<Made> {
         let end = self.begun_by(moment);
         let earlier = self.calls.get(..end).unwrap_or(&[]);
@@ -203,8 +226,10 @@ impl KeyCalls {
     }
 }
 
-/// The maximum number of earlier calls that are searched for the last change.
+/// How many calls, counted back from a moment, are searched for the last change of a key. Bounds the time of a search;
+/// an earlier change is not found.
 const MOST_CHANGED: usize = 1_000;
 
-/// The maximum number of earlier calls that are checked for an overlap.
+/// How many calls, counted back from a moment, are checked for an overlap with a later time. The limit bounds the time
+/// of a search; a call that began earlier is missed, even if the call still runs.
 const MOST_OLDER: usize = 400;

@@ -1,18 +1,20 @@
-//! The judge's rule for the calls on one key: a pending change takes effect only if the reply of an ending call
-//! requires it. If several pending changes could take effect, the change that ends first does.
+//! Decides whether the calls on one key are linearizable, by the rule of the judge (the crate `lset_judge`). The begins
+//! and ends of the calls are processed in the order of time. A running add or remove that returned true or is pending
+//! takes effect only when the reply of a call that ends requires the change. If several changes can take effect, the
+//! one that ends first does.
 
 use crate::made_calls::{Made, NEVER, other};
 use lset_words::Presence;
 use std::alloc::{AllocError, Global};
 
-/// The running calls: they have begun and end later.
+/// The running calls: those that have begun and not yet ended at the moment up to which the calls were processed.
 #[derive(Drop)]
 pub struct Pending {
     calls: Vec<Made>,
 }
 
 impl Pending {
-    /// Returns an empty list.
+    /// Returns an empty list. Does not allocate.
     pub fn new(alloc: Global) -> Pending {
         Pending {
             calls: Vec::new(alloc),
@@ -26,7 +28,8 @@ impl Pending {
         })
     }
 
-    /// Adds a call, unless it is pending or its reply is unknown.
+    /// Adds a call that has begun. Ignores a call without an end and a reply in the recording, since no reply has to be
+    /// checked. Allocates.
     pub fn push(&mut self, call: Made) -> Result<(), AllocError> {
         if call.reply.is_some() {
             self.calls.push(call)?;
@@ -34,11 +37,13 @@ impl Pending {
         Ok(())
     }
 
+    /// Returns the number of running calls.
     pub fn len(&self) -> usize {
         self.calls.len()
     }
 
-    /// Removes the call with the earliest end from the list and returns it, if it ends before a moment.
+    /// Removes the call that ends first from the list and returns it, if it ends before the moment `at`. Otherwise
+    /// returns `None`.
     pub fn next_before(&mut self, at: u64) -> Option<Made> {
         let mut least: Option<usize> = None;
         let mut end = at;
@@ -57,17 +62,21 @@ impl Pending {
     }
 }
 
-/// The state of the judge for one key: the key's presence, the moment of the last change, and the ends of the pending
-/// changes that have not taken effect.
+/// What is known about one key at the moment up to which its calls were processed: the state of the key, and the
+/// running changes (adds and removes that returned true or are pending) that have not taken effect yet.
 #[derive(Drop)]
 pub struct KeyState {
+    /// Whether the key is present or absent.
     state: Presence,
+    /// The moment at which a change last took effect; 0 if none did.
     turned: u64,
+    /// When the running adds end that have not taken effect.
     adds: Vec<u64>,
+    /// When the running removes end that have not taken effect.
     removes: Vec<u64>,
 }
 
-/// Removes the smallest end. Returns `false` if the list is empty.
+/// Removes the smallest number from `ends`. Returns `false` if `ends` is empty.
 fn take_least(ends: &mut Vec<u64>) -> bool {
     let mut least: Option<(usize, u64)> = None;
     for (i, end) in ends.iter().enumerate() {
@@ -84,13 +93,14 @@ fn take_least(ends: &mut Vec<u64>) -> bool {
     }
 }
 
-/// Returns `true` if two lists without duplicates have the same numbers.
+/// Returns `true` if the lists have equal lengths and each number in `some` is in `others`. Lists without repeated
+/// numbers then have the same numbers. All pending calls have the end `NEVER`, which a list can repeat.
 fn are_alike(some: &[u64], others: &[u64]) -> bool {
     some.len() == others.len() && some.iter().all(|end| others.contains(end))
 }
 
 impl KeyState {
-    /// Creates the state of a key with no pending changes.
+    /// Creates a state without running changes: the key is in `state`.
     pub fn new(alloc: Global, state: Presence) -> KeyState {
         KeyState {
             state,
@@ -110,7 +120,9 @@ impl KeyState {
         })
     }
 
-    /// Returns `true` only if this state accepts every continuation that the state `than` accepts.
+    /// Returns `true` if both states have the same presence of the key and running changes with the same ends, and the
+    /// last change of this state is no earlier. This state then accepts all replies that `than` accepts from now on, if
+    /// at most one running add and one running remove are pending (they never end).
     pub fn is_like(&self, than: &KeyState) -> bool {
         self.state == than.state
             && self.turned >= than.turned
@@ -118,8 +130,8 @@ impl KeyState {
             && are_alike(&self.removes, &than.removes)
     }
 
-    /// Removes the earliest end of the pending changes that can change the state. Returns `false` if there is no such
-    /// change.
+    /// Removes the change that ends first among the running changes that can change the state: an add if the key is
+    /// absent, a remove if it is present. Returns `false` if there is no such change.
     fn take_next(&mut self) -> bool {
         match self.state {
             Presence::Present => take_least(&mut self.removes),
@@ -127,8 +139,8 @@ impl KeyState {
         }
     }
 
-    /// Applies the pending change that ends first among those that can change the state. Returns `false` if there is no
-    /// such change.
+    /// Lets the running change that ends first, among those that can change the state, take effect at the moment `at`.
+    /// Returns `false` if there is no such change.
     pub fn flip(&mut self, at: u64) -> bool {
         if !self.take_next() {
             return false;
@@ -138,7 +150,9 @@ impl KeyState {
         true
     }
 
-    /// Returns `true` if the reply of the ending call agrees with the state.
+    /// Returns `true` if the reply of `call`, which ends now, agrees with the state. The reply of an add or remove that
+    /// changed the key agrees if the change has taken effect. Any other reply agrees if the key is in the state that
+    /// the call found, or was before a change took effect while the call was running.
     pub fn satisfies(&self, call: Made) -> bool {
         match call.makes() {
             Some(Presence::Present) => !self.adds.contains(&call.ended),
@@ -150,8 +164,9 @@ impl KeyState {
         }
     }
 
-    /// Applies pending changes until the reply of the ending call agrees with the state. Returns `true` if that is
-    /// possible.
+    /// Lets running changes take effect until the reply of `call`, which ends now, agrees with the state. Returns
+    /// `false` if no further change can take effect and the reply still disagrees: the calls so far are not
+    /// linearizable.
     pub fn settle(&mut self, call: Made) -> bool {
         let most = self.adds.len().saturating_add(self.removes.len());
         for _ in 0..most {
@@ -165,7 +180,8 @@ impl KeyState {
         self.satisfies(call)
     }
 
-    /// Records the begin of a call.
+    /// Records that `call` begins: an add or remove that returned true or is pending can take effect from now on.
+    /// Allocates.
     pub fn begin(&mut self, call: Made) -> Result<(), AllocError> {
         match call.makes() {
             Some(Presence::Present) => self.adds.push(call.ended)?,
@@ -175,8 +191,8 @@ impl KeyState {
         Ok(())
     }
 
-    /// Processes all ends before a moment. Returns the first end such that the calls up to this end are not
-    /// linearizable, or `None`.
+    /// Ends the calls in `pending` that end before the moment `at`, in the order of their ends. Returns the first end
+    /// at which the reply agrees with no order of the calls so far; `None` if all replies agree.
     pub fn end_before(&mut self, pending: &mut Pending, at: u64) -> Option<u64> {
         for _ in 0..pending.len() {
             let call = pending.next_before(at)?;
@@ -187,7 +203,8 @@ impl KeyState {
         None
     }
 
-    /// Returns `true` if `left` is a possible final state of the key.
+    /// Returns `true` if `left` can be the final state after all ends: the key is in this state, or a pending call can
+    /// still change it. Always `true` if `left` is `None` (unknown).
     pub fn may_be_left(&self, left: Option<Presence>) -> bool {
         let turns = match self.state {
             Presence::Present => !self.removes.is_empty(),
@@ -197,9 +214,9 @@ impl KeyState {
     }
 }
 
-/// Returns the first moment such that the calls up to this moment are not linearizable. `calls` must be ordered by
-/// begin. Returns `NEVER` if the calls are linearizable but no order ends with the final state, and `None` if some
-/// order does. Allocates.
+/// Returns the first moment such that the key's calls up to this moment are not linearizable. Returns `NEVER` if the
+/// calls are linearizable, but no order leaves the final state `left`, and `None` if an order does. `calls` must be
+/// ordered by begin; `opening` is the key's first state. Allocates.
 pub fn failing_moment(
     alloc: Global,
     calls: &[Made],
@@ -225,8 +242,8 @@ pub fn failing_moment(
     })
 }
 
-/// Returns `true` if some order explains a key's calls: it starts from the opening state and ends with the final state,
-/// if a final state is given. Allocates.
+/// Returns `true` if the calls on a key are linearizable: an order explains all replies, starts from the state
+/// `opening`, and ends with the state `left`, if known. `calls` must be ordered by begin. Allocates.
 pub fn has_order(
     alloc: Global,
     calls: &[Made],

@@ -1,5 +1,6 @@
-//! The calls of a recording, key by key, and their properties: contradictions, the duration of a wrong state, and the
-//! replies that would be right. Nothing in this crate asks the judge.
+//! Facts about the calls of a concurrent set that a recording contains, key by key: which calls contradict each other
+//! (no order explains both), and which replies would be right. Decides no verdict: the crate `lset_judge` decides
+//! whether a recording is linearizable.
 #![tactic(auto)]
 
 mod contradictions;

@@ -1,24 +1,27 @@
-//! Finds two keys that the set treats as one: the calls on each key are not linearizable, but all of them, taken as
-//! calls on one key, are.
+//! Finds two keys that the set treats as one key: no order explains the calls on either key, but the calls on both keys
+//! are linearizable if they are taken as calls on one key. A key is refused if its calls are not linearizable.
 
 use crate::key_order::has_order;
 use crate::made_calls::Made;
 use crate::runs::{Refused, Runs, first_of};
 use std::alloc::{AllocError, Global};
 
-/// If there are at most this many refused keys, all pairs are tried.
+/// If at most this many keys are refused (their calls are not linearizable), all pairs of them are tried. The limit
+/// bounds the time.
 const MOST_PAIRED: usize = 8;
 
-/// The maximum number of keys that are tried as the partner of the first refused key.
+/// If more than `MOST_PAIRED` keys are refused (their calls are not linearizable), only this many of them are paired
+/// with the key that is refused first. The limit bounds the time.
 const MOST_TRIED: usize = 64;
 
-/// Pairs of keys with more calls than this are not tried.
+/// Two keys that have more calls than this together are not tried. The limit bounds the time.
 const MOST_CALLS: usize = 1_000_000;
 
-/// Each key of a pair must have at least this many completed changes.
+/// Each key of a pair must have at least this many adds and removes that returned true. Fewer calls can fit those of
+/// another key by chance.
 const LEAST_CHANGES: usize = 4;
 
-/// Returns how many of the calls are completed changes.
+/// Returns how many of the calls are adds and removes that returned true.
 fn count_changes(calls: &[Made]) -> usize {
     calls
         .iter()
@@ -26,8 +29,9 @@ fn count_changes(calls: &[Made]) -> usize {
         .count()
 }
 
-/// Returns `true` if two keys open in the same state, each has at least `LEAST_CHANGES` changes, and their calls are
-/// linearizable when taken as calls on one key. The final states are ignored.
+/// Returns `true` if the calls on the keys `one` and `two` are linearizable when taken as calls on one key, whose final
+/// state is unknown. Returns `false` without trying if the keys open in different states, have too few changes
+/// (`LEAST_CHANGES`) or too many calls (`MOST_CALLS`).
 fn are_one(alloc: Global, runs: &Runs<'_>, one: u32, two: u32) -> Result<bool, AllocError> {
     let opening = runs.recorded.opens(one);
     if opening != runs.recorded.opens(two) {
@@ -44,8 +48,8 @@ fn are_one(alloc: Global, runs: &Runs<'_>, one: u32, two: u32) -> Result<bool, A
     has_order(alloc, &calls, opening, None)
 }
 
-/// Returns the first of these keys that is a partner of the key `one`: the calls on both keys are linearizable when
-/// taken as calls on one key.
+/// Returns the first key in `others` that can be the same key as `one`: the calls on both keys are linearizable when
+/// taken as calls on one key. `None` if no key can be.
 fn partner_of(
     alloc: Global,
     runs: &Runs<'_>,
@@ -60,8 +64,9 @@ fn partner_of(
     Ok(None)
 }
 
-/// Returns two refused keys with calls that are linearizable when taken as calls on one key. If there are more than
-/// `MOST_PAIRED` refused keys, tries only pairs with the first refused key. Allocates.
+/// Returns two of the keys in `refused` (keys with calls that are not linearizable) that the set seems to treat as one:
+/// their calls are linearizable when taken as calls on one key. `None` if no such pair is found. If `refused` has more
+/// than `MOST_PAIRED` keys, tries only pairs with the key that is refused first. Allocates.
 pub fn merged_keys(
     alloc: Global,
     runs: &Runs<'_>,

@@ -1,19 +1,24 @@
+//! Finds the changes of other keys that ran at the same time as a call. A completed change is an add or remove that
+//! returned true.
+
 use crate::made_calls::{Made, Operation};
 use std::alloc::{AllocError, Global};
 
-/// The maximum number of earlier changes that are checked.
+/// A search checks at most this many changes, counted back from the end of the period. The limit bounds the time; an
+/// earlier change that still runs is missed.
 const MOST_BACK: usize = 100_000;
 
-/// The completed changes of all keys, ordered by begin. `latest[i]` is the latest end of the first i + 1
-/// changes.
+/// The completed changes (adds and removes that returned true) of all keys, indexed for searches by time.
 #[derive(Drop)]
 pub struct Neighbours {
+    /// The changes, ordered by begin.
     changes: Vec<Made>,
+    /// `latest[i]` is the latest end of the first i + 1 changes.
     latest: Vec<u64>,
 }
 
 impl Neighbours {
-    /// Indexes the completed changes among these calls. Allocates.
+    /// Indexes the adds and removes in `calls` that returned true. `calls` must be ordered by begin. Allocates.
     pub fn of(alloc: Global, calls: &[Made]) -> Result<Neighbours, AllocError> {
         let mut changes = Vec::new(alloc);
         let mut latest = Vec::new(alloc);
@@ -28,8 +33,8 @@ impl Neighbours {
         Ok(Neighbours { changes, latest })
     }
 
-    /// Returns at most `most` completed changes of other keys that overlap the time from `since` to `until`, the latest
-    /// first. Allocates.
+    /// Returns at most `most` adds and removes of other keys than `key` that returned true and were running at a moment
+    /// from `since` to `until`. The one that began last comes first. Allocates.
     pub fn around(
         &self,
         alloc: Global,
@@ -53,8 +58,8 @@ impl Neighbours {
         Ok(found)
     }
 
-    /// Returns `true` if a completed change of another key overlaps the time from `since` to `until`. If an operation
-    /// is given, considers only its changes.
+    /// Returns `true` if an add or remove of another key than `key` returned true and was running at a moment from
+    /// `since` to `until`. If `operation` is not `None`, considers only this operation.
     pub fn overlap(&self, key: u32, since: u64, until: u64, operation: Option<Operation>) -> bool {
         let sought = match operation {
             None => Sought::OfOtherKey,
@@ -63,12 +68,14 @@ impl Neighbours {
         self.has(key, since, until, sought)
     }
 
-    /// Returns `true` if a completed remove of a smaller key overlaps the time from `since` to `until`.
+    /// Returns `true` if a remove of a smaller key than `key` returned true and was running at a moment from `since` to
+    /// `until`. Such a remove can unlink the node before the node of `key` in a sorted list.
     pub fn unlink_below(&self, key: u32, since: u64, until: u64) -> bool {
         self.has(key, since, until, Sought::RemoveOfSmallerKey)
     }
 
-    /// Returns `true` if a completed change of the sought kind overlaps the time from `since` to `until`.
+    /// Returns `true` if an add or remove of the kind `sought` returned true and was running at a moment from `since`
+    /// to `until`. `key` is the key that `sought` compares with.
     pub fn has(&self, key: u32, since: u64, until: u64, sought: Sought) -> bool {
         let end = self.changes.partition_point(|call| call.begun <= until);
         let changes = self.changes.get(..end).unwrap_or(&[]);
@@ -85,18 +92,21 @@ impl Neighbours {
     }
 }
 
-/// Which changes a search looks for.
+/// The kind of change (an add or remove that returned true) that a search looks for, compared with a given key.
 #[derive(Clone, Copy)]
 pub enum Sought {
+    /// A change of another key.
     OfOtherKey,
+    /// A change of another key by this operation.
     OfOtherKeyBy(Operation),
     /// A change of another key that began at this moment or later.
     OfOtherKeySince(u64),
+    /// A remove of a smaller key.
     RemoveOfSmallerKey,
 }
 
 impl Sought {
-    /// Returns `true` if this call is a change that a search for changes of keys other than `key` looks for.
+    /// Returns `true` if the change `call` is of this kind, compared with `key`.
     fn includes(self, call: &Made, key: u32) -> bool {
         match self {
             Sought::OfOtherKey => call.key != key,

@@ -1,5 +1,6 @@
-//! Finds pairs of keys that undo each other's changes. If a change of a key is undone (the key is lost or returns
-//! afterwards), it nearly always overlaps a change of the key's partner, and less often a change of any third key.
+//! Finds pairs of keys that undo each other's changes. A change is undone if an added key is lost, or a removed key
+//! comes back, although no call removed or added it. In a pair, nearly every undone change of one key overlaps a change
+//! of the other key, its partner, and fewer undone changes overlap a change of any third key.
 
 use crate::key_calls::KeyCalls;
 use crate::made_calls::Made;
@@ -7,42 +8,52 @@ use crate::neighbours::Neighbours;
 use crate::symptoms::Place;
 use std::alloc::{AllocError, Global};
 
-/// The maximum number of changes of other keys that are checked for an overlap with a change.
+/// For an undone change (its effect was lost without a call), at most this many overlapping changes of other keys are
+/// counted, the latest first. The limit bounds the time.
 const MOST_BESIDE: usize = 64;
 
-/// A key is compared with other keys only if it was lost or returned at least this many times.
+/// A key can have a partner only if at least this many of its changes were undone (their effect was lost without a
+/// call). Fewer overlaps can be chance.
 const LEAST: u64 = 8;
 
-/// The maximum number of keys that are compared with a key.
+/// At most this many other keys are counted for a key. If the limit is reached, the key has no partner, since further
+/// keys were not counted.
 const MOST_KEYS: usize = 16;
 
-/// Another key, and the number of undone changes that overlap a change of this other key.
+/// A key that can be the partner of the examined key.
 #[derive(Clone, Copy)]
 struct Partner {
     key: u32,
+    /// How many undone changes of the examined key (their effect was lost without a call) overlap a change of `key`.
     hits: u64,
 }
 
-/// A key and its partner: a change of the partner overlapped nearly all undone changes of the key.
+/// A key and its partner: nearly all undone changes of the key (their effect was lost without a call) overlap a change
+/// of the partner.
 #[derive(Clone, Copy)]
 pub struct Bound {
+    /// The key with the undone changes.
     pub one: u32,
+    /// The partner.
     pub two: u32,
-    /// The number of undone changes of the key that overlap a change of the partner.
+    /// How many undone changes of `one` overlap a change of `two`.
     pub hits: u64,
-    /// The number of undone changes of the key.
+    /// How many changes of `one` were undone.
     pub of: u64,
 }
 
-/// The keys with changes that overlap undone changes of one key.
+/// The other keys with a change that overlaps an undone change (its effect was lost without a call) of the examined
+/// key.
 #[derive(Drop)]
 struct Partners {
+    /// At most `MOST_KEYS` of these keys.
     found: Vec<Partner>,
+    /// How many changes of the examined key were undone.
     of: u64,
 }
 
 impl Partners {
-    /// Counts a key with a change that overlaps the last undone change.
+    /// Counts one more undone change that overlaps a change of `key`. Ignores a new key after `MOST_KEYS` keys.
     fn count(&mut self, key: u32) -> Result<(), AllocError> {
         for partner in &mut self.found {
             if partner.key == key {
@@ -56,7 +67,8 @@ impl Partners {
         Ok(())
     }
 
-    /// Returns the partner with the most hits, and the second largest number of hits.
+    /// Returns the key with the most overlapped undone changes, and the largest such number among the other keys.
+    /// `None` if no key was counted.
     fn best(&self) -> Option<(Partner, u64)> {
         let mut best = *self.found.first()?;
         let mut second = 0;
@@ -72,8 +84,9 @@ impl Partners {
     }
 }
 
-/// Returns the completed change that was undone, if a call shows that the key was lost or returned after this change
-/// had ended.
+/// Returns the change that a contradiction (two calls on a key that no order explains) shows to be undone: the add
+/// before the key was lost, or the remove before the key came back. `None` if the contradiction shows no lost or
+/// returned key, if it is not between two calls, or if the change is unknown or overlaps the second call.
 fn undone_change(key: &KeyCalls, place: &Place) -> Option<Made> {
     let second = place.clash.second?;
     let first = place.clash.first?;
@@ -89,7 +102,8 @@ fn undone_change(key: &KeyCalls, place: &Place) -> Option<Made> {
     }
 }
 
-/// Returns the keys with changes that overlap undone changes of a key.
+/// Counts, for each other key, the undone changes of `key` that overlap a change of this other key. `places` are the
+/// contradictions of `key` (two calls that no order explains), `neighbours` are the changes of all keys.
 fn partners_of(
     alloc: Global,
     key: &KeyCalls,
@@ -120,9 +134,10 @@ fn partners_of(
     Ok(partners)
 }
 
-/// Returns a key and its partner, if a change of the partner overlapped at least 85 percent of the key's undone
-/// changes, and changes of each third key overlapped at most 70 percent as many. `places` are the contradictions of the
-/// key. Allocates.
+/// Returns `key` and its partner, the key whose changes seem to undo the changes of `key`: they overlap at least 85
+/// percent of the undone changes of `key`, and the changes of each third key overlap at most 70 percent as many. `None`
+/// without such a partner, with fewer than `LEAST` undone changes, or with `MOST_KEYS` overlapping keys. `places` are
+/// the contradictions of `key` (two calls that no order explains), `neighbours` the changes of all keys. Allocates.
 pub fn bound_of(
     alloc: Global,
     key: &KeyCalls,
@@ -148,14 +163,18 @@ pub fn bound_of(
     }))
 }
 
-/// If a key with at least this many contradictions has no partner, the recording has no pairs of keys.
+/// A key with at least this many contradictions (two calls that no order explains) should have a partner. If one such
+/// key has none, the recording is not considered to have pairs of keys.
 const MANY_PLACES: usize = 20;
 
-/// The number of keys with a partner, and the pair with the most undone changes.
+/// Counts of the keys with and without a partner, the key whose changes seem to undo theirs.
 #[derive(Clone, Copy)]
 pub struct BoundKeys {
+    /// The key and the partner with the most undone changes.
     best: Option<Bound>,
+    /// The number of keys with a partner.
     bound: u64,
+    /// The number of keys with at least `MANY_PLACES` contradictions and no partner.
     unbound: u64,
 }
 
@@ -169,8 +188,8 @@ impl BoundKeys {
         }
     }
 
-    /// Adds a key. `found` is the pair of the key and its partner, if it has one, and `places` is the number of its
-    /// contradictions.
+    /// Counts a key. `found` is the key and its partner, if it has one. `places` is the number of the key's
+    /// contradictions (two calls that no order explains).
     pub fn add(&mut self, found: Option<Bound>, places: usize) {
         let Some(next) = found else {
             if places >= MANY_PLACES {
@@ -185,8 +204,9 @@ impl BoundKeys {
         }
     }
 
-    /// Returns the pair with the most undone changes, if at least two of at least three refused keys have a partner,
-    /// and every key with many contradictions has a partner.
+    /// Returns the key and the partner (whose changes seem to undo its changes) with the most undone changes. `keys` is
+    /// the number of keys with calls that are not linearizable. `None` if `keys` is below 3, if fewer than two keys
+    /// have a partner, or if a key with `MANY_PLACES` contradictions has none.
     pub fn pair(&self, keys: u64) -> Option<Bound> {
         if self.bound < 2 || self.unbound > 0 || keys < 3 {
             return None;

@@ -1,25 +1,30 @@
+//! A recording: calls of a concurrent set, with the moments (times) at which they began and ended.
+
 use crate::made_calls::Made;
 use lset_words::Presence;
 
-/// A recording: the opening keys, the calls ordered by begin, and the final keys.
+/// A recording of a set.
 #[derive(Drop)]
 pub struct Recorded {
+    /// The keys that were present before the first call, in increasing order.
     pub opening: Vec<u32>,
+    /// The calls, ordered by begin.
     pub calls: Vec<Made>,
+    /// The final keys: those that are present after all calls, in increasing order.
     pub left: Vec<u32>,
-    /// True if the recording was cut off. Its final keys are then unknown.
+    /// `true` if the recording was cut off. The final keys are then unknown.
     pub is_cut: bool,
-    /// Whether these are only the first calls of a longer recording.
+    /// `true` if `calls` are only the first calls of a longer recording.
     pub is_part: bool,
 }
 
 impl Recorded {
-    /// Returns the opening state of a key.
+    /// Returns `Present` if `key` is an opening key, otherwise `Absent`.
     pub fn opens(&self, key: u32) -> Presence {
         presence_in(&self.opening, key)
     }
 
-    /// Returns a key's final state; `None` if it is unknown.
+    /// Returns `Present` if `key` is a final key, otherwise `Absent`. `None` if the final keys are unknown.
     pub fn leaves(&self, key: u32) -> Option<Presence> {
         if self.is_cut {
             None
@@ -29,7 +34,7 @@ impl Recorded {
     }
 }
 
-/// Returns `Present` if the key is in a list of increasing keys, otherwise `Absent`.
+/// Returns `Present` if `key` is in `keys`, otherwise `Absent`. `keys` must be in increasing order.
 fn presence_in(keys: &[u32], key: u32) -> Presence {
     match keys.binary_search(&key) {
         Ok(_) => Presence::Present,

@@ -1,5 +1,6 @@
-//! Finds repairs of a contradiction. A repair makes the surrounding calls linearizable: the opposite reply of one call,
-//! one call left out, or one additional change.
+//! Finds repairs of a contradiction (two calls on one key that no order explains). A repair is an alteration after
+//! which the calls around the contradiction are linearizable: one call has the opposite reply, one call is left out, or
+//! one more change of the key is added. The repairs show which reply is wrong.
 
 use crate::contradictions::Clash;
 use crate::key_calls::KeyCalls;
@@ -9,31 +10,40 @@ use crate::stretches::{Stretch, sure_before};
 use lset_words::Presence;
 use std::alloc::{AllocError, Global};
 
-/// How many later calls on the key must be linearizable with a repair. The largest number is tried first.
+/// How many calls on the key after a contradiction a repair must explain, in addition to the calls around the
+/// contradiction. If no repair explains the first 24 calls, for example since another contradiction follows, fewer are
+/// tried.
 const AHEAD: [usize; 3] = [24, 8, 2];
 
-/// The maximum number of calls around a contradiction that are searched for repairs.
+/// The maximum number of calls around a contradiction (two calls on a key that no order explains). If there are more,
+/// no repair is searched among these calls, since each possible repair is judged with all of them.
 const MOST_AROUND: usize = 300;
 
-/// A key's calls around a contradiction: those that begin after the moment `from` and before a later moment. A call
-/// that has not ended by this later moment is pending. The key is in the state `state` at `from`.
+/// The calls on a key around a contradiction, as they were known at a later moment: a call that ended after this moment
+/// is pending or, if the call changed nothing, missing.
 #[derive(Drop)]
 struct Around {
+    /// A moment before the contradiction. The calls began after this moment.
     from: u64,
+    /// The calls, ordered by begin.
     calls: Vec<Made>,
+    /// The state of the key (present or absent) at the moment `from`.
     state: Presence,
+    /// The final state of the key; `None` if it is unknown, or if more calls follow.
     left: Option<Presence>,
 }
 
-/// The possible repairs of a contradiction.
+/// The repairs of a contradiction: alterations after which the calls around it are linearizable.
 #[derive(Drop)]
 pub struct Repairs {
-    /// If any one of these calls had the opposite reply, the calls around the contradiction would be linearizable.
+    /// Calls with a reply that can be the wrong one: if any one of them had the opposite reply, the calls around the
+    /// contradiction would be linearizable.
     pub turned: Vec<Made>,
-    /// If any one of these adds and removes were left out, the calls around the contradiction would be linearizable.
-    /// All of them returned false.
+    /// Adds and removes that returned false. If any one of them were left out, the calls around the contradiction would
+    /// be linearizable.
     pub dropped: Vec<Made>,
-    /// Whether an additional change between the two contradicting calls would make the surrounding calls linearizable.
+    /// `true` if the calls around the contradiction would be linearizable with one more add or remove of the key during
+    /// the contradiction.
     pub change: bool,
 }
 
@@ -43,7 +53,9 @@ impl Repairs {
     }
 }
 
-/// Returns the calls around a contradiction that begin before `until`; `None` if there are too many.
+/// Returns the calls on a key that begin before the moment `until` and after a moment before the contradiction `clash`
+/// at which the state of the key is known. `stretches` (groups of overlapping changes) provide this moment. `None` if
+/// there are more than `MOST_AROUND` such calls.
 fn calls_around(
     alloc: Global,
     key: &KeyCalls,
@@ -76,7 +88,8 @@ fn calls_around(
     }))
 }
 
-/// Returns the begin of the call number `ahead` (from 0) after a contradiction; `NEVER` if there is no such call.
+/// Returns when the call number `ahead` (counted from 0) after the contradiction `clash` began; `NEVER` if fewer calls
+/// follow.
 fn moment_ahead(key: &KeyCalls, clash: &Clash, ahead: usize) -> u64 {
     key.after(clash.until)
         .get(ahead)
@@ -84,12 +97,14 @@ fn moment_ahead(key: &KeyCalls, clash: &Clash, ahead: usize) -> u64 {
 }
 
 impl Around {
+    /// Returns `true` if `calls` are linearizable from `state` on, and can leave the final state `left`.
     fn is_explained(&self, alloc: Global, calls: &[Made]) -> Result<bool, AllocError> {
         has_order(alloc, calls, self.state, self.left)
     }
 
     /// Returns `true` if the calls are linearizable when `call` has the opposite reply or, if `drops`, when `call` is
-    /// left out.
+    /// left out. If `call` is not one of the calls, a copy with the opposite reply is added, which can take effect from
+    /// the moment after `from` on.
     fn is_repaired(&self, alloc: Global, call: Made, drops: bool) -> Result<bool, AllocError> {
         let mut calls = Vec::new(alloc);
         for one in &self.calls {
@@ -112,7 +127,8 @@ impl Around {
         self.is_explained(alloc, &calls)
     }
 
-    /// Returns `true` if an additional change between the two contradicting calls makes the calls linearizable.
+    /// Returns `true` if the calls are linearizable with one more change of the key: an add or remove that runs during
+    /// the whole contradiction `clash` and changes the key to the state that its second call needs.
     fn is_repaired_by_change(&self, alloc: Global, clash: &Clash) -> Result<bool, AllocError> {
         let change = Made {
             begun: clash.begun(),
@@ -141,7 +157,7 @@ impl Around {
     }
 }
 
-/// Adds a call unless it is already in the list.
+/// Adds a call to the list unless the list already contains the call.
 fn add(calls: &mut Vec<Made>, call: Made) -> Result<(), AllocError> {
     if !calls.contains(&call) {
         calls.push(call)?;
@@ -149,8 +165,9 @@ fn add(calls: &mut Vec<Made>, call: Made) -> Result<(), AllocError> {
     Ok(())
 }
 
-/// Returns the calls to try with the opposite reply: the contradicting calls, and at most 8 calls that could have
-/// changed the key during the contradiction but returned false.
+/// Returns the calls whose reply can be the wrong one: the two calls of the contradiction `clash`, the call that shows
+/// the key's state before its group of changes (`stretch.read`), and at most 8 adds or removes that ran during the
+/// contradiction, returned false, and would have changed the key to the state that the second call needs.
 fn candidates(alloc: Global, key: &KeyCalls, clash: &Clash) -> Result<Vec<Made>, AllocError> {
     let mut found = Vec::new(alloc);
     for call in [clash.first, clash.second].into_iter().flatten() {
@@ -169,7 +186,8 @@ fn candidates(alloc: Global, key: &KeyCalls, clash: &Clash) -> Result<Vec<Made>,
     Ok(found)
 }
 
-/// Returns the repairs of a contradiction for the surrounding calls that begin before the moment `until`.
+/// Returns the repairs after which the calls `around` a contradiction are linearizable. Only calls in `candidates` are
+/// altered or left out.
 fn repairs_until(
     alloc: Global,
     clash: &Clash,
@@ -193,7 +211,9 @@ fn repairs_until(
     Ok(repairs)
 }
 
-/// Returns the repairs that make the calls around a contradiction and some later calls linearizable. Allocates.
+/// Returns the repairs of the contradiction `clash`: alterations after which the calls around it, and the next calls on
+/// the key, are linearizable. Empty if none is found. `stretches` are all groups of overlapping changes of the key.
+/// Allocates.
 pub fn repairs_of(
     alloc: Global,
     key: &KeyCalls,
@@ -218,8 +238,10 @@ pub fn repairs_of(
     })
 }
 
-/// Returns `true` if the opposite reply of a call was expected: the calls that had begun by the end of this call are
-/// not linearizable, but would be with the opposite reply. Allocates.
+/// Returns `true` if the opposite reply of `call` was expected: the key's calls that had begun by the end of `call` are
+/// not linearizable, but are with the opposite reply. Starts from a known state of the key before the contradiction
+/// `clash`; `stretches` are all groups of overlapping changes of the key. Returns `false` if `call` is not among at
+/// most `MOST_AROUND` calls since this state. Allocates.
 pub fn is_expected(
     alloc: Global,
     key: &KeyCalls,

@@ -1,3 +1,5 @@
+//! Groups the calls of a recording by key, and finds the refused keys: those with calls that are not linearizable.
+
 use crate::key_calls::KeyCalls;
 use crate::key_order::failing_moment;
 use crate::made_calls::Made;
@@ -8,37 +10,42 @@ use std::alloc::{AllocError, Global};
 #[derive(Drop)]
 pub struct Runs<'a> {
     alloc: Global,
+    /// The recording that contains the calls.
     pub recorded: &'a Recorded,
     /// The keys that have calls, in increasing order.
     keys: Vec<u32>,
-    /// For each key in `keys`, the index after its last call in `calls`.
+    /// `ends[i]` is the index in `calls` after the last call on the key `keys[i]`.
     ends: Vec<usize>,
-    /// The calls, grouped by key. The calls on each key are ordered by begin.
+    /// The calls in the order of their keys. The calls on one key are ordered by begin.
     calls: Vec<Made>,
 }
 
-/// A key with calls that are not linearizable, and the first moment such that its calls up to this moment are not
-/// linearizable. The moment is `NEVER` if only the final state contradicts the calls.
+/// A refused key: no order explains the key's calls, its opening state and its final state (present or absent).
 #[derive(Clone, Copy)]
 pub struct Refused {
     pub key: u32,
+    /// The first moment (time in the recording) such that the key's calls up to this moment are not linearizable.
+    /// `NEVER` if the calls are linearizable, but no order leaves the final state.
     pub moment: u64,
 }
 
-/// The keys that have calls, in increasing order. If the keys are small numbers, a table maps each key to its index.
+/// The keys that have calls, and the index of each key among them.
 #[derive(Drop)]
 struct KeyTable {
+    /// The keys that have calls, in increasing order.
     keys: Vec<u32>,
+    /// `ranks[key]` is the index of `key` in `keys`. Empty if the largest key is too large for such a table.
     ranks: Vec<u32>,
 }
 
-/// Returns the index of a key among increasing keys.
+/// Returns the index of `key` in `keys`, which must be increasing. If the key is missing, returns the index of the next
+/// larger key.
 fn place_of(keys: &[u32], key: u32) -> usize {
     keys.partition_point(|other| *other < key)
 }
 
 impl KeyTable {
-    /// Creates the table for calls if some keys are large numbers.
+    /// Collects the keys of the calls, without the table `ranks`.
     fn sorted(alloc: Global, calls: &[Made]) -> Result<KeyTable, AllocError> {
         let mut keys = Vec::new(alloc);
         for call in calls {
@@ -52,7 +59,8 @@ impl KeyTable {
         })
     }
 
-    /// Creates the table for these calls.
+    /// Collects the keys of the calls. Fills the table `ranks` unless the largest key is above 65,536 plus four times
+    /// the number of calls.
     fn of(alloc: Global, calls: &[Made]) -> Result<KeyTable, AllocError> {
         let mut most = 0;
         for call in calls {
@@ -86,7 +94,7 @@ impl KeyTable {
         Ok(table)
     }
 
-    /// Returns the index of a key, which must have a call.
+    /// Returns the index in `keys` of a key that has a call.
     fn rank(&self, key: u32) -> usize {
         let at = usize::try_from(key).unwrap_or(usize::MAX);
         match self.ranks.get(at) {
@@ -97,7 +105,7 @@ impl KeyTable {
 }
 
 impl<'a> Runs<'a> {
-    /// Groups the calls of a recording by key. Allocates.
+    /// Groups the calls of a recording by key. The calls must be ordered by begin. Allocates.
     pub fn of(alloc: Global, recorded: &'a Recorded) -> Result<Runs<'a>, AllocError> {
         let table = KeyTable::of(alloc, &recorded.calls)?;
         let mut counts = Vec::from_elem(alloc, 0usize, table.keys.len())?;
@@ -140,7 +148,8 @@ impl<'a> Runs<'a> {
         self.keys.len()
     }
 
-    /// Returns the index of a key among those that have calls; `usize::MAX` if the key has none.
+    /// Returns the index of `key` in `used()`, the increasing keys that have calls; `usize::MAX` if the key has no
+    /// call.
     pub fn place(&self, key: u32) -> usize {
         let place = place_of(&self.keys, key);
         if self.keys.get(place) == Some(&key) {
@@ -150,7 +159,7 @@ impl<'a> Runs<'a> {
         }
     }
 
-    /// Returns a key's calls, ordered by begin.
+    /// Returns the calls on `key`, ordered by begin. Empty if the key has no call.
     pub fn made_of(&self, key: u32) -> &[Made] {
         let place = self.place(key);
         if place == usize::MAX {
@@ -161,14 +170,15 @@ impl<'a> Runs<'a> {
         self.calls.get(start..end).unwrap_or(&[])
     }
 
-    /// Returns a key's calls, indexed for searches. Allocates.
+    /// Returns the calls on `key`, indexed for searches, with the key's opening and final state. Allocates.
     pub fn calls_of(&self, key: u32) -> Result<KeyCalls, AllocError> {
         let calls = Vec::from_slice(self.alloc, self.made_of(key))?;
         let (opening, left) = (self.recorded.opens(key), self.recorded.leaves(key));
         KeyCalls::new(self.alloc, key, calls, opening, left)
     }
 
-    /// Returns all keys of the recording in increasing order, also opening and final keys without calls. Allocates.
+    /// Returns all keys of the recording in increasing order: the keys of calls, the opening keys and the final keys.
+    /// Allocates.
     pub fn keys(&self) -> Result<Vec<u32>, AllocError> {
         let mut keys = Vec::from_slice(self.alloc, &self.keys)?;
         keys.extend_from_slice(&self.recorded.opening)?;
@@ -178,7 +188,8 @@ impl<'a> Runs<'a> {
         Ok(keys)
     }
 
-    /// Returns the keys with calls that are not linearizable. Allocates.
+    /// Returns those of `keys` with calls that are not linearizable, in the order of `keys`. A key without calls is
+    /// also returned if its opening and final state differ. Allocates.
     pub fn refused(&self, keys: &[u32]) -> Result<Vec<Refused>, AllocError> {
         let mut refused = Vec::new(self.alloc);
         for key in keys {
@@ -192,7 +203,8 @@ impl<'a> Runs<'a> {
     }
 }
 
-/// Returns the refused key with the earliest moment of refusal.
+/// Returns the refused key (a key with calls that are not linearizable) with the smallest `moment`; of several such
+/// keys, the first in the list. `None` if the list is empty.
 pub fn first_of(refused: &[Refused]) -> Option<Refused> {
     let mut first: Option<Refused> = None;
     for one in refused {

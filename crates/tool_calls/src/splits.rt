@@ -1,40 +1,49 @@
+//! Finds splits: periods in which no call changed a key, although some calls found the key present and others found it
+//! absent, in turn. A split is a sign that the operations look for the key in two different places.
+
 use crate::key_calls::KeyCalls;
 use crate::made_calls::{Made, NEVER, Operation, drop_ended};
 use lset_words::Presence;
 use std::alloc::{AllocError, Global};
 
-/// In a split, at least this many answers found the key present, and at least this many found it absent.
+/// A split (a period in which calls disagree about an unchanged key) has at least this many calls that found the key
+/// present, and at least this many that found it absent. Fewer calls can disagree for other reasons.
 const LEAST: u64 = 3;
 
-/// A split is long if it has at least this many answers.
+/// A split (a period in which calls disagree about an unchanged key) with at least this many calls is long: the
+/// disagreement is no accident.
 const LONG: u64 = 200;
 
-/// How many answers found a key present, and how many found the key absent.
+/// How many calls found a key present, and how many found the key absent.
 #[derive(Clone, Copy)]
 pub struct Votes {
     pub present: u64,
     pub absent: u64,
 }
 
-/// A split: a period without a change of a key, although calls alternately found the key present and absent.
+/// A split: a period in which no call changed a key, although calls alternately found the key present and absent.
+/// Counts the calls that changed nothing and ran within the period.
 #[derive(Clone, Copy)]
 pub struct Split {
     pub key: u32,
-    /// The begin of the period without a change.
+    /// The moment (time in the recording) at which the period begins: the end of the last change; 0 before any change.
     pub since: u64,
-    /// The begin of the next change; `NEVER` if there is no further change.
+    /// The moment at which the period ends: the begin of the next change; `NEVER` if no change follows.
     pub until: u64,
-    /// How many calls of `add` found the key present.
+    /// How many adds returned false: they found the key present.
     pub adds: u64,
-    /// How many calls of `remove` found the key absent.
+    /// How many removes returned false: they found the key absent.
     pub removes: u64,
+    /// How many contains found the key present, and how many absent.
     pub contains: Votes,
+    /// How often a counted call disagreed with the call that was counted before it.
     turns: u64,
+    /// What the last counted call found.
     last: Option<Presence>,
 }
 
 impl Split {
-    /// Creates a split without answers, beginning at the moment `since`.
+    /// Creates a split without calls that begins at the moment `since`.
     fn since(key: u32, since: u64) -> Split {
         Split {
             key,
@@ -51,7 +60,7 @@ impl Split {
         }
     }
 
-    /// Counts the answer of a call that changed nothing: whether the call found the key present or absent.
+    /// Counts a call that changed nothing: whether the call found the key present or absent.
     fn count(&mut self, call: Made) {
         let Some(found) = call.needs() else {
             return;
@@ -69,12 +78,13 @@ impl Split {
         self.last = Some(found);
     }
 
-    /// Returns `true` if the split has enough answers to show that the disagreement is no accident.
+    /// Returns `true` if the split (calls disagree about an unchanged key) has so many calls that the disagreement is
+    /// no accident: at least `LONG`.
     pub fn is_long(&self) -> bool {
         self.size() >= LONG
     }
 
-    /// Returns how many answers of all operations found the key present, and how many found the key absent.
+    /// Returns how many calls of all operations found the key present, and how many found the key absent.
     pub fn votes(&self) -> Votes {
         Votes {
             present: self.adds.saturating_add(self.contains.present),
@@ -82,22 +92,23 @@ impl Split {
         }
     }
 
-    /// Returns `true` if at least `LEAST` answers found the key present and at least `LEAST` found it absent, the
-    /// answers alternated at least three times, and all answers of `contains` agree.
+    /// Returns `true` if the period is a split: at least `LEAST` calls found the key present, at least `LEAST` absent,
+    /// at least three calls disagreed with the call counted before, and all calls of `contains` agree.
     fn is_split(&self) -> bool {
         let votes = self.votes();
         let is_mixed = self.contains.present > 0 && self.contains.absent > 0;
         votes.present >= LEAST && votes.absent >= LEAST && self.turns >= 3 && !is_mixed
     }
 
-    /// Returns the number of answers in the split.
+    /// Returns the number of counted calls.
     pub fn size(&self) -> u64 {
         let votes = self.votes();
         votes.present.saturating_add(votes.absent)
     }
 }
 
-/// Returns the split with the most answers among the splits of a key. Allocates.
+/// Returns the split with the most calls: a period in which no call changed the key, although calls alternately found
+/// the key present and absent. `None` if there is no split. Allocates.
 pub fn longest_split(alloc: Global, key: &KeyCalls) -> Result<Option<Split>, AllocError> {
     let mut best: Option<Split> = None;
     let mut split = Split::since(key.key, 0);
@@ -127,7 +138,7 @@ pub fn longest_split(alloc: Global, key: &KeyCalls) -> Result<Option<Split>, All
     Ok(larger(best, split))
 }
 
-/// Returns the split with more answers. `next` is considered only if `is_split` accepts it.
+/// Returns the split with more calls. Ignores `next` if `is_split` rejects it.
 fn larger(best: Option<Split>, next: Split) -> Option<Split> {
     if !next.is_split() {
         return best;

@@ -1,24 +1,30 @@
-//! Finds stretches: groups of overlapping changes of a key. The numbers of adds and removes in a stretch determine the
-//! state that the stretch leaves.
+//! Finds stretches: groups of overlapping changes of one key. A change is an add or remove that returned true or is
+//! pending. The numbers of adds and removes in a stretch show the state in which the key is after all of them, even if
+//! their order is unknown.
 
 use crate::key_calls::KeyCalls;
 use crate::made_calls::{Made, NEVER};
 use lset_words::Presence;
 use std::alloc::{AllocError, Global};
 
-/// Overlapping changes of a key, from the first begin to the last end. No other change overlaps the stretch.
+/// A stretch: a change of a key and all changes that overlap it, directly or through other changes. No further change
+/// of the key runs between the first begin and the last end.
 #[derive(Clone, Copy)]
 pub struct Stretch {
+    /// The moment (a time in the recording) at which the first change began.
     pub begun: u64,
+    /// The moment at which the last change ended.
     pub ended: u64,
-    /// The key's state after these changes, if every order leads to the same state. It follows from their number and
-    /// from `read`.
+    /// The state of the key after these changes, if every order of the changes leads to the same state: present if
+    /// there is one more add than removes, absent if one more remove, and the state before if their numbers are equal.
+    /// `None` if the state is unknown.
     pub leaves: Option<Presence>,
-    /// An earlier call that shows the key's state before the stretch, if that state is needed.
+    /// A call that ended before the stretch and shows the state of the key before the stretch. `None` if `leaves` does
+    /// not depend on such a call.
     pub read: Option<Made>,
 }
 
-/// The numbers of adds and removes in a stretch so far.
+/// The numbers of adds and removes in a stretch (a group of overlapping changes) so far, its begin, and its last end.
 #[derive(Clone, Copy)]
 struct Sum {
     begun: u64,
@@ -28,6 +34,7 @@ struct Sum {
 }
 
 impl Sum {
+    /// Creates the counts of a stretch with one change.
     fn of(call: Made) -> Sum {
         let none = Sum {
             begun: call.begun,
@@ -38,6 +45,7 @@ impl Sum {
         none.with(call)
     }
 
+    /// Returns the counts with one more change.
     fn with(self, call: Made) -> Sum {
         let ended = self.ended.max(call.ended);
         if call.makes() == Some(Presence::Present) {
@@ -57,8 +65,8 @@ impl Sum {
         }
     }
 
-    /// Completes the stretch. `before` is the key's state before the stretch, if known, and `read` is the call that
-    /// shows this state.
+    /// Returns the stretch with these counts. `before` is the state of the key before the stretch, if known. `read` is
+    /// the call that shows this state.
     fn stretch(self, before: Option<Presence>, read: Option<Made>) -> Stretch {
         let (leaves, read) = if self.adds == self.removes {
             (before, read)
@@ -78,7 +86,8 @@ impl Sum {
     }
 }
 
-/// Returns the last call between two moments that did not change the key, among the 32 that began last.
+/// Returns the last call that changed nothing, began at `since` or later, and ended before `until`. Checks only the
+/// last 32 calls that began by `until`.
 fn read_between(key: &KeyCalls, since: u64, until: u64) -> Option<Made> {
     let end = key.begun_by(until);
     let earlier = key.calls.get(..end).unwrap_or(&[]);
@@ -93,7 +102,8 @@ fn read_between(key: &KeyCalls, since: u64, until: u64) -> Option<Made> {
     None
 }
 
-/// Completes a stretch from its counts. Determines the key's state before the stretch, if known.
+/// Returns the stretch (a group of overlapping changes) with the counts `sum`. `last` is the stretch before it. The
+/// state of the key in between comes from a call that changed nothing, otherwise from `last` or the opening state.
 fn stretch_of(key: &KeyCalls, sum: Sum, last: Option<Stretch>) -> Stretch {
     let since = last.map_or(0, |last| last.ended);
     match read_between(key, since, sum.begun) {
@@ -106,7 +116,8 @@ fn stretch_of(key: &KeyCalls, sum: Sum, last: Option<Stretch>) -> Stretch {
     }
 }
 
-/// Returns the stretches of a key ordered by time, up to the first pending change. Allocates.
+/// Returns the stretches (groups of overlapping changes) of a key, ordered by time. A stretch with a pending change has
+/// no end and is left out. Allocates.
 pub fn stretches_of(alloc: Global, key: &KeyCalls) -> Result<Vec<Stretch>, AllocError> {
     let mut found: Vec<Stretch> = Vec::new(alloc);
     let mut sum: Option<Sum> = None;
@@ -131,13 +142,15 @@ pub fn stretches_of(alloc: Global, key: &KeyCalls) -> Result<Vec<Stretch>, Alloc
     Ok(found)
 }
 
-/// Returns the last stretch that had ended before a moment.
+/// Returns the last stretch (a group of overlapping changes) that ended before `moment`. `stretches` must be ordered by
+/// time. `None` if no stretch ended before.
 pub fn stretch_before(stretches: &[Stretch], moment: u64) -> Option<Stretch> {
     let at = stretches.partition_point(|stretch| stretch.ended < moment);
     stretches.get(at.wrapping_sub(1)).copied()
 }
 
-/// Returns the last stretch that had ended before a moment and leaves a known state.
+/// Returns the last stretch (a group of overlapping changes) that ended before `moment` and leaves the key in a known
+/// state. `stretches` must be ordered by time. `None` if there is no such stretch.
 pub fn sure_before(stretches: &[Stretch], moment: u64) -> Option<Stretch> {
     let at = stretches.partition_point(|stretch| stretch.ended < moment);
     let earlier = stretches.get(..at).unwrap_or(&[]);

@@ -1,4 +1,5 @@
-//! Finds the contradictions between a key's calls, and the symptom of each.
+//! Finds the contradictions of a key (two calls that no order explains), and the symptom of each: the effect of the bug
+//! that a user sees, for example a lost key.
 
 use crate::contradictions::{Clash, clashes_of};
 use crate::key_calls::KeyCalls;
@@ -8,41 +9,49 @@ use crate::stretches::{Stretch, stretches_of};
 use lset_words::Presence;
 use std::alloc::{AllocError, Global};
 
-/// The visible effect of an error: how a contradiction differs from a correct recording.
+/// The symptom of a contradiction (two calls on a key that no order explains): the effect of the bug that a user
+/// sees.
 #[derive(Clone, Copy, PartialEq, Eq)]
 pub enum Symptom {
-    /// The only wrong reply is from a call that changes nothing: the operation missed a present key.
+    /// Only one reply is wrong, and its call changed nothing: a contains or remove returned false although the key was
+    /// present.
     Missed(Operation),
-    /// The only wrong reply is from a call that changes nothing: the operation found an absent key.
+    /// Only one reply is wrong, and its call changed nothing: a contains returned true, or an add false, although the
+    /// key was absent.
     Found(Operation),
-    /// Two overlapping calls of the operation both returned true, although only one of the two can have changed the
-    /// key.
+    /// Two overlapping adds or two overlapping removes both returned true, although only one of the two can have
+    /// changed the key.
     BothTrue(Operation),
     /// A present key became absent without a remove that returned true.
     Lost,
     /// An absent key became present without an add that returned true.
     CameBack,
-    /// None of the other symptoms: no repair was found, or several replies can be the wrong one.
+    /// None of the other symptoms. For example, several replies can be the wrong one, or no alteration of a single call
+    /// explains the contradiction.
     Unclear,
 }
 
-/// A contradiction with its symptom.
+/// A contradiction (two calls on a key that no order explains), with its symptom.
 #[derive(Clone, Copy)]
 pub struct Place {
     pub key: u32,
+    /// The contradicting calls.
     pub clash: Clash,
+    /// The effect of the bug that a user sees.
     pub symptom: Symptom,
-    /// The call with the wrong reply, if only one reply is wrong.
+    /// The call with the wrong reply, if only one reply is wrong. Always a call that changed nothing.
     pub wrong: Option<Made>,
-    /// An add or remove that returned false. If it had returned true, the surrounding calls would be linearizable.
+    /// The only add or remove that returned false and would explain the contradiction if it had returned true. `None`
+    /// if `wrong` is a call.
     pub silent: Option<Made>,
-    /// Whether the surrounding calls are linearizable with the opposite reply of one call. Always true for `BothTrue`.
+    /// `true` if the opposite reply of some call makes the surrounding calls linearizable. Always `true` for
+    /// `BothTrue`.
     pub is_turned: bool,
-    /// How many calls on the key had begun by the end of the contradiction.
+    /// The number of calls on the key that began by the end of the contradiction.
     pub begun: usize,
 }
 
-/// Returns the only element; `None` if there are none or several.
+/// Returns the only element of `calls`; `None` if there are none or several.
 fn only(calls: &[Made]) -> Option<Made> {
     match calls {
         [call] => Some(*call),
@@ -50,8 +59,8 @@ fn only(calls: &[Made]) -> Option<Made> {
     }
 }
 
-/// Returns a call that changes nothing, if its opposite reply repairs the contradiction and no other such call exists.
-/// If `contains` is true, considers only calls of `contains`, otherwise only other calls.
+/// Returns the only call that changed nothing and explains the contradiction if it has the opposite reply. If
+/// `contains` is true, considers only contains, otherwise only add and remove. `None` if there are none or several.
 fn only_turned(
     alloc: Global,
     repairs: &Repairs,
@@ -66,7 +75,8 @@ fn only_turned(
     Ok(only(&found))
 }
 
-/// Returns the symptom if `call` has the only wrong reply.
+/// Returns the symptom if `call`, which changed nothing, has the only wrong reply: `Found` if the reply says that the
+/// key was present, otherwise `Missed`.
 pub fn symptom_of_reply(call: Made) -> Symptom {
     match call.needs() {
         Some(Presence::Present) => Symptom::Found(call.operation),
@@ -74,7 +84,8 @@ pub fn symptom_of_reply(call: Made) -> Symptom {
     }
 }
 
-/// Returns the symptom of a key that left the state `was` although no call of a change returned true.
+/// Returns the symptom if the key changed although no call changed it: `Lost` if the key `was` present, `CameBack` if
+/// it was absent.
 fn gone(was: Presence) -> Symptom {
     match was {
         Presence::Present => Symptom::Lost,
@@ -82,7 +93,8 @@ fn gone(was: Presence) -> Symptom {
     }
 }
 
-/// Returns the operation of two overlapping changes; `None` if the contradiction is not between two such changes.
+/// Returns the operation of the two calls if the contradiction is between two overlapping adds, or two overlapping
+/// removes, that both returned true. Otherwise returns `None`.
 fn both_true(clash: &Clash) -> Option<Operation> {
     let (first, second) = (clash.first?, clash.second?);
     if clash.overlaps() && first.changes() && second.changes() {
@@ -92,7 +104,8 @@ fn both_true(clash: &Clash) -> Option<Operation> {
     }
 }
 
-/// Determines the symptom of a contradiction. Allocates.
+/// Returns the contradiction `clash` (two calls on a key that no order explains) with its symptom. `stretches` are all
+/// groups of overlapping changes of the key. Allocates.
 pub fn place_of(
     alloc: Global,
     key: &KeyCalls,
@@ -131,8 +144,8 @@ pub fn place_of(
     Ok(place)
 }
 
-/// Returns contradictions of a key with their symptoms, ordered by time. If two contradictions overlap each other in
-/// time, only one of them is returned. Allocates.
+/// Returns the contradictions of a key (two calls that no order explains) with their symptoms, ordered by time. If two
+/// contradictions overlap each other in time, returns only one of the two. Allocates.
 pub fn places_of(alloc: Global, key: &KeyCalls) -> Result<Vec<Place>, AllocError> {
     let stretches = stretches_of(alloc, key)?;
     let clashes = clashes_of(alloc, key, &stretches)?;
@@ -144,13 +157,13 @@ pub fn places_of(alloc: Global, key: &KeyCalls) -> Result<Vec<Place>, AllocError
 }
 
 impl Place {
-    /// Returns `true` if the symptom is that the key was lost or returned.
+    /// Returns `true` if the symptom is that the key was lost or came back without a call that changed it.
     pub fn is_gone(&self) -> bool {
         matches!(self.symptom, Symptom::Lost | Symptom::CameBack)
     }
 
-    /// Returns the duration of the contradiction. A contradiction that relies on overlapping changes (`stretch`) or on
-    /// the final state counts as 1,000,000,000 moments longer.
+    /// Returns the duration of the contradiction in moments. Adds 1,000,000,000 if the contradiction needs a group of
+    /// overlapping changes or the final state: other contradictions are easier to read and preferred.
     pub fn length(&self) -> u64 {
         let length = self.clash.until.saturating_sub(self.clash.begun());
         let is_long = self.clash.stretch.is_some() || self.clash.second.is_none();
