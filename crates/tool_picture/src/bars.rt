@@ -1,29 +1,39 @@
-//! Draws a diagnosis, with calls as bars. Bars overlap in columns if their calls overlap in time.
+//! Draws the calls of a diagnosis as bars of text, one line for each call. Columns are ordered as the moments (times in
+//! the recording), but not in proportion to them. Two bars have a column in common if their calls overlap in time.
 
 use crate::diagnosis::{Diagnosis, Mark};
 use crate::showing::MOST_AROUND;
 use std::alloc::{AllocError, Global};
 use tool_calls::{Made, NEVER, state_word};
 
-/// The maximum width of the bars, in columns.
+/// If the bars need more columns than this, the moments to the right of the bars are not aligned, which keeps the lines
+/// shorter.
 const WIDTH: usize = 66;
 
-/// A gap without drawn calls is left out of the picture if it is longer than this many moments.
+/// A gap of more than this many moments (times in the recording) without a drawn call is marked by a line `...`, if the
+/// picture has room.
 const LONG: u64 = 100;
 
-/// A call drawn as a bar: the name of its thread, the texts and columns of its two ends, and the note beside it.
+/// A call drawn as a bar such as `[add 5----true]`, with the name of the thread before the bar, and moments and a note
+/// after it.
 #[derive(Drop)]
 struct Bar {
     call: Made,
+    /// The name of the thread.
     name: String,
+    /// The text at the begin of the bar: operation and key.
     head: String,
+    /// The text at the end of the bar: the reply, or `..` if the call is pending.
     tail: String,
+    /// The text to the right of the moments.
     note: String,
+    /// The first column of the bar, counted from 0.
     from: usize,
+    /// The last column of the bar.
     to: usize,
 }
 
-/// Returns the note beside a call.
+/// Returns the text to the right of the bar of `call`. Empty for a call without a mark.
 fn note_of(alloc: Global, call: Made, mark: Mark) -> Result<String, AllocError> {
     let key = call.key;
     match mark {
@@ -43,6 +53,7 @@ fn note_of(alloc: Global, call: Made, mark: Mark) -> Result<String, AllocError> 
 }
 
 impl Bar {
+    /// Creates the bar of a call. The columns are set later, by `place_all`.
     fn new(alloc: Global, call: Made, mark: Mark) -> Result<Bar, AllocError> {
         let (word, key, thread) = (call.operation.word(), call.key, call.thread);
         let tail = match call.reply {
@@ -60,13 +71,14 @@ impl Bar {
         })
     }
 
-    /// Returns the smallest possible end column of the bar.
+    /// Returns the smallest last column such that both texts of the bar and one dash between them fit.
     fn least_end(&self) -> usize {
         let width = self.head.len().saturating_add(self.tail.len());
         self.from.saturating_add(width)
     }
 
-    /// Writes the bar. Names of threads are `names` columns wide, and bars `width` columns.
+    /// Writes the line of the bar: the thread in `names` columns, the bar in `width` columns (0 if bars are not
+    /// aligned), the moments at which the call began and ended, and the note.
     fn put(&self, out: &mut String, names: usize, width: usize) -> Result<(), AllocError> {
         let (name, head, tail) = (&self.name, &self.head, &self.tail);
         let (from, note, begun) = (self.from, &self.note, self.call.begun);
@@ -85,8 +97,8 @@ impl Bar {
     }
 }
 
-/// Assigns column `first` to all ends of bars at a moment, or a later column if a bar that ends there needs more space.
-/// Returns the next free column.
+/// Sets the columns of all bars that begin or end at `moment`: the column `first`, or a later one if a bar that ends
+/// needs more columns for its texts. Returns the next free column.
 fn place_moment(bars: &mut [Bar], moment: u64, first: usize) -> usize {
     let mut column = first;
     for bar in &*bars {
@@ -105,7 +117,7 @@ fn place_moment(bars: &mut [Bar], moment: u64, first: usize) -> usize {
     column.saturating_add(1)
 }
 
-/// Assigns columns to all bars.
+/// Sets the first and last columns of all bars.
 fn place_all(alloc: Global, bars: &mut [Bar]) -> Result<(), AllocError> {
     let mut moments = Vec::new(alloc);
     for bar in &*bars {
@@ -121,10 +133,10 @@ fn place_all(alloc: Global, bars: &mut [Bar]) -> Result<(), AllocError> {
     Ok(())
 }
 
-/// The minimum number of columns for the names of threads.
+/// The names of threads have at least this many columns, so that usual pictures are aligned alike.
 const LEAST_NAMES: usize = 10;
 
-/// Returns the number of columns that the names of threads need.
+/// Returns the number of columns for the names of threads: the longest name, but at least `LEAST_NAMES`.
 fn names_of(bars: &[Bar]) -> usize {
     let mut names = LEAST_NAMES;
     for bar in bars {
@@ -133,7 +145,7 @@ fn names_of(bars: &[Bar]) -> usize {
     names
 }
 
-/// Returns the number of columns that all bars need.
+/// Returns the number of columns that the bars need.
 fn width_of(bars: &[Bar]) -> usize {
     let mut width = 0;
     for bar in bars {
@@ -143,8 +155,8 @@ fn width_of(bars: &[Bar]) -> usize {
     width
 }
 
-/// Returns `true` if a gap is left out of the picture before a call: every earlier bar had ended long before the call
-/// began.
+/// Returns `true` if `call` follows a gap: calls that began earlier are drawn, and all of them ended more than `LONG`
+/// moments before `call` began.
 fn is_after_gap(bars: &[Bar], call: Made) -> bool {
     let mut last = 0;
     for bar in bars {
@@ -155,8 +167,9 @@ fn is_after_gap(bars: &[Bar], call: Made) -> bool {
     last > 0 && call.begun > last.saturating_add(LONG)
 }
 
-/// Writes the line above the changes of other keys. It states how many changes are shown and, if some are not, how many
-/// there are.
+/// Writes the line above the changes of other keys (adds and removes that returned true): `shown` are drawn, and `all`
+/// could be. The line has both numbers if they differ. From `MOST_AROUND` on, `all` is not exact, and the line says
+/// `many`.
 fn put_rule(out: &mut String, shown: usize, all: usize) -> Result<(), AllocError> {
     if all >= MOST_AROUND {
         writeln!(out, "---------- also running: many calls, {shown} shown")
@@ -167,7 +180,8 @@ fn put_rule(out: &mut String, shown: usize, all: usize) -> Result<(), AllocError
     }
 }
 
-/// Returns the number of gaps that are left out of the picture before the first `own` bars.
+/// Returns how many of the first `own` bars, which are the calls on the key, follow a gap (more than `LONG` moments
+/// without a drawn call).
 fn count_gaps(bars: &[Bar], own: usize) -> usize {
     let mut count = 0usize;
     for bar in bars.get(..own).unwrap_or(&[]) {
@@ -178,7 +192,9 @@ fn count_gaps(bars: &[Bar], own: usize) -> usize {
     count
 }
 
-/// Draws the calls of a diagnosis in at most `most` lines. Allocates.
+/// Appends the picture of a diagnosis to `out`: a line for each call on the key, then the changes of other keys that
+/// fit. The picture has at most `most` lines, unless the calls on the key alone need more. Gaps are marked only if
+/// their lines fit. Allocates.
 pub fn put_picture(
     alloc: Global,
     out: &mut String,

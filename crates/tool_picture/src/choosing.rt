@@ -1,4 +1,7 @@
-//! Chooses the contradiction that a diagnosis shows.
+//! Chooses the contradiction that the picture of a diagnosis shows. A contradiction is a pair of calls on one key that
+//! no order explains: the first leaves the key in one state, the second needs the opposite state, and no call can have
+//! changed the key in between. The verdict (the judge's answer whether the recording is linearizable) can name a
+//! contradiction, but another one can show the bug better.
 
 use lset_words::Presence;
 use std::alloc::{AllocError, Global};
@@ -8,20 +11,25 @@ use tool_calls::{
 };
 use tool_facts::{Cause, Found, Odd, is_answer, verdict_clash};
 
-/// The contradiction that the verdict names is preferred to a shorter one if it lasts at most this many moments.
+/// The contradiction that the verdict names (two calls that no order explains) is preferred to a shorter one if it
+/// lasts at most this many moments (times in the recording). A longer picture is harder to read.
 const SHORT: u64 = 300;
 
-/// The refusal in the verdict: the first refused key, the moment, and the contradiction, if the judge found one.
+/// What the verdict names: the key that is refused first (its calls are not linearizable), and the contradicting calls,
+/// if the judge found two.
 #[derive(Clone, Copy)]
 pub(crate) struct Named {
+    /// The key, and the first moment such that its calls up to this moment are not linearizable.
     first: Refused,
+    /// The two calls that the verdict names; `None` if it names none.
     pub(crate) clash: Option<Clash>,
+    /// The contradiction between these calls with its symptom, the effect that a user sees.
     place: Option<Place>,
 }
 
 impl Named {
-    /// Returns whether a contradiction is between the two calls that the verdict names, or has one of these calls as
-    /// its wrong answer.
+    /// Returns `true` if the contradiction `place` is between the two calls that the verdict names, or if its wrong
+    /// reply is that of one of these calls.
     pub(crate) fn has_calls_of(&self, place: &Place) -> bool {
         match self.clash {
             Some(clash) => {
@@ -34,8 +42,9 @@ impl Named {
         }
     }
 
-    /// Returns whether the verdict names this contradiction, or a moment that is its end. If the verdict names no two
-    /// calls, a moment during a contradiction of the verdict's key is enough.
+    /// Returns `true` if the verdict names the contradiction `place`: its two calls, or its key and the moment at which
+    /// the contradiction ends. If the verdict names no two calls, its key and a moment during the contradiction are
+    /// enough.
     pub(crate) fn is(&self, place: &Place) -> bool {
         let moment = self.first.moment;
         let is_during = place.clash.begun() <= moment && moment <= place.clash.until;
@@ -44,7 +53,8 @@ impl Named {
     }
 }
 
-/// Returns whether a call is an answer of the operation that alone is wrong. Returns `false` without a call.
+/// Returns `true` if `call` ended, changed nothing, and is of the operation `odd`, the only one with wrong replies.
+/// Returns `false` if `call` is `None`.
 fn is_odd(call: Option<Made>, odd: &Odd) -> bool {
     match call {
         Some(call) => is_answer(call, odd.operation),
@@ -52,7 +62,8 @@ fn is_odd(call: Option<Made>, odd: &Odd) -> bool {
     }
 }
 
-/// Returns the symptom of a wrong answer.
+/// Returns the symptom (the effect that a user sees) if `wrong` has the only wrong reply: `Found` if the reply says
+/// that the key was present, otherwise `Missed`.
 pub(crate) fn symptom_of(wrong: Made) -> Symptom {
     match wrong.needs() {
         Some(Presence::Present) => Symptom::Found(wrong.operation),
@@ -60,8 +71,9 @@ pub(crate) fn symptom_of(wrong: Made) -> Symptom {
     }
 }
 
-/// Returns the contradiction that the verdict names, if exactly one of its two calls is an answer of the operation that
-/// alone is wrong.
+/// Returns the contradiction `clash`, which the verdict names, with its symptom, if exactly one of its two calls can
+/// have a wrong reply: the call changed nothing, and is of the operation `odd`, the only one with wrong replies.
+/// Otherwise returns `None`.
 fn place_of_odd(runs: &Runs<'_>, odd: &Odd, clash: Clash) -> Option<Place> {
     let wrong = match (is_odd(clash.first, odd), is_odd(clash.second, odd)) {
         (true, false) => clash.first?,
@@ -80,7 +92,8 @@ fn place_of_odd(runs: &Runs<'_>, odd: &Odd, clash: Clash) -> Option<Place> {
     })
 }
 
-/// Returns the contradiction that the verdict names, with its symptom.
+/// Returns the contradiction `clash`, which the verdict names, with its symptom (the effect that a user sees). `None`
+/// if `clash` has no call, or if one operation alone has wrong replies and the wrong reply is unclear.
 fn place_named(
     alloc: Global,
     runs: &Runs<'_>,
@@ -98,9 +111,10 @@ fn place_named(
     Ok(Some(place_of(alloc, &key, &stretches, clash)?))
 }
 
-/// Returns how well a contradiction shows the bug; 0 is best. The first contradiction of the run, which the verdict
-/// names, is best unless it is long. Next are the contradictions of the key that the verdict names, the shortest first,
-/// and then those of other keys. Contradictions that the likely cause does not explain are last.
+/// Returns how badly a contradiction (two calls that no order explains) shows the bug; the one with the smallest
+/// number is drawn. `shows` is whether the contradiction is an example of the likely cause. The contradiction that the
+/// verdict names has 0 if it is an example and short. The others are ordered by duration: first those of the verdict's
+/// key, then those of other keys, last those that are no example.
 fn rank(place: &Place, named: &Named, shows: bool) -> u64 {
     let length = place.length();
     if shows && length <= SHORT && named.is(place) {
@@ -118,19 +132,22 @@ fn rank(place: &Place, named: &Named, shows: bool) -> u64 {
         .saturating_add(other_kind)
 }
 
-/// `rank` adds this to the duration of a contradiction of another key than the verdict's.
+/// Added to the duration (in moments) of a contradiction on another key than the verdict's, larger than any usual
+/// duration. Also the weight of a change of another key that the likely cause names (see `weight` in showing.rt).
 pub(crate) const OTHER_KEY: u64 = 1_000_000_000_000;
 
-/// `rank` adds this to the duration of a contradiction that is no example of the likely cause.
+/// Added to the duration (in moments) of a contradiction that is no example of the likely cause: larger than
+/// `OTHER_KEY`, and the result is ranked last.
 const OTHER_KIND: u64 = 1_000_000_000_000_000;
 
-/// Returns whether a completed change of another key overlaps a contradiction. If an operation is given, considers only
-/// its changes.
+/// Returns `true` if an add or remove of another key that returned true overlaps the contradiction `place` in time. If
+/// `operation` is not `None`, considers only this operation.
 fn is_beside(place: &Place, neighbours: &Neighbours, operation: Option<Operation>) -> bool {
     neighbours.overlap(place.key, place.clash.begun(), place.clash.until, operation)
 }
 
-/// Returns whether two contradicting calls overlap neither each other nor a completed change of another key.
+/// Returns `true` if the two calls of the contradiction `place` do not overlap each other, and no add or remove of
+/// another key that returned true overlaps either of them.
 fn is_apart(place: &Place, neighbours: &Neighbours) -> bool {
     for call in [place.clash.first, place.clash.second]
         .into_iter()
@@ -143,7 +160,8 @@ fn is_apart(place: &Place, neighbours: &Neighbours) -> bool {
     !place.clash.overlaps()
 }
 
-/// Returns whether a contradiction is an example of the likely cause.
+/// Returns `true` if the contradiction `place` (two calls that no order explains) is an example of the likely cause.
+/// `is_odd` is whether only one operation has wrong replies.
 fn shows(place: &Place, cause: Option<Cause>, is_odd: bool, neighbours: &Neighbours) -> bool {
     let (since, until) = (place.clash.begun(), place.clash.until);
     match cause {
@@ -202,12 +220,15 @@ fn shows(place: &Place, cause: Option<Cause>, is_odd: bool, neighbours: &Neighbo
     }
 }
 
-/// Returns whether a contradiction is about the key of a split and ends after the split has begun.
+/// Returns `true` if the contradiction `place` is on the key of a split (a period in which calls disagree about an
+/// unchanged key) and ends after the split has begun.
 fn is_in(place: &Place, split: &Split) -> bool {
     place.key == split.key && place.clash.until > split.since
 }
 
-/// Returns the first contradiction in a long split.
+/// Returns the contradiction to draw for a long split (a period in which many calls disagree about an unchanged key):
+/// the one that the verdict names, if it is in the split, otherwise the first in the split. `None` if there is no long
+/// split.
 fn place_in_split(found: &Found, named: &Named) -> Option<Place> {
     let split = found.split.filter(|split| split.is_long())?;
     if let Some(place) = named.place {
@@ -223,8 +244,9 @@ fn place_in_split(found: &Found, named: &Named) -> Option<Place> {
     None
 }
 
-/// Returns the contradiction to draw: the first contradiction in a long split or, without a long split, the
-/// contradiction that shows the bug best.
+/// Returns the contradiction to draw (two calls that no order explains): one in a long split (a period in which many
+/// calls disagree about an unchanged key) or, without such a split, the one with the smallest `rank`. `None` if no
+/// contradiction was found.
 pub(crate) fn place_shown(
     found: &Found,
     named: &Named,
@@ -251,7 +273,8 @@ pub(crate) fn place_shown(
     best
 }
 
-/// Returns the contradiction that the verdict names.
+/// Returns what the verdict names: the refused key `first` (its calls are not linearizable), and the contradicting
+/// calls, if the judge names two.
 pub(crate) fn named_by_verdict(
     alloc: Global,
     runs: &Runs<'_>,

@@ -1,5 +1,6 @@
-//! Finds a reason for a refused key if no two calls contradict each other. The reason is a count: the replies of
-//! several calls on the key require more changes than the other calls can have made.
+//! Explains a key whose calls are not linearizable although no two of them contradict each other. The reason is then a
+//! contradiction by counting: the replies of several calls require more changes of the key than the other calls can
+//! have made.
 
 use crate::diagnosis::Diagnosis;
 use lset_judge::{Count, StreamCall, find_count};
@@ -8,20 +9,22 @@ use std::alloc::{AllocError, Global};
 use tool_calls::{KeyCalls, Made, NEVER, Recorded, stretches_of};
 use tool_facts::stream_call;
 
-/// At most this many calls are searched for a contradiction by counting. The search needs quadratic time.
+/// A contradiction by counting (more changes required than made) is searched among at most this many calls, since the
+/// search takes quadratic time.
 const MOST_COUNTED: usize = 4_000;
 
-/// The calls on a key that are searched for a contradiction by counting, and the key's presence before these calls.
+/// The calls on a key among which a contradiction by counting (more changes required than made) is searched.
 #[derive(Drop)]
 struct Counted {
     calls: Vec<StreamCall>,
+    /// The state of the key (present or absent) before these calls.
     before: Presence,
-    /// Whether these are all calls on the key since the opening.
+    /// `true` if these are all calls on the key since the set opened.
     is_from_opening: bool,
 }
 
-/// Returns the calls on a key that had begun by a moment, as known at that moment. Leaves out the calls that ended
-/// later and changed nothing.
+/// Returns the calls on `key` that had begun by `moment`, as they were known at that moment: a call that ended later is
+/// pending or, if the call changed nothing, left out.
 fn calls_by(
     alloc: Global,
     recorded: &Recorded,
@@ -42,8 +45,9 @@ fn calls_by(
     Ok(calls)
 }
 
-/// Returns all calls on a key. If there are more than `MOST_COUNTED`, returns the calls after a later moment with a
-/// known state of the key, or `None` if there is no such moment.
+/// Returns the calls on a key for the search. If the key has more than `MOST_COUNTED` calls, returns only its last
+/// calls, from a moment on at which the state of the key is known. `None` if the last `MOST_COUNTED` calls show no such
+/// moment.
 fn calls_to_count(alloc: Global, key: &KeyCalls) -> Result<Option<Counted>, AllocError> {
     let skipped = key.calls.len().saturating_sub(MOST_COUNTED);
     let (from, before) = match key.calls.get(skipped) {
@@ -73,8 +77,9 @@ fn calls_to_count(alloc: Global, key: &KeyCalls) -> Result<Option<Counted>, Allo
     }))
 }
 
-/// Returns the counted changes as they are in the recording. Leaves out the calls that returned false after `moment`,
-/// since they are no changes.
+/// Returns the calls in `backs`, which can have changed the key, with the ends and replies that they have in the whole
+/// recording. A call that is pending in `backs` can have ended later: if it returned false, it changed nothing and is
+/// left out.
 fn backs_in(
     alloc: Global,
     recorded: &Recorded,
@@ -94,9 +99,9 @@ fn backs_in(
     Ok(found)
 }
 
-/// Returns a contradiction by counting for the key that is refused first. Searches the calls up to the first moment
-/// such that the key's calls are not linearizable, but at most about the last `MOST_COUNTED` calls. Returns `None` if
-/// no contradiction is found. Allocates.
+/// Returns a contradiction by counting (several replies require more changes of a key than the other calls can have
+/// made) for the key `diagnosis.first_key`. Searches the key's calls up to the moment `diagnosis.first_moment`, or
+/// about the last `MOST_COUNTED` of them. `None` if none is found. Allocates.
 pub fn count_in(
     alloc: Global,
     recorded: &Recorded,

@@ -1,4 +1,5 @@
-//! The diagnosis of a recording, and the calls of its picture.
+//! The diagnosis of a recording that is not linearizable, with the calls of its picture. The picture shows a
+//! contradiction: two calls on one key that no order explains.
 
 use crate::choosing::{named_by_verdict, place_shown};
 use crate::showing::with_one_answer;
@@ -7,75 +8,87 @@ use std::alloc::{AllocError, Global};
 use tool_calls::{Made, Neighbours, Place, Refused, Runs, Symptom};
 use tool_facts::{Cause, Evidence, Found, Further};
 
-/// The note beside a call in a picture.
+/// What the picture says about a call, to the right of its bar.
 #[derive(Clone, Copy)]
 pub enum Mark {
+    /// The call has no note.
     Nothing,
-    /// This reply was expected. With the expected reply, the key's calls that had begun by the end of this call are
-    /// linearizable; as recorded, they are not.
+    /// The call should have returned this. With this reply, the key's calls that had begun by the end of the call are
+    /// linearizable; with the recorded reply, they are not.
     Expected(bool),
-    /// In every order, the key is in this state after this call takes effect, until the contradicting call takes
-    /// effect.
+    /// The call leaves the key in this state, and no other call can have changed the key before the contradicting call.
     Leaves(Presence),
-    /// This call finds the key in this state. The call is a later call, or a contradicting call if no reply is known to
-    /// be wrong.
+    /// The call finds the key in this state. The call is a contradicting call with no reply known to be wrong, or a
+    /// later call that confirms the state.
     Finds(Presence),
     /// One of the two calls with this mark must return false.
     Either,
-    /// This call is probably guilty.
+    /// The call probably caused the contradiction.
     Suspected,
 }
 
-/// A call in the picture, with the note beside it.
+/// A call on the key in the picture, with what the picture says about the call.
 #[derive(Clone, Copy)]
 pub struct Shown {
     pub call: Made,
     pub mark: Mark,
 }
 
-/// The diagnosis of a recording that no order explains.
+/// The diagnosis of a recording that is not linearizable.
 #[derive(Drop)]
 pub struct Diagnosis {
+    /// The effect of the bug that a user sees, for example a lost key.
     pub symptom: Symptom,
+    /// The key of the calls in the picture.
     pub key: u32,
-    /// The key's state before the contradiction.
+    /// The state of the key (present or absent) in which the contradiction begins.
     pub was: Presence,
-    /// The call that contradicts `was`. `None` if the final state does.
+    /// The call that contradicts the state `was`, or the call with the wrong reply if the contradiction begins with
+    /// this call. `None` if the final state contradicts `was`, or if no two contradicting calls were found.
     pub second: Option<Made>,
-    /// The call that was expected to return the opposite reply.
+    /// The call that should have returned the opposite reply; `None` if no single reply is known to be wrong.
     pub wrong: Option<Made>,
-    /// The key's calls in the picture, ordered by begin.
+    /// The calls on the key in the picture, ordered by begin.
     pub shown: Vec<Shown>,
-    /// The changes of other keys in the picture, which ran at the same time. Of many, those that the likely cause names
-    /// are chosen first, then those that overlap the first contradicting call, then the longest.
+    /// The adds and removes of other keys in the picture, which returned true and ran at the same time. The one that
+    /// probably caused the contradiction comes first. The others are chosen by `weight` in showing.rt.
     pub beside: Vec<Made>,
-    /// The number of changes of other keys from which `beside` was chosen.
+    /// How many changes of other keys ran at the same time and could be drawn, at most 1,000. `beside` has some of
+    /// them.
     pub beside_count: usize,
-    /// All contradictions ordered by time, if there are few and no operation alone is wrong. Otherwise empty.
+    /// All contradictions (two calls that no order explains), ordered by time, if there are at most `MOST_LISTED`.
+    /// Otherwise empty, and also empty if only one operation has wrong replies.
     pub few: Vec<Place>,
-    /// A later call that finds the key as the contradicting call does. If only one reply is wrong, a later call that
-    /// finds the key as the right calls do.
+    /// A later call that confirms the contradiction: the call finds the key as the contradicting call does or, if only
+    /// one reply is wrong, as the right calls do.
     pub later: Option<Made>,
+    /// The facts about the recording.
     pub evidence: Evidence,
+    /// More facts about the recording.
     pub further: Further,
+    /// The likely cause of the bug, if the facts suggest one.
     pub cause: Option<Cause>,
-    /// The call in the picture that is probably guilty, if the likely cause names a kind of call.
+    /// The call in `shown` or `beside` that probably caused the contradiction, if the likely cause names a kind of
+    /// call.
     pub guilty: Option<Made>,
-    /// The key that is refused first, and the first moment such that its calls up to this moment are not linearizable.
-    /// The moment is `NEVER` if only the final state is wrong.
+    /// The key that is refused first: its calls are not linearizable.
     pub first_key: u32,
+    /// The first moment (time in the recording) such that the calls on `first_key` up to this moment are not
+    /// linearizable. `NEVER` if only the final state is wrong.
     pub first_moment: u64,
-    /// The end of the contradiction in the picture; `NEVER` if the final state contradicts.
+    /// The moment at which the contradiction in the picture ends; `NEVER` if the final state contradicts. Equal to
+    /// `first_moment` if no contradiction is drawn.
     pub until: u64,
-    /// Whether the picture shows the contradiction that the verdict names.
+    /// `true` if the picture shows the contradiction that the verdict (the judge's answer whether the recording is
+    /// linearizable) names.
     pub is_first: bool,
 }
 
-/// If there are at most this many contradictions, each is listed.
+/// If there are at most this many contradictions (two calls that no order explains), the message lists each of them.
 const MOST_LISTED: usize = 6;
 
-/// Returns all contradictions ordered by time, if there are few and no operation alone is wrong. Otherwise returns
-/// none.
+/// Returns all contradictions in `found` (two calls that no order explains), ordered by time, if there are at most
+/// `MOST_LISTED`. Otherwise returns an empty list, and also if only one operation has wrong replies. Allocates.
 pub fn few_of(alloc: Global, found: &Found) -> Result<Vec<Place>, AllocError> {
     let mut few = Vec::new(alloc);
     if found.odd.is_none() && found.places.len() <= MOST_LISTED {
@@ -85,8 +98,8 @@ pub fn few_of(alloc: Global, found: &Found) -> Result<Vec<Place>, AllocError> {
     Ok(few)
 }
 
-/// Creates a diagnosis without a picture. `first` is the key that is refused first. `was` is the key's state before the
-/// contradiction.
+/// Creates a diagnosis without a picture. `first` is the key that is refused first (its calls are not linearizable).
+/// `was` is the state (present or absent) to report for this key before the contradiction. Does not allocate.
 pub fn undrawn(
     alloc: Global,
     first: Refused,
@@ -118,7 +131,9 @@ pub fn undrawn(
 }
 
 impl Diagnosis {
-    /// Draws the picture: chooses a contradiction, and adds its calls and marks. Allocates.
+    /// Fills the picture: chooses a contradiction in `found` (two calls on one key that no order explains), and adds
+    /// its calls with their marks. `first` is the key that is refused first, `neighbours` are the changes of all keys.
+    /// Allocates.
     pub fn draw(
         &mut self,
         alloc: Global,

@@ -1,25 +1,31 @@
-//! Finds the call in a picture that is probably guilty, if the likely cause names a kind of call.
+//! Finds the guilty call of a picture: the call that probably caused the contradiction in the picture (two calls on one
+//! key that no order explains). A guilty call is found only if the likely cause of the bug (`Cause`) names a kind of
+//! call. A change is an add or remove that returned true or is pending.
 
 use crate::diagnosis::{Diagnosis, Mark};
 use tool_calls::{Made, Operation, Place};
 use tool_facts::{Cause, is_refusal_during};
 
-/// A change of another key that overlaps a wrong answer and ends more than this many moments later can have begun and
-/// ended for other reasons.
+/// A change of another key that overlaps a wrong reply is the better suspect if it ends at most this many moments
+/// (times in the recording) after the wrong reply. A longer change can overlap by chance.
 const SOON: u64 = 200;
 
-/// The kind of change that is sought among the changes of other keys, and the period in which it probably ends.
+/// The kind of change of another key (an add or remove that returned true) that is suspected of disturbing a call: of
+/// making its reply wrong, or of undoing its effect. Also the period in which such a change probably ends.
 #[derive(Clone, Copy)]
 struct Sought {
+    /// The operation of the change; `None` if any change is suspected.
     operation: Option<Operation>,
-    /// Whether the key must be smaller than that of the call.
+    /// `true` if only changes of smaller keys than that of the disturbed call are suspected.
     is_below: bool,
+    /// The period begins after this moment.
     since: u64,
+    /// The last moment of the period.
     until: u64,
 }
 
 impl Sought {
-    /// Returns the same with changes of one operation only.
+    /// Returns the kind restricted to changes by `operation`.
     fn by(self, operation: Operation) -> Sought {
         Sought {
             operation: Some(operation),
@@ -27,7 +33,7 @@ impl Sought {
         }
     }
 
-    /// Returns the same with changes of smaller keys only.
+    /// Returns the kind restricted to changes of smaller keys.
     fn below(self) -> Sought {
         Sought {
             is_below: true,
@@ -35,7 +41,7 @@ impl Sought {
         }
     }
 
-    /// Returns the same for changes that end during a wrong answer or soon afterwards.
+    /// Returns the kind with another period: from the begin of the call `wrong` to `SOON` moments after its end.
     fn during(self, wrong: Made) -> Sought {
         Sought {
             since: wrong.begun,
@@ -44,8 +50,9 @@ impl Sought {
         }
     }
 
-    /// Returns 0 if a change is of another kind or does not overlap the call, 2 if it overlaps the call and ends in the
-    /// period, and otherwise 1.
+    /// Returns how well `change` fits as the suspect for disturbing `call` (making its reply wrong, or undoing its
+    /// effect): 0 if `change` is of another kind or does not overlap `call`, 2 if `change` fits and ends in the period,
+    /// otherwise 1.
     fn fit(&self, change: &Made, call: Made) -> u64 {
         let is_kind = self.operation.unwrap_or(change.operation) == change.operation;
         let is_there = !self.is_below || change.key < call.key;
@@ -59,12 +66,13 @@ impl Sought {
 }
 
 impl Diagnosis {
-    /// Returns whether a call is the one that is probably guilty.
+    /// Returns `true` if `call` is the guilty call of the picture: it probably caused the contradiction.
     pub fn is_guilty(&self, call: Made) -> bool {
         self.guilty == Some(call)
     }
 
-    /// Marks the call that is probably guilty, unless the call has another mark.
+    /// Marks the guilty call (it probably caused the contradiction) as suspected, if it is a call on the key and has no
+    /// other mark.
     pub(crate) fn mark_guilty(&mut self) {
         let Some(call) = self.guilty else {
             return;
@@ -76,7 +84,8 @@ impl Diagnosis {
         }
     }
 
-    /// Returns whether the picture shows an add or remove that overlaps the contradicting call.
+    /// Returns `true` if the picture has another add or remove of the key, successful or not, that overlaps the
+    /// contradicting call `second`. Returns `false` if there is no such call `second`.
     pub fn draws_writer(&self) -> bool {
         let Some(second) = self.second else {
             return false;
@@ -87,8 +96,8 @@ impl Diagnosis {
         })
     }
 
-    /// Returns whether the likely cause follows from one wrong answer during a change of its key, and this change is
-    /// not in the picture, since it began long before.
+    /// Returns `true` if the likely cause is a change of the key that ran during the only wrong reply, but the picture
+    /// does not show this change. The change then began long before the wrong reply.
     pub(crate) fn lacks_guilty(&self) -> bool {
         let is_one = self.evidence.odd.is_some_and(|odd| odd.wrong == 1);
         is_one
@@ -96,8 +105,8 @@ impl Diagnosis {
             && matches!(self.cause, Some(Cause::MarkNotRead | Cause::NotSeenYet))
     }
 
-    /// Returns the first other change of the key in the picture that overlaps a call. If an operation is given,
-    /// considers only its changes.
+    /// Returns the first add or remove in the picture that returned true or is pending, is on the same key as `call`,
+    /// and overlaps `call`. If `operation` is not `None`, considers only this operation.
     fn change_during(&self, call: Made, operation: Option<Operation>) -> Option<Made> {
         for one in &self.shown {
             let is_sought = operation.unwrap_or(one.call.operation) == one.call.operation;
@@ -109,8 +118,8 @@ impl Diagnosis {
         None
     }
 
-    /// Returns the only change of another key that overlaps a call and ends in a period. If no change does, returns the
-    /// only change that overlaps the call. Returns `None` if several changes fit equally.
+    /// Returns the change of another key that fits best as the suspect for disturbing `call` (making its reply wrong,
+    /// or undoing its effect). `None` if no change fits, or if several fit equally well.
     fn beside_during(&self, call: Made, sought: Sought) -> Option<Made> {
         let mut found = None;
         let mut best = 0u64;
@@ -128,8 +137,8 @@ impl Diagnosis {
         found.filter(|_| count == 1)
     }
 
-    /// Returns the call of the key in the picture that returned false, overlaps a change, and found the state before
-    /// the change.
+    /// Returns the first add or remove of the key in the picture that overlaps `change` and returned false since it
+    /// found the state before the change.
     fn refusal_during(&self, change: Made) -> Option<Made> {
         for one in &self.shown {
             if is_refusal_during(one.call, change) {
@@ -139,7 +148,8 @@ impl Diagnosis {
         None
     }
 
-    /// Returns the add in the picture that overlaps a remove in the picture. Both returned true or are pending.
+    /// Returns the first add of the key in the picture that overlaps a remove of the key in the picture. Both calls
+    /// returned true or are pending.
     fn add_during_remove(&self) -> Option<Made> {
         for one in &self.shown {
             let is_add = one.call.operation == Operation::Add && one.call.changes();
@@ -154,9 +164,10 @@ impl Diagnosis {
         None
     }
 
-    /// Returns the change of another key that is probably guilty. Returns `None` if the likely cause names no such
-    /// change, or if several changes fit equally. If a change was undone, the change that undid it probably ends after
-    /// the undone change and before the call that shows it.
+    /// Returns the guilty change of another key: the one that probably caused the contradiction `place`, as the likely
+    /// cause says. If a change was undone (its effect was lost), the guilty change probably ends after this change and
+    /// by the end of the contradiction. `None` if the likely cause names no such change, or if several fit equally
+    /// well.
     pub(crate) fn guilty_beside(&self, place: &Place) -> Option<Made> {
         let (wrong, first) = (place.wrong, place.clash.first);
         let sought = Sought {
@@ -186,8 +197,9 @@ impl Diagnosis {
         }
     }
 
-    /// Returns the call of the key in the picture that is probably guilty. Returns `None` if the likely cause names no
-    /// such call, or if the picture has no such call.
+    /// Returns the guilty call on the key itself: the call in the picture that probably caused the contradiction
+    /// `place`, as the likely cause says. `None` if the likely cause names no such call, or if the picture does not
+    /// show one.
     pub(crate) fn guilty_of(&self, place: &Place) -> Option<Made> {
         let (wrong, first) = (place.wrong, place.clash.first);
         match self.cause? {

@@ -1,5 +1,6 @@
-//! The picture of a diagnosis: the contradiction that it shows, the calls of its key as bars, the changes of other keys
-//! that ran at the same time, and the call that is probably guilty.
+//! The picture that explains why a recording of a concurrent set is not linearizable: calls on one key that contradict
+//! each other, drawn as bars of text, with the changes of other keys at the same time. One call can be marked as
+//! suspected: it probably caused the contradiction.
 #![tactic(auto)]
 
 mod bars;

@@ -1,4 +1,6 @@
-//! Fills the picture of a diagnosis with calls and their marks.
+//! Fills the picture of a diagnosis with calls and their marks. The picture shows a contradiction: the first call
+//! leaves its key in one state, the second call needs the opposite state, and no call can have changed the key in
+//! between. A change is an add or remove that returned true or is pending.
 
 use crate::choosing::{Named, OTHER_KEY, symptom_of};
 use crate::diagnosis::{Diagnosis, Mark, Shown};
@@ -9,9 +11,9 @@ use tool_calls::{
 };
 use tool_facts::{Cause, Found, Odd, is_answer};
 
-/// Returns the contradiction between a wrong answer and a later call: the answer leaves the key in a state that the
-/// later call does not need, and no call can have changed the state in between. `key` must not contain other answers of
-/// the wrong operation.
+/// Returns the contradiction between the call `wrong`, which changed nothing, and a later call: the later call needs
+/// the state opposite to the one that `wrong` found, and no call can have changed the key in between. `None` if no such
+/// call is among the next `MOST_EARLIER` calls. `key` must not contain other wrong replies.
 fn place_after(key: &KeyCalls, wrong: Made) -> Option<Place> {
     let was = wrong.needs()?;
     for call in key.after(wrong.ended).iter().take(MOST_EARLIER) {
@@ -39,7 +41,8 @@ fn place_after(key: &KeyCalls, wrong: Made) -> Option<Place> {
     None
 }
 
-/// Returns a key's calls without the answers of the wrong operation, except for one answer.
+/// Returns the calls on a key without those that can have a wrong reply, except for `wrong`: leaves out the calls of
+/// the operation `odd`, the only one with wrong replies, that changed nothing. Allocates.
 pub(crate) fn with_one_answer(
     alloc: Global,
     key: KeyCalls,
@@ -56,28 +59,33 @@ pub(crate) fn with_one_answer(
     KeyCalls::new(alloc, key.key, calls, key.opening, left)
 }
 
-/// If the picture has at least this many calls on the key, less important calls are left out.
+/// After this many calls on the key, less important calls are not added to the picture, since its lines are limited.
 const MOST_SHOWN: usize = 3;
 
-/// How many calls on the key, counted back from the end of a wrong answer, are checked for an overlap with the answer.
+/// How many calls on the key are searched, counted back or forward from a moment, for those to draw. The limit bounds
+/// the time.
 const MOST_EARLIER: usize = 64;
 
-/// The maximum number of calls in a picture that shows no two contradicting calls.
+/// The maximum number of calls in a picture for a key without two contradicting calls. With more calls, the picture
+/// would not fit into a message.
 const MOST_LAST: usize = 7;
 
-/// The maximum number of changes of other keys in the picture.
+/// The maximum number of changes of other keys (adds and removes that returned true) in the picture. With more calls,
+/// the picture would not fit into a message.
 const MOST_BESIDE: usize = 5;
 
-/// The maximum number of changes of other keys that are counted.
+/// At most this many changes of other keys (adds and removes that returned true) are counted, which bounds the time. If
+/// the limit is reached, the picture says `many`.
 pub(crate) const MOST_AROUND: usize = 1_000;
 
-/// An earlier change of the key is not shown if it began more than this many moments before the call that finds its
-/// state.
+/// An earlier change of the key is not drawn if it began more than this many moments (times in the recording) before
+/// the first contradicting call, which found the state that the change left.
 const LONG_AGO: u64 = 200;
 
-/// Returns the period for the changes of other keys in the picture. If only one reply is wrong, the period is the time
-/// of the wrong answer or, if no such change overlaps the answer, the time of the change that it contradicts. Otherwise
-/// the period is the time of the contradiction.
+/// Returns the begin and end of the period for the changes of other keys in the picture: the time of the wrong reply
+/// or, if no single reply is wrong, of the contradiction `place`. The first contradicting call is the period instead if
+/// a removed node seems to stay linked (`UnlinkLost`), or if this call changed the key and no change of another key
+/// overlaps the wrong reply.
 fn time_of(place: &Place, neighbours: &Neighbours, cause: Option<Cause>) -> (u64, u64) {
     if let (Some(Cause::UnlinkLost), Some(first)) = (cause, place.clash.first) {
         return (first.begun, first.ended);
@@ -93,7 +101,7 @@ fn time_of(place: &Place, neighbours: &Neighbours, cause: Option<Cause>) -> (u64
     }
 }
 
-/// Returns whether a call, if given, overlaps a change of another key.
+/// Returns `true` if `call` overlaps `change` in time. Returns `false` if `call` is `None`.
 fn is_at(call: Option<Made>, change: &Made) -> bool {
     match call {
         Some(call) => change.overlaps(call.begun, call.ended),
@@ -101,8 +109,8 @@ fn is_at(call: Option<Made>, change: &Made) -> bool {
     }
 }
 
-/// Returns those changes of other keys that overlap one of the two calls that contradict each other. Returns all
-/// changes if none of them does, or if the contradiction does not begin with a call.
+/// Returns those of `changes` (of other keys) that overlap one of the two contradicting calls of `clash`. Returns all
+/// `changes` if none does, or if the contradiction does not begin with a call.
 fn at_calls(alloc: Global, changes: Vec<Made>, clash: &Clash) -> Result<Vec<Made>, AllocError> {
     let mut found = Vec::new(alloc);
     for change in &changes {
@@ -117,9 +125,9 @@ fn at_calls(alloc: Global, changes: Vec<Made>, clash: &Clash) -> Result<Vec<Made
     })
 }
 
-/// Returns the weight of a change of another key for the choice of changes in the picture: changes that the likely
-/// cause names are chosen first, then those that overlap the first contradicting call, then those that end after it and
-/// during the contradiction, then the longest.
+/// Returns how much a change of another key explains the contradiction `clash` on `key`; the changes with the largest
+/// weights are drawn. The order is: changes that the likely cause names, those that overlap the first contradicting
+/// call, those that end after this call and by the end of the contradiction, the longest.
 fn weight(change: &Made, key: u32, cause: Option<Cause>, clash: &Clash) -> u64 {
     let is_named = match cause {
         Some(Cause::Unlinked | Cause::WrittenBack) => {
@@ -148,14 +156,15 @@ fn weight(change: &Made, key: u32, cause: Option<Cause>, clash: &Clash) -> u64 {
         .saturating_add(named)
 }
 
-/// The weight of a change of another key that overlaps the first of two contradicting calls.
+/// The weight of a change of another key that overlaps the first of two contradicting calls, larger than any usual
+/// duration in moments.
 const AT_FIRST: u64 = 1_000_000_000;
 
 /// The weight of a change of another key that ends after the first of two contradicting calls and by the end of the
-/// second.
+/// second: smaller than `AT_FIRST`, but larger than usual durations in moments.
 const ENDS_IN: u64 = 100_000_000;
 
-/// Adds a call to the picture unless the picture already contains the call.
+/// Adds a call to the picture, without a mark, unless the picture already contains the call.
 fn add(shown: &mut Vec<Shown>, call: Made) -> Result<(), AllocError> {
     if shown.iter().all(|one| one.call != call) {
         shown.push(Shown {
@@ -166,7 +175,8 @@ fn add(shown: &mut Vec<Shown>, call: Made) -> Result<(), AllocError> {
     Ok(())
 }
 
-/// Returns the recorded call that began at the same moment as `call`.
+/// Returns the call in `calls` that began at the same moment as `call`. Returns `call` if no call in `calls` did.
+/// `calls` must be ordered by begin.
 fn recorded_call(calls: &[Made], call: Made) -> Made {
     let at = calls.partition_point(|one| one.begun < call.begun);
     match calls.get(at) {
@@ -176,13 +186,14 @@ fn recorded_call(calls: &[Made], call: Made) -> Made {
 }
 
 impl Diagnosis {
-    /// Returns whether the headline and the picture show a contradiction that the verdict does not name.
+    /// Returns `true` if the picture shows a contradiction that the verdict (the judge's answer) does not name, as an
+    /// example of the bug.
     pub fn is_example(&self) -> bool {
         !self.is_first && !self.shown.is_empty()
     }
 
-    /// Replaces the calls in the picture by the recorded calls. A call that is pending in the picture can have ended in
-    /// the recording.
+    /// Replaces the calls in the picture by those in `calls`, the calls of the whole recording ordered by begin. A call
+    /// that is pending in a part of the recording can have ended later. Does not allocate.
     pub fn complete(&mut self, calls: &[Made]) {
         for one in &mut self.shown {
             one.call = recorded_call(calls, one.call);
@@ -193,8 +204,9 @@ impl Diagnosis {
         self.guilty = self.guilty.map(|call| recorded_call(calls, call));
     }
 
-    /// Fills the picture with the first wrong answer of the operation that alone is wrong, if a later call contradicts
-    /// this answer.
+    /// Fills the picture if no contradiction was chosen: with the first wrong reply and a later call that contradicts
+    /// it, if only one operation has wrong replies. If there is no wrong reply, fills the picture with the last calls
+    /// on the first refused key (its calls are not linearizable).
     pub(crate) fn show_wrong(
         &mut self,
         alloc: Global,
@@ -217,8 +229,9 @@ impl Diagnosis {
         Ok(())
     }
 
-    /// Fills the picture with the last call that had begun by the first moment such that the key's calls have no order,
-    /// and with earlier changes that overlap the calls in the picture.
+    /// Fills the picture for a key without two contradicting calls: with the call that began last by the moment
+    /// `first_moment`, at which the key's calls are no longer linearizable, and with earlier changes of the key that
+    /// overlap the calls in the picture. Draws at most `MOST_LAST` calls.
     fn show_last(&mut self, key: &KeyCalls) -> Result<(), AllocError> {
         let end = key.begun_by(self.first_moment);
         let earlier = key.calls.get(..end).unwrap_or(&[]);
@@ -235,7 +248,8 @@ impl Diagnosis {
         Ok(())
     }
 
-    /// Adds the calls that the verdict names to the picture.
+    /// Adds the two contradicting calls that the verdict (the judge's answer) names to the picture. Adds nothing if the
+    /// verdict names none.
     pub(crate) fn show_named(&mut self, named: &Named) -> Result<(), AllocError> {
         match named.clash {
             Some(clash) => {
@@ -246,12 +260,12 @@ impl Diagnosis {
         }
     }
 
-    /// Returns whether a change of another key in the picture overlaps a call. Returns `false` without a call.
+    /// Returns `true` if a change of another key in the picture overlaps `call`. Returns `false` if `call` is `None`.
     fn runs_beside(&self, call: Option<Made>) -> bool {
         self.beside.iter().any(|change| is_at(call, change))
     }
 
-    /// Adds a call, if given, to the picture.
+    /// Adds a call to the picture, unless `call` is `None` or already in the picture.
     fn add_if(&mut self, call: Option<Made>) -> Result<(), AllocError> {
         match call {
             Some(call) => add(&mut self.shown, call),
@@ -259,7 +273,7 @@ impl Diagnosis {
         }
     }
 
-    /// Sets the mark of a call in the picture.
+    /// Sets the mark of a call in the picture. Does nothing if the picture does not contain the call.
     fn mark(&mut self, call: Made, mark: Mark) {
         for one in &mut self.shown {
             if one.call == call {
@@ -268,8 +282,9 @@ impl Diagnosis {
         }
     }
 
-    /// Fills the picture with the calls of a contradiction, their marks, the changes of other keys at the same time,
-    /// and a later call.
+    /// Fills the picture with the contradiction `place` on `key`: its calls, their marks, changes of other keys at the
+    /// same time, and a later call. `neighbours` are the changes of all keys. Drops the likely cause if the picture
+    /// does not show the call that must have caused a single wrong reply.
     pub(crate) fn show(
         &mut self,
         alloc: Global,
@@ -296,7 +311,7 @@ impl Diagnosis {
         if let Some(second) = place.clash.second.filter(|_| is_before) {
             self.mark(second, Mark::Finds(other(place.clash.was)));
         } else if self.evidence.odd.is_some() && self.runs_beside(place.wrong) {
-            // (the facts tell what the next calls on the key found)
+            // No later call is added: the facts below the picture say what the next calls on the key found.
         } else if !place.is_gone() || has_room {
             self.later = self.call_after(key, &place);
             self.show_later()?;
@@ -310,7 +325,9 @@ impl Diagnosis {
         Ok(())
     }
 
-    /// Adds changes of other keys that ran at the same time, with the one that is probably guilty first.
+    /// Adds at most `MOST_BESIDE` changes of other keys that ran at the same time as the contradiction `place`, and
+    /// chooses the guilty one: it probably caused the contradiction, and comes first. `neighbours` are the changes of
+    /// all keys.
     fn show_beside(
         &mut self,
         alloc: Global,
@@ -338,8 +355,9 @@ impl Diagnosis {
         Ok(())
     }
 
-    /// Adds the calls of a contradiction: the contradicting calls, the overlapping changes that lead to the state
-    /// `was`, and calls that returned false but can have changed the key.
+    /// Adds the calls of the contradiction `place`: the contradicting calls, the wrong reply, the changes that led to
+    /// the state in which the contradiction begins, and calls on the key that returned false but can have changed the
+    /// key.
     fn show_calls(
         &mut self,
         alloc: Global,
@@ -372,7 +390,8 @@ impl Diagnosis {
         Ok(())
     }
 
-    /// Adds the changes of a contradiction that lead to the state `was` together.
+    /// Adds the group of overlapping changes of the key that leaves the state in which the contradiction `clash`
+    /// begins, if there is such a group. Adds no more changes to a picture with 5 calls.
     fn show_stretch(&mut self, key: &KeyCalls, clash: &Clash) -> Result<(), AllocError> {
         let Some(stretch) = clash.stretch else {
             return Ok(());
@@ -389,8 +408,9 @@ impl Diagnosis {
         Ok(())
     }
 
-    /// Adds the change that brought the key into the state that the first contradicting call finds, unless the change
-    /// was long ago.
+    /// Adds the change that brought the key into the state in which the contradiction `clash` begins, if the first
+    /// contradicting call only found this state. Adds nothing if the change began more than `LONG_AGO` moments before
+    /// this call.
     fn show_change(&mut self, key: &KeyCalls, clash: &Clash) -> Result<(), AllocError> {
         let Some(first) = clash.first.filter(|first| first.reads()) else {
             return Ok(());
@@ -404,7 +424,8 @@ impl Diagnosis {
         }
     }
 
-    /// Adds the other changes of the key that overlap a change, if a removed node seems to be reused.
+    /// Adds the changes of the key that overlap `change`, until the picture has 5 calls. Does nothing unless the likely
+    /// cause is that the set is broken from one moment on (`Reused`), for example since a removed node was reused.
     fn show_changes_during(&mut self, key: &KeyCalls, change: Made) -> Result<(), AllocError> {
         if !matches!(self.cause, Some(Cause::Reused)) {
             return Ok(());
@@ -420,7 +441,8 @@ impl Diagnosis {
         Ok(())
     }
 
-    /// Adds other adds and removes of the key that ran during a wrong answer, successful or not.
+    /// Adds other adds and removes of the key that overlap the call `wrong`, successful or not, until the picture has
+    /// `MOST_SHOWN` calls. Does nothing if `wrong` is `None`.
     fn show_around(&mut self, key: &KeyCalls, wrong: Option<Made>) -> Result<(), AllocError> {
         let Some(wrong) = wrong else {
             return Ok(());
@@ -439,7 +461,8 @@ impl Diagnosis {
         Ok(())
     }
 
-    /// Adds the later call (`later`) to the picture, and marks it with the state that it finds.
+    /// Adds the call `later`, which confirms the contradiction, and marks it with the state of the key that it finds. A
+    /// call that is already in the picture keeps its mark.
     fn show_later(&mut self) -> Result<(), AllocError> {
         let Some(later) = self.later else {
             return Ok(());
@@ -452,7 +475,8 @@ impl Diagnosis {
         Ok(())
     }
 
-    /// Marks the calls of a contradiction.
+    /// Marks the calls of the contradiction `place`: the reply that was expected or, if no single reply is wrong, the
+    /// state that each call leaves or finds.
     fn show_marks(
         &mut self,
         alloc: Global,
@@ -473,7 +497,8 @@ impl Diagnosis {
             }
         }
         let stretches = stretches_of(alloc, key)?;
-        // (if two calls were inside at the same time, the call that shows it is right)
+        // If overlapping calls on the key undid each other, the second call only shows the wrong state. Its reply is
+        // right.
         let is_right = matches!(self.cause, Some(Cause::SameKey));
         let second = clash.second.filter(|_| place.wrong.is_none() && !is_right);
         for call in [place.wrong, place.silent, second].into_iter().flatten() {
@@ -487,7 +512,8 @@ impl Diagnosis {
         Ok(())
     }
 
-    /// Marks the contradicting call with the state that it finds.
+    /// Marks the second contradicting call with the state of the key that the call finds. If the two calls overlap,
+    /// marks the first one, too.
     fn mark_found(&mut self, clash: &Clash) {
         let Some(second) = clash.second else {
             return;
@@ -502,9 +528,9 @@ impl Diagnosis {
         }
     }
 
-    /// Returns the first later call that finds the key in the state that the contradicting call shows. If only one
-    /// reply is wrong, this is the state that the other calls show. Returns `None` if a change of the key can have
-    /// begun earlier.
+    /// Returns the first call after the contradiction `place` that confirms it: a lost key is still absent, a returned
+    /// key is still present, or the call disagrees with the wrong reply. `None` if a call can have changed the key
+    /// before, or if none of the next 40 calls confirms the contradiction.
     fn call_after(&self, key: &KeyCalls, place: &Place) -> Option<Made> {
         let (state, since) = match place.symptom {
             Symptom::Missed(_) | Symptom::Found(_) => {
