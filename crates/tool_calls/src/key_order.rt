@@ -93,10 +93,12 @@ fn take_least(ends: &mut Vec<u64>) -> bool {
     }
 }
 
-/// Returns `true` if the lists have equal lengths and each number in `some` is in `others`. Lists without repeated
-/// numbers then have the same numbers. All pending calls have the end `NEVER`, which a list can repeat.
+/// Returns `true` if the lists have the same numbers, in any order. A list can repeat only the number `NEVER`, the end
+/// of all pending calls.
 fn are_alike(some: &[u64], others: &[u64]) -> bool {
-    some.len() == others.len() && some.iter().all(|end| others.contains(end))
+    some.len() == others.len()
+        && some.iter().all(|end| others.contains(end))
+        && others.iter().all(|end| some.contains(end))
 }
 
 impl KeyState {
@@ -121,8 +123,7 @@ impl KeyState {
     }
 
     /// Returns `true` if both states have the same presence of the key and running changes with the same ends, and the
-    /// last change of this state is no earlier. This state then accepts all replies that `than` accepts from now on, if
-    /// at most one running add and one running remove are pending (they never end).
+    /// last change of this state is no earlier. This state then accepts all replies that `than` accepts from now on.
     pub fn is_like(&self, than: &KeyState) -> bool {
         self.state == than.state
             && self.turned >= than.turned

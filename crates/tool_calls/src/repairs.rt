@@ -104,7 +104,7 @@ impl Around {
 
     /// Returns `true` if the calls are linearizable when `call` has the opposite reply or, if `drops`, when `call` is
     /// left out. If `call` is not one of the calls, a copy with the opposite reply is added, which can take effect from
-    /// the moment after `from` on.
+    /// the begin of `call` on, but after the moment `from`.
     fn is_repaired(&self, alloc: Global, call: Made, drops: bool) -> Result<bool, AllocError> {
         let mut calls = Vec::new(alloc);
         for one in &self.calls {
@@ -119,10 +119,11 @@ impl Around {
                 return Ok(false);
             }
             let turned = Made {
-                begun: self.from.saturating_add(1),
+                begun: self.from.saturating_add(1).max(call.begun),
                 ..call.turned()
             };
-            calls.insert(0, turned)?;
+            calls.push(turned)?;
+            calls.sort_unstable_by_key(|one| one.begun);
         }
         self.is_explained(alloc, &calls)
     }

@@ -337,11 +337,16 @@ impl Diagnosis {
         let (since, until) = time_of(place, neighbours, self.cause);
         let (key, cause, clash) = (place.key, self.cause, place.clash);
         let changes = neighbours.around(alloc, key, since, until, MOST_AROUND)?;
+        let is_cut = changes.len() >= MOST_AROUND;
         self.beside = match cause {
             Some(Cause::Displaced | Cause::Batch | Cause::Evicted) => changes,
             _ => at_calls(alloc, changes, &place.clash)?,
         };
-        self.beside_count = self.beside.len();
+        self.beside_count = if is_cut {
+            MOST_AROUND
+        } else {
+            self.beside.len()
+        };
         let guilty = self.guilty_beside(place);
         self.guilty = guilty;
         self.beside.sort_unstable_by_key(|call| {
