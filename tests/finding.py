@@ -28,6 +28,11 @@ def test_only_files_of_the_named_folder_are_searched():
     assert places and all(line.startswith("judge/go/") for line in places)
 
 
+def test_a_folder_without_searched_files_is_named():
+    done = find("--in", "no/such", "seed")
+    assert (done.returncode, done.stderr) == (1, "build/find: no searched file has no/such in its path\n")
+
+
 def test_a_word_that_nothing_contains_has_status_1_and_one_line():
     done = find("q" * 30)
     assert (done.returncode, done.stdout, done.stderr) == (1, "", "build/find: nothing matches these words\n")
