@@ -11,6 +11,7 @@ import pathlib
 import re
 import shutil
 import sys
+import time
 
 import pytest
 from harness.programs import QUICK_CARGO, TOP, ran, well
@@ -155,7 +156,7 @@ def test_wrong_sets_are_refused_with_the_default_options(form, program):
             if kind == "refused":
                 break
         assert kind == "refused" and re.search(rf"^not linearizable\n(?:.*\n)*\nseed [0-9]+ \({preset}.*\), [0-9]+ threads", said, re.M), said
-        assert "key 0 of the recording is" not in said or of != "check then act"
+        assert "key 0 above means" not in said or of != "check then act"
 
 
 @each(LANGUAGES)
@@ -164,7 +165,7 @@ def test_keys_can_be_of_any_kind(form, program):
     assert form.told(program, "collides", f"{FEW} keys=128")[0] == "refused"
     assert "the key function returns " in form.told(program, "twice", f"{FEW} keys=4")[1]
     kind, said = form.told(program, "texts", f"{FEW} keys=4", LISTSET=str(refusing(form)))
-    assert kind == "refused" and re.search("; key 1 of the recording is .?key 1", said), said
+    assert kind == "refused" and re.search("; key 1 above means key .?key 1", said), said
 
 
 @each(LANGUAGES)
@@ -288,7 +289,7 @@ def test_keys_of_a_run_are_the_keys_that_the_set_got(form, program):
 @each(LANGUAGES)
 def test_a_call_that_hangs_is_named_with_its_set(form, program):
     said = form.told(program, "hangs", "threads=4 seed=5 seconds=10 runs=1")[1]
-    assert re.search(r"\npending:(?:\n  thread [0-3]: [a-z]+ [0-9]+, in set 1 of the run, begun at moment [0-9]+)+\nbefore that: ", said), said
+    assert re.search(r"\npending:(?:\n  thread [0-3]: [a-z]+ [0-9]+, in set number 1 of those that the run created, begun at moment [0-9]+)+\nbefore that: ", said), said
 
 
 @pytest.mark.needs("g++")
@@ -365,7 +366,7 @@ def refusing(form):
 @each(LANGUAGES)
 def test_a_refusal_is_passed_on_unchanged(form):
     kind, said = form.told(refusing(form), "right", FEW, LISTSET_RECORD=str(form.room / "kept"))
-    line = re.search(r"\nseed 1 \(few keys\), 4 threads(?:; refused: ([2-5]) of \1 runs, the later ones longer)?; recorded in (.*?)/listset-seed-1-", said)
+    line = re.search(r"\nseed 1 \(few keys\), 4 threads(?:; longer runs followed the first refusal: ([2-5]) of \1 runs were refused)?; recorded in (.*?)/listset-seed-1-", said)
     assert kind == "refused" and f"verdict: refused\n{REFUSED}\nseed 1 " in said and line[2] == str(form.room / "kept"), said
     kept = sorted((form.room / "kept").iterdir())  # (the recordings of the key and of the run)
     assert len(kept) == 2 and form.left() == [] and f", the calls that show it in {kept[0]}; judge: " in said
@@ -415,11 +416,33 @@ exit 1
 def test_the_run_with_the_most_contradictions_is_printed(form):
     judge = form.script("more", REFUSES_MORE.replace("%room", str(form.room)))
     kind, said = form.told(judge, "right", "threads=4 calls=250", LISTSET_RECORD=str(form.room / "kept"))
-    line = re.search(r"\nseed 8 \(few keys\), 4 threads; refused: ([1-4]) of ([2-5]) runs, the later ones longer; recorded in ([^,;]*/listset-seed-8-[^,;]*); judge: ", said)
+    line = re.search(r"\nseed 8 \(few keys\), 4 threads; longer runs followed the first refusal: ([1-4]) of ([2-5]) runs were refused; recorded in ([^,;]*/listset-seed-8-[^,;]*); judge: ", said)
     assert kind == "refused" and "\nat least 9 contradictions\n" in said and line, said
     runs = int(line[2])  # (on a busy machine, there can be less time than for four further runs)
     assert int(line[1]) == (runs if runs < 3 else runs - 1)
     assert [*(form.room / "kept").iterdir()] == [pathlib.Path(line[3])] and form.left() == []
+
+
+# A judge that takes 1.1 seconds for a run, and states the same number of contradictions in each.
+SLOW = """#!/bin/sh
+[ "$1" = judge ] || exit 0
+sleep 1.1
+printf 'not linearizable\\nno order explains the calls of key 1 up to moment 7\\ncontradiction: none\\n\\nat least %count contradictions\\n'
+exit 1
+"""
+
+
+@each(LANGUAGES)
+def test_further_runs_have_more_time_while_the_refusals_state_few_contradictions(form):
+    runs = {}
+    for count in (9, 10):
+        judge, begun = form.script("slow", SLOW.replace("%count", str(count))), time.monotonic()
+        kind, said = form.told(judge, "right", "threads=4 calls=250")
+        line = re.search(r"; longer runs followed the first refusal: ([2-5]) of ([2-5]) runs were refused; ", said)
+        assert kind == "refused" and line and line[1] == line[2], said
+        runs[count] = (int(line[1]), time.monotonic() - begun)
+    assert runs[10][0] <= 4  # (no run begins after 3 seconds)
+    assert runs[9][0] == 5 or runs[9][1] > 10
 
 
 def contradictions_in(said):
@@ -431,7 +454,7 @@ def contradictions_in(said):
 @each(LANGUAGES)
 def test_further_runs_have_the_preset_of_the_refused_run(form, program):
     kind, said = form.told(program, "again", f"threads=4 calls=500 keys=4 record={form.room / 'all'}")
-    line = re.search(r"\nseed ([0-9]+) \(few keys\), 4 threads(?:; refused: ([0-9]) of ([0-9]) runs, the later ones longer)?; recorded in ([^,;]*/seed-([0-9]+)\.calls)", said)
+    line = re.search(r"\nseed ([0-9]+) \(few keys\), 4 threads(?:; longer runs followed the first refusal: ([0-9]) of ([0-9]) runs were refused)?; recorded in ([^,;]*/seed-([0-9]+)\.calls)", said)
     assert kind == "refused" and line and line[1] == line[5] in ("1", "8", "15", "22", "29"), said
     whole = [it for it in (form.room / "all").glob("seed-*") if "-key-" not in it.name and it.read_text().endswith("\nend\n")]
     judged = {it: ran(program, "judge", it).stdout for it in whole}

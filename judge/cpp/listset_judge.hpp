@@ -157,12 +157,12 @@ struct range {
     uint64_t least, most;
 };
 
-// LONGEST is a number of polls, PART and MEET are numbers of calls, PATIENCE and FURTHER_FOR are in seconds, ALERT in
+// LONGEST is a number of polls, PART and MEET are numbers of calls, PATIENCE, FURTHER_FOR and FURTHER_MOST are in seconds, ALERT in
 // microseconds, and SOON in nanoseconds.
 // The lines below are made of words.json by judge/make_words.
 constexpr shape PRESETS[] = {{"few keys", 4, 1, 5000, 4, 1}, {"fresh sets", 4, 40, 10, 4, 1}, {"multiples of 64", 4, 1, 5000, 8, 64}, {"one key", 3, 1, 5000, 1, 1}, {"sets that grow", 4, 20, 125, 64, 1}, {"many keys", 4, 1, 2500, 1000, 1}, {"multiples of 1,000", 8, 1, 2500, 8, 1000}};
 constexpr range RANGES[] = {{"threads", 1, 64}, {"threads times calls", 1, 1000000000}, {"keys", 1, 1048576}, {"pauses", 0, 100}, {"runs", 1, 1000000}, {"seconds", 1, 3600}, {"within", 1, 604800}, {"at_least", 0, 100}, {"the sum of shares", 1, 1000000}};
-constexpr unsigned PART = 20000, LONGEST = 100, HOT = 4, ENOUGH = 5, HARDER = 2, PATIENCE = 10, MEET = 250, AWAKE = 300000, WITHIN = 60, STOPS = 128, AGAIN = 4, PATIENT = 40, MANY = 40, SOON = 4000, ALERT = 500, TRIES = 60, NEAR = 128, FURTHER = 4, FURTHER_FOR = 3, LONGER = 4, STOPS_PER = 5000;
+constexpr unsigned PART = 20000, LONGEST = 100, HOT = 4, ENOUGH = 5, HARDER = 2, PATIENCE = 10, MEET = 250, AWAKE = 300000, WITHIN = 60, STOPS = 128, AGAIN = 4, PATIENT = 40, MANY = 40, SOON = 4000, ALERT = 500, TRIES = 60, NEAR = 128, FURTHER = 4, FURTHER_FOR = 3, FURTHER_MOST = 10, CLEAR = 10, LONGER = 4, STOPS_PER = 5000;
 constexpr const char *OK = "ok: %s calls, and %s of them overlapped a change of their key";
 constexpr const char *FEW = "few calls overlapped, so ok means little: %s calls, and %s of them overlapped a change of their key";
 constexpr const char *TOO_FEW = "too few calls overlapped: %s of %s calls overlapped a change of their key, and at_least requires %s of 100. Use fewer keys, more threads, or a less busy machine";
@@ -178,11 +178,11 @@ constexpr const char *NO_OPENING = "contains of an opening key had no known outc
 constexpr const char *UNDER_WAY = "%s\npending:%s\nbefore that: %s";
 constexpr const char *EXPLAINED = "some order explains the calls";
 constexpr const char *PASSED_BEFORE = "; passed before: %s";
-constexpr const char *REFUSED_OF = "; refused: %s of %s runs, the later ones longer";
+constexpr const char *REFUSED_OF = "; longer runs followed the first refusal: %s of %s runs were refused";
 constexpr const char *PENDING_CALL = "\n  thread %s: %s %s%s, begun at moment %s";
 constexpr const char *IS_KEY = " (key %s of the recording)";
-constexpr const char *KEY_IS = "; key %s of the recording is %s";
-constexpr const char *IN_SET = ", in set %s of the run";
+constexpr const char *KEY_IS = "; key %s above means key %s";
+constexpr const char *IN_SET = ", in set number %s of those that the run created";
 constexpr const char *MADE_HARDER = "; with changed sizes, because few calls overlapped";
 constexpr const char *NO_FOLDER = "no file can be written in %s: set record to another folder";
 constexpr const char *NO_RECORD = "the variable LISTSET_RECORD is %s, but no file can be written there: set it to another folder";
@@ -1030,14 +1030,20 @@ template <class Make, class Key> struct tester {
         }
     }
 
-    // Performs longer runs with the preset of a refused run and later seeds, until a run cannot be completed. Returns
-    // the run whose refusal states the most contradictions, and the part of the message that counts the refused runs.
+    // Performs longer runs with the preset of a refused run and later seeds, until a run cannot be completed. Begins and
+    // ends them within FURTHER_FOR seconds, or within FURTHER_MOST seconds while the best refusal states fewer than CLEAR
+    // contradictions; less if the limits of the test are small. Returns the run whose refusal states the most
+    // contradictions, and the part of the message that counts the refused runs.
     std::pair<outcome, std::string> clearest(const outcome &first, clock::time_point until) const {
         if (is_replay(how) || !has_own_process()) return {first, ""};
         outcome best = first;
         unsigned refused = 1, runs = 1;
-        const auto end = std::min(until, clock::now() + std::chrono::milliseconds(100) * std::min({10 * FURTHER_FOR, how.seconds, how.within}));
-        while (runs <= FURTHER && clock::now() < end) {
+        const auto begun = clock::now();
+        const auto least = std::chrono::milliseconds(100) * std::min({10 * FURTHER_FOR, how.seconds, how.within});
+        while (runs <= FURTHER) {
+            const bool is_clear = contradictions_in(best.said) >= CLEAR;
+            const auto end = std::min(until, begun + (is_clear ? least : least * FURTHER_MOST / FURTHER_FOR));
+            if (clock::now() >= end) break;
             const auto next = further_run(first.seed + runs * std::size(PRESETS), longer(first.of), end);
             if (!next) break;
             runs++;

@@ -532,19 +532,28 @@ func (o Options) isReplay() bool {
 	return os.Getenv("LISTSET_SEED") != "" || o.Seed != DefaultOptions().Seed && os.Getenv("LISTSET_SECONDS") == ""
 }
 
-// clearest performs longer runs with the preset of a refused run and later seeds, until a run cannot be completed. It
-// returns the run whose refusal states the most contradictions, and the part of the message that counts the refused runs.
+// clearest performs longer runs with the preset of a refused run and later seeds, until a run cannot be completed. They
+// begin and end within manyFurtherFor seconds, or within manyFurtherMost seconds while the best refusal states fewer
+// than manyClear contradictions; less if the limits of the test are small. It returns the run whose refusal states the
+// most contradictions, and the part of the message that counts the refused runs.
 func (t *tester) clearest(first *failedRun, s shape) (*failedRun, string) {
 	if _, isHere := t.caller.(*here); isHere || t.options.isReplay() {
 		return first, ""
 	}
 	tenths := least(10*manyFurtherFor, least(t.options.Seconds, t.options.Within))
-	end := time.Now().Add(time.Duration(tenths) * time.Second / 10)
-	if end.After(t.until) {
-		end = t.until
-	}
+	begun, most := time.Now(), time.Duration(tenths)*time.Second/10
 	best, refused, runs := first, 1, 1
-	for runs <= manyFurther && time.Now().Before(end) {
+	for runs <= manyFurther {
+		end := begun.Add(most)
+		if best.contradictions() < manyClear {
+			end = begun.Add(most * manyFurtherMost / manyFurtherFor)
+		}
+		if end.After(t.until) {
+			end = t.until
+		}
+		if !time.Now().Before(end) {
+			break
+		}
 		_, next, err := t.outcome(first.seed+int64(runs*len(presets)), s.longer(), end)
 		if next != nil && next.isCutShort {
 			next.close()

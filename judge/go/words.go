@@ -23,6 +23,8 @@ const (
 	manyNear        = 128
 	manyFurther     = 4
 	manyFurtherFor  = 3
+	manyFurtherMost = 10
+	manyClear       = 10
 	manyLonger      = 4
 	sayOk           = "ok: %v calls, and %v of them overlapped a change of their key"
 	sayFew          = "few calls overlapped, so ok means little: %v calls, and %v of them overlapped a change of their key"
@@ -39,11 +41,11 @@ const (
 	sayUnderWay     = "%v\npending:%v\nbefore that: %v"
 	sayExplained    = "some order explains the calls"
 	sayPassedBefore = "; passed before: %v"
-	sayRefusedOf    = "; refused: %v of %v runs, the later ones longer"
+	sayRefusedOf    = "; longer runs followed the first refusal: %v of %v runs were refused"
 	sayPendingCall  = "\n  thread %v: %v %v%v, begun at moment %v"
 	sayIsKey        = " (key %v of the recording)"
-	sayKeyIs        = "; key %v of the recording is %v"
-	sayInSet        = ", in set %v of the run"
+	sayKeyIs        = "; key %v above means key %v"
+	sayInSet        = ", in set number %v of those that the run created"
 	sayMadeHarder   = "; with changed sizes, because few calls overlapped"
 	sayNoFolder     = "no file can be written in %v: set record to another folder"
 	sayNoRecord     = "the variable LISTSET_RECORD is %v, but no file can be written there: set it to another folder"

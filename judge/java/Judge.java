@@ -89,7 +89,7 @@ public final class Judge {
     // The lines below are made of words.json by judge/make_words.
     private static final Shape[] PRESETS = {new Shape("few keys", 4, 1, 5000, 4, 1), new Shape("fresh sets", 4, 40, 10, 4, 1), new Shape("multiples of 64", 4, 1, 5000, 8, 64), new Shape("one key", 3, 1, 5000, 1, 1), new Shape("sets that grow", 4, 20, 125, 64, 1), new Shape("many keys", 4, 1, 2500, 1000, 1), new Shape("multiples of 1,000", 8, 1, 2500, 8, 1000)};
     private static final Limits[] RANGES = {new Limits("threads", 1, 64), new Limits("threads times calls", 1, 1000000000), new Limits("keys", 1, 1048576), new Limits("pauses", 0, 100), new Limits("runs", 1, 1000000), new Limits("seconds", 1, 3600), new Limits("within", 1, 604800), new Limits("at_least", 0, 100), new Limits("the sum of shares", 1, 1000000)};
-    private static final int PART = 20000, LONGEST = 100, HOT = 4, ENOUGH = 5, HARDER = 2, PATIENCE = 10, MEET = 250, AWAKE = 300000, WITHIN = 60, APART = 100, FURTHER = 4, FURTHER_FOR = 3, LONGER = 4;
+    private static final int PART = 20000, LONGEST = 100, HOT = 4, ENOUGH = 5, HARDER = 2, PATIENCE = 10, MEET = 250, AWAKE = 300000, WITHIN = 60, APART = 100, FURTHER = 4, FURTHER_FOR = 3, FURTHER_MOST = 10, CLEAR = 10, LONGER = 4;
     private static final String OK = "ok: %s calls, and %s of them overlapped a change of their key";
     private static final String FEW = "few calls overlapped, so ok means little: %s calls, and %s of them overlapped a change of their key";
     private static final String TOO_FEW = "too few calls overlapped: %s of %s calls overlapped a change of their key, and at_least requires %s of 100. Use fewer keys, more threads, or a less busy machine";
@@ -104,11 +104,11 @@ public final class Judge {
     private static final String UNDER_WAY = "%s\npending:%s\nbefore that: %s";
     private static final String EXPLAINED = "some order explains the calls";
     private static final String PASSED_BEFORE = "; passed before: %s";
-    private static final String REFUSED_OF = "; refused: %s of %s runs, the later ones longer";
+    private static final String REFUSED_OF = "; longer runs followed the first refusal: %s of %s runs were refused";
     private static final String PENDING_CALL = "\n  thread %s: %s %s%s, begun at moment %s";
     private static final String IS_KEY = " (key %s of the recording)";
-    private static final String KEY_IS = "; key %s of the recording is %s";
-    private static final String IN_SET = ", in set %s of the run";
+    private static final String KEY_IS = "; key %s above means key %s";
+    private static final String IN_SET = ", in set number %s of those that the run created";
     private static final String MADE_HARDER = "; with changed sizes, because few calls overlapped";
     private static final String NO_FOLDER = "no file can be written in %s: set record to another folder";
     private static final String NO_RECORD = "the variable LISTSET_RECORD is %s, but no file can be written there: set it to another folder";
@@ -464,17 +464,20 @@ public final class Judge {
         }
 
         /**
-         * Performs longer runs with the preset of a refused run and later seeds, until a run cannot be completed.
-         * Returns the run whose refusal states the most contradictions, and appends the part of the message that counts
-         * the refused runs to {@code refusedOf}.
+         * Performs longer runs with the preset of a refused run and later seeds, until a run cannot be completed. They
+         * begin and end within FURTHER_FOR seconds, or within FURTHER_MOST seconds while the best refusal states fewer
+         * than CLEAR contradictions; less if the limits of the test are small. Returns the run whose refusal states the
+         * most contradictions, and appends the part of the message that counts the refused runs to {@code refusedOf}.
          */
         private Outcome clearest(Outcome first, Shape shape, StringBuilder refusedOf) {
             if (caller.process == null || how.isReplay()) return first;
             long tenth = SECOND / 10 * Math.min(10 * FURTHER_FOR, Math.min(how.seconds, how.within));
-            long now = System.nanoTime(), most = Math.min(tenth, how.within * SECOND - (now - began));
+            long now = System.nanoTime(), left = how.within * SECOND - (now - began);
             Outcome best = first;
             int refused = 1, runs = 1;
-            while (runs <= FURTHER && System.nanoTime() - now < most) {
+            while (runs <= FURTHER) {
+                long most = Math.min(left, best.contradictions() < CLEAR ? tenth * FURTHER_MOST / FURTHER_FOR : tenth);
+                if (System.nanoTime() - now >= most) break;
                 Outcome next = furtherRun(first.seed + (long) runs * PRESETS.length, shape.longer(), most - (System.nanoTime() - now));
                 if (next == null) break;
                 runs++;

@@ -62,7 +62,7 @@ Shape = collections.namedtuple("Shape", "name threads sets calls keys times")
 # cut short, and the pending calls.
 Outcome = collections.namedtuple("Outcome", "seed shape file overlapped refused trouble pending")
 
-# PART and MEET are numbers of calls. PATIENCE and FURTHER_FOR are in seconds.
+# PART and MEET are numbers of calls. PATIENCE, FURTHER_FOR and FURTHER_MOST are in seconds.
 # The lines below are made of words.json by judge/make_words.
 PRESETS = (
     Shape("few keys", 4, 1, 5000, 4, 1),
@@ -84,7 +84,7 @@ RANGES = (
     ("at_least", 0, 100),
     ("the sum of shares", 1, 1000000),
 )
-PART, LONGEST, HOT, ENOUGH, HARDER, PATIENCE, MEET, AWAKE, SLOW, WITHIN, FURTHER, FURTHER_FOR, LONGER = 20000, 100, 4, 5, 2, 10, 250, 300000, 10, 60, 4, 3, 4
+PART, LONGEST, HOT, ENOUGH, HARDER, PATIENCE, MEET, AWAKE, SLOW, WITHIN, FURTHER, FURTHER_FOR, FURTHER_MOST, CLEAR, LONGER = 20000, 100, 4, 5, 2, 10, 250, 300000, 10, 60, 4, 3, 10, 10, 4
 OK = "ok: %s calls, and %s of them overlapped a change of their key"
 FEW = "few calls overlapped, so ok means little: %s calls, and %s of them overlapped a change of their key"
 TOO_FEW = "too few calls overlapped: %s of %s calls overlapped a change of their key, and at_least requires %s of 100. Use fewer keys, more threads, or a less busy machine"
@@ -100,11 +100,11 @@ NO_OPENING = "contains of an opening key had no known outcome in %s calls"
 UNDER_WAY = "%s\npending:%s\nbefore that: %s"
 EXPLAINED = "some order explains the calls"
 PASSED_BEFORE = "; passed before: %s"
-REFUSED_OF = "; refused: %s of %s runs, the later ones longer"
+REFUSED_OF = "; longer runs followed the first refusal: %s of %s runs were refused"
 PENDING_CALL = "\n  thread %s: %s %s%s, begun at moment %s"
 IS_KEY = " (key %s of the recording)"
-KEY_IS = "; key %s of the recording is %s"
-IN_SET = ", in set %s of the run"
+KEY_IS = "; key %s above means key %s"
+IN_SET = ", in set number %s of those that the run created"
 MADE_HARDER = "; with changed sizes, because few calls overlapped"
 NO_FOLDER = "no file can be written in %s: set record to another folder"
 NO_RECORD = "the variable LISTSET_RECORD is %s, but no file can be written there: set it to another folder"
@@ -356,14 +356,20 @@ class Tester:
             file.unlink()
 
     def clearest(self, first: Outcome) -> tuple[Outcome, str]:
-        """Performs longer runs with the preset of a refused run and later seeds, until a run cannot be completed.
-        Returns the run whose refusal states the most contradictions, and the part of the message that counts the refused runs.
+        """Performs longer runs with the preset of a refused run and later seeds, until a run cannot be completed. They
+        begin and end within FURTHER_FOR seconds, or within FURTHER_MOST seconds while the best refusal states fewer than
+        CLEAR contradictions; less if the limits of the test are small. Returns the run whose refusal states the most
+        contradictions, and the part of the message that counts the refused runs.
         """
         if self.how.is_replay() or not self.how.has_own_process():
             return first, ""
         best, refused, runs, shape = first, 1, 1, longer(first.shape)
-        end = min(self.until, time.monotonic() + min(10 * FURTHER_FOR, self.how.seconds, self.how.within) / 10)
-        while runs <= FURTHER and time.monotonic() < end and (its := self.further(first.seed + runs * len(PRESETS), shape, end)):
+        begun, least = time.monotonic(), min(10 * FURTHER_FOR, self.how.seconds, self.how.within) / 10
+        while runs <= FURTHER:
+            is_clear = contradictions_in(best.refused) >= CLEAR
+            end = min(self.until, begun + (least if is_clear else least * FURTHER_MOST / FURTHER_FOR))
+            if time.monotonic() >= end or not (its := self.further(first.seed + runs * len(PRESETS), shape, end)):
+                break
             runs += 1
             refused += bool(its.refused)
             is_better = contradictions_in(its.refused) > contradictions_in(best.refused)

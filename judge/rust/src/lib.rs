@@ -505,17 +505,24 @@ impl<'a, S: Sync> Tester<'a, S> {
         recording.judged(self.source, &self.runner.area, trouble)
     }
 
-    /// Performs longer runs with the preset of a refused run and later seeds, until a run cannot be completed. Returns
-    /// the run whose refusal states the most contradictions, and the part of the message that counts the refused runs.
+    /// Performs longer runs with the preset of a refused run and later seeds, until a run cannot be completed. They begin
+    /// and end within `FURTHER_FOR` seconds, or within `FURTHER_MOST` seconds while the best refusal states fewer than
+    /// `CLEAR` contradictions; less if the limits of the test are small. Returns the run whose refusal states the most
+    /// contradictions, and the part of the message that counts the refused runs.
     fn clearest(&self, first: Fault<'a>, seed: u64, shape: Shape) -> (Fault<'a>, String) {
         if self.options.is_replay() || !self.runner.has_own_process() {
             return (first, String::new());
         }
         let Options { seconds, within, .. } = *self.options;
         let left = Duration::from_secs(within.into()).saturating_sub(self.began.elapsed());
-        let end = Instant::now() + left.min(Duration::from_millis(100) * seconds.min(within).min(10 * FURTHER_FOR));
+        let (begun, least) = (Instant::now(), Duration::from_millis(100) * seconds.min(within).min(10 * FURTHER_FOR));
         let (mut best, mut refused, mut runs) = (first, 1, 1);
-        while runs <= FURTHER && Instant::now() < end {
+        while runs <= FURTHER {
+            let is_clear = best.contradictions() >= u64::from(CLEAR);
+            let end = begun + left.min(if is_clear { least } else { least * FURTHER_MOST / FURTHER_FOR });
+            if Instant::now() >= end {
+                break;
+            }
             match self.outcome(seed + u64::from(runs) * PRESETS.len() as u64, shape.longer(), Some(end)) {
                 Ok(Outcome::Passed(_)) => {}
                 Ok(Outcome::Refused(next)) => {
