@@ -79,6 +79,27 @@ module.exports = ({ draw, pick, replyOf, keysAfter, paddingAfter }) => {
   const leftWith = (set) => (draw(6) === 0 ? null : draw(8) === 0 ? (set.includes(5) ? set.filter((key) => key !== 5) : [5, ...set]) : set);
   const short = () => 1 + draw(3);
 
+  // Returns a recording in which the first two adds of each key overlap. Both return true if `areBothTrue` returns true. Then `later` correct calls of the key
+  // follow one another.
+  function firstCalls(keys, later, areBothTrue) {
+    const [calls, left] = [[], []];
+    let moment = 0;
+    for (let key = 1; key <= keys; key++) {
+      const [both, present] = [areBothTrue(), [[], [key]]];
+      calls.push({ thread: 0, operation: "add", key, begun: moment + 1, ended: moment + 4, reply: String(both) }, { thread: 1, operation: "add", key, begun: moment + 2, ended: moment + 3, reply: "true" });
+      moment += 4;
+      let isPresent = true;
+      for (let count = later; count > 0; count--) {
+        const operation = pick(["add", "remove", "contains"]);
+        const reply = replyOf({ operation, key }, present[Number(isPresent)], true);
+        if (reply === "true" && operation !== "contains") isPresent = !isPresent;
+        calls.push({ thread: draw(3), operation, key, begun: ++moment, ended: ++moment, reply });
+      }
+      if (isPresent) left.push(key);
+    }
+    return recordingOf(calls, [], left);
+  }
+
   // Generates calls of several threads on some keys. `replyTo` returns the reply to a call, given the call, the set and the pending calls. It can also return a
   // function that is called when the call ends.
   function madeBy(keys, count, replyTo, threads = 3, starts = 2, operations = ["add", "remove", "add", "remove", "contains"]) {
@@ -295,22 +316,10 @@ module.exports = ({ draw, pick, replyOf, keysAfter, paddingAfter }) => {
       }, 4, 2, ["add", "remove", "contains", "contains"]);
     },
     function firsts() { // the first two adds of a key overlap, and some of these pairs both return true
-      const [calls, left] = [[], []];
-      let moment = 0;
-      for (let key = 1; key <= 6; key++) {
-        const [both, present] = [draw(3) > 0, [[], [key]]];
-        calls.push({ thread: 0, operation: "add", key, begun: moment + 1, ended: moment + 4, reply: String(both) }, { thread: 1, operation: "add", key, begun: moment + 2, ended: moment + 3, reply: "true" });
-        moment += 4;
-        let isPresent = true;
-        for (let count = 15; count > 0; count--) {
-          const operation = pick(["add", "remove", "contains"]);
-          const reply = replyOf({ operation, key }, present[Number(isPresent)], true);
-          if (reply === "true" && operation !== "contains") isPresent = !isPresent;
-          calls.push({ thread: draw(3), operation, key, begun: ++moment, ended: ++moment, reply });
-        }
-        if (isPresent) left.push(key);
-      }
-      return recordingOf(calls, [], left);
+      return firstCalls(6, 15, () => draw(3) > 0);
+    },
+    function manyFirsts() { // more than 400 contradictions: the first two adds of each of many keys overlap, and both return true
+      return firstCalls(405 + draw(30), 5, () => true);
     },
     function neverFound() { // a key that is added is never found
       return madeBy([1, 2, 5, 6].slice(draw(2)), 20, ({ call, set }) => {

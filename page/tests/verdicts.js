@@ -15,9 +15,9 @@ const met = new Set(); // the patterns that some sentence has matched
 const [verdictOnCalls, verdictOnLacking, verdictOn] = ["verdictOnCalls", "verdictOnLacking", "verdictOn"].map(inPage);
 const [OwnAnswer, exerciseOf, readReport, LACKING] = ["OwnAnswer", "exerciseOf", "readReport", "LACKING"].map(inPage);
 const LAST = Infinity;
-const LONG = ["inside", "growing", "unlinked", "outlasted", "ownCopies", "broken", "borrowed"]; // kinds with long recordings
+const LONG = ["inside", "growing", "unlinked", "outlasted", "ownCopies", "broken", "borrowed", "manyFirsts"]; // kinds with long recordings
 const MOST_LONG = 60; // the most cases of a kind with long recordings: a case takes up to a second, so 4,000 of each kind would take hours
-const OF_FACTS = ["inside", "unlinked", "outlasted", "ownCopies", "broken", "borrowed"]; // only the facts of these kinds are checked
+const OF_FACTS = ["inside", "unlinked", "outlasted", "ownCopies", "broken", "borrowed", "manyFirsts"]; // only the facts of these kinds are checked
 
 // ---- Random numbers. They depend only on the seed.
 
@@ -340,7 +340,7 @@ function checkText(ask, it, told) {
   const isOfCount = (line) => /^(contradiction: | {2}(need key|and (no|only)) )/.test(line);
   const lines = ask("listset_why", it.text).text.split("\n").filter((line) => line !== "" && !isOfCount(line));
   const NOTES = [[/^ +<-- expected (\w+)$/, "call expected $1"], [/^ +key \d+ is (\w+)$/, "call leaves $1"], [/^ +<-- one of two$/, "call either"], [/^ +finds key \d+ (\w+)$/, "call finds $1"], [/^ +<-- (suspected)$/, "$1"]];
-  const [isOfPicture, BAR] = [/^thread |^ +\.\.\.$|^-+ also running(?:: (?:\d+|many) calls, \d+ shown)?$/, /^thread (\d+) +\[(\w+) (\d+)-*(?:(\w+)\]|\.\.) +(\d+) to (\d+|\.\.)(.*)$/];
+  const [isOfPicture, BAR] = [/^thread |^ +\.\.\.$|^-+ also running(?:: \d+ of (?:\d+|many) changes of other keys)?$/, /^thread (\d+) +\[(\w+) (\d+)-*(?:(\w+)\]|\.\.) +(\d+) to (\d+|\.\.)(.*)$/];
   const bars = lines.filter((line) => line.startsWith("thread ")).map((line) => {
     const [, thread, operation, key, reply, begun, ended, note] = BAR.exec(line) ?? [];
     const mark = NOTES.find(([pattern]) => pattern.test(note));
@@ -479,7 +479,7 @@ const isBeside = (it, call) => runsDuring(it, call, (one) => one.key !== call.ke
 // Returns whether the text `rate` in a sentence compares the share of `count` in `all` correctly with the share for other answers. The text is empty if there
 // are no other answers.
 function isRate(rate, count, all) {
-  const [, near, , usual] = /^(?:(, about as often as during other answers) \((\d+)%\)| \(during other answers: (\d+)%\))$/.exec(rate) ?? [];
+  const [, near, , usual] = /^(?:(, about as often as during (?:sampled )?other answers) \((\d+)%\)| \(during (?:sampled )?other answers: (\d+)%\))$/.exec(rate) ?? [];
   const [, other] = /(\d+)%/.exec(rate) ?? [];
   const isNear = Math.abs(Math.floor((Number(count) * 100) / Number(all)) - Number(other)) <= 10;
   return rate === "" || (Number(other) <= 100 && isNear === (near !== undefined) && (near !== undefined || usual !== undefined));
@@ -550,7 +550,7 @@ const TALLIED = ["lost", "came back", "two adds true", "two removes true", "one 
 // Maps the phrases in the sentence that counts contradictions to the kinds of contradictions.
 const KINDS = {
   "where a key was lost": "lost", "where a key came back": "came back", "with two adds that both returned true": "two adds true",
-  "with two removes that both returned true": "two removes true", "with one wrong reply": "one wrong answer", "of other kinds": "none of these",
+  "with two removes that both returned true": "two removes true", "with one wrong reply": "one wrong answer", "where it is unclear which call is wrong": "none of these",
 };
 // Returns whether some calls around an answer are linearizable without the answer, but not with it.
 const isOnlyWrong = (it, answer) => [...around(it, answer.key, answer)].some(({ calls, isThere, left }) =>
@@ -597,21 +597,50 @@ function isListed(it, told) {
   return until === undefined ? !hasOrderOf(it, Number(key)) : !hasOrder(knownBy(calls, last), Number(key), opens(it, Number(key)));
 }
 
-// Decides whether `some` of `all` times that a change of a refused key was undone can have a property. (A key is refused if no order explains its calls. A change
-// can be undone several times.) The property is that another add or remove of the same key overlaps the change (`own`), that a change of another key overlaps it
-// (`others`), or that some completed call on its key began before the first add or remove of the key had ended (`first`).
-function isOfUndone(it, what, some, all, usual) {
-  const hit = it.calls.filter((call) => isChange(call) && call.ended !== null && !hasOrderOf(it, call.key));
-  const firstEnd = (key) => Math.min(...ofKey(it, key).filter((call) => call.operation !== "contains").map((call) => call.ended ?? LAST));
-  const isFirst = (call) => ofKey(it, call.key).some((one) => one.begun <= firstEnd(call.key) && one.ended !== null);
-  const isMet = { own: isSame, others: isBeside, first: (_, call) => isFirst(call) }[what];
-  const [known, lacking] = [hit.some((call) => isMet(it, call)), hit.some((call) => !isMet(it, call))];
-  const areThere = (some === "0" || known) && (what === "first" || some === all || lacking);
-  return Number(some) <= Number(all) && hit.length > 0 && areThere && Number(usual) <= 100;
+// Decides whether a sentence about changes that were undone or reported twice is true: `some` of `all` such times, the change has a property, and `usual` percent of
+// all completed changes (`checked` and `sampled` are false), or of a sample, have the property. The property is that another add or remove of the same key
+// overlaps the change (`own`), that a change of another key overlaps it (`others`), or that it began while the first calls on its key ran (`first`: the calls that
+// began before any add or remove of the key had ended).
+function isOfUndone(it, { tally }, what, [some, all, usual], isChecked, isSampled) {
+  const calls = [...it.calls, ...it.padding].sort((one, other) => one.begun - other.begun);
+  const changes = calls.filter((call) => isChange(call) && call.ended !== null);
+  const firstEnds = new Map(keysOf(it).map((key) => {
+    const first = Math.min(...ofKey(it, key).filter((call) => call.operation !== "contains").map((call) => call.ended ?? LAST));
+    return [key, Math.max(0, ...ofKey(it, key).filter((call) => call.begun <= first && call.ended !== null).map(({ ended }) => ended))];
+  }));
+  const isMet = { own: isSame, others: isBeside, first: (_, call) => call.begun <= (firstEnds.get(call.key) ?? call.begun) }[what];
+  // The percentage of the changes or, of many calls, of a sample of the changes.
+  const sample = [];
+  let next = 0;
+  for (const [at, call] of calls.entries()) {
+    if (at < next || !changes.includes(call)) continue;
+    sample.push(call);
+    next = at + Math.floor(calls.length / 400);
+  }
+  const isUsual = Math.floor((100 * sample.filter((call) => isMet(it, call)).length) / sample.length) === Number(usual) && isSampled === sample.length < changes.length;
+  // How often a change can be counted: once for each later call, or final state, that needs the opposite state, and once if it was reported twice.
+  const refused = new Set(keysOf(it).filter((key) => !hasOrderOf(it, key)));
+  const times = (call) => ofKey(it, call.key).filter((one) => one.ended !== null && one.begun > call.begun && needsKey(one) !== leaves(call)).length
+    + Number(it.keys !== null && leftOf(it, call.key) !== leaves(call)) + Number(isTwice(it, call, call.operation));
+  const count = (which) => changes.filter((call) => refused.has(call.key) && which(call)).reduce((sum, call) => sum + times(call), 0);
+  const isOfFirst = what === "first"; // (a contradiction can begin before the change that it undoes)
+  const areThere = Number(some) <= count((call) => isOfFirst || isMet(it, call)) && Number(all) - Number(some) <= count((call) => !isMet(it, call));
+  // All contradictions of these kinds are counted, but at most 400, and fewer only if an opening key was lost or came back.
+  const both = tally["two adds true"] + tally["two removes true"];
+  const [most, places] = [both + tally.lost + tally["came back"], Object.values(tally).reduce((sum, one) => sum + one, 0)];
+  const isCounted = isChecked ? places > 400 && Number(all) <= 400 : places <= 400 && Number(all) <= most && Number(all) >= both;
+  return Number(some) <= Number(all) && areThere && isUsual && isCounted;
 }
+
+// The pattern of a sentence about changes that were undone or reported twice, and its property.
+const UNDONE = "(\\d+) of (?:the )?(\\d+) (checked )?times that a change was undone or reported twice, (another add or remove of the key overlapped the change|a change of another key overlapped the change|the first calls of the key were still running) \\(of (all|sampled) changes: (\\d+)%\\)$";
+const ofUndone = (it, [some, all, checked, what, of, usual], why) =>
+  isOfUndone(it, why, what.startsWith("the first") ? "first" : what.startsWith("another") ? "own" : "others", [some, all, usual], checked !== undefined, of === "sampled");
 
 const OF_WHY = [
   [/^headline (?:key (\d+) (was lost|came back): )?(add|remove|contains)\((\d+)\) returned (true|false)(?:, expected (true|false))?$/, (it, found, why) => isHeadline(it, why, found)],
+  [/^headline (add|remove|contains)\((\d+)\) returned (true|false), which other calls of key (\d+) contradict$/, (it, [operation, ofCall, reply, key]) =>
+    key === ofCall && !hasOrderOf(it, Number(key)) && ofKey(it, Number(key)).some((call) => call.operation === operation && call.reply === reply)],
   [/^headline (?:key (\d+) (was lost|came back): )?key (\d+) is (present|absent) at the end$/, (it, [key, gone, ofEnd, state]) =>
     it.keys !== null && leftOf(it, Number(ofEnd)) === (state === "present") && !hasOrderOf(it, Number(ofEnd)) && (gone === undefined || (key === ofEnd && isGone(it, Number(key), gone === "was lost", null)))],
   [/^headline the calls of key (\d+) have no order$/, (it, [key], why) => why.shown.length > 0 && !hasOrder(ofKey(it, Number(key)), Number(key), opens(it, Number(key)))],
@@ -652,7 +681,7 @@ const OF_WHY = [
       why.told = wrongAnswers(it, "contains", aside !== undefined);
       return why.told !== null && isTold(it, why.told, ["contains", atLeast, count, of, found, missed]);
     }],
-  [/^fact (?:before moment (\d+) the calls had an order; from then on )?at least (\d+) contradictions?: (\d+ (?:where|with|of other) .*)$/, (it, [moment, count, kinds], why) => {
+  [/^fact (?:before moment (\d+) the calls had an order; from then on )?at least (\d+) contradictions?: (\d+ (?:where|with) .*)$/, (it, [moment, count, kinds], why) => {
     const isBefore = moment === undefined || keysOf(it).every((key) => hasOrder(knownBy(ofKey(it, key), Number(moment) - 1), key, opens(it, key)));
     why.tally = Object.fromEntries(TALLIED.map((kind) => [kind, 0]));
     const told = kinds.split(" + ").map((one) => /^(\d+) ([^(]*[^( ])(?: \((.*)\))?$/.exec(one));
@@ -660,13 +689,16 @@ const OF_WHY = [
     const areAnswers = told.every(([, many, kind, answers]) => (KINDS[kind] === "one wrong answer" ? areWrongAnswers(it, Number(many), answers) : answers === undefined));
     return Object.keys(why.tally).length === TALLIED.length && Object.values(why.tally).reduce((sum, many) => sum + many, 0) === Number(count) && areAnswers && isBefore;
   }],
-  [/^fact (\d+) of (\d+) keys are affected; with no opposite change in between, the next call found the key absent after (\d+) of (\d+) successful adds, and present after (\d+) of (\d+) successful removes$/, (it, [hit, all, ...counts]) => {
+  [/^fact (\d+) of (\d+) keys are affected(?:; the next call often does not see an add: after (\d+) of (\d+) successful adds it found the key absent, with no remove in between)?(?:; the next call often does not see a remove: after (\d+) of (\d+) successful removes it found the key present, with no add in between)?$/, (it, [hit, all, ...counts]) => {
     const refused = keysOf(it).filter((key) => !hasOrderOf(it, key));
     const seen = ["add", "remove"].map((operation) => refused.flatMap((key) => nextCallsSee(ofKey(it, key), operation)));
     const isOfKeys = Number(hit) === refused.length && Number(all) === new Set([...keysOf(it), ...it.padding.map(({ key }) => key)]).size;
-    return isOfKeys && `${counts.map(Number)}` === `${seen.flatMap((some) => [some.filter((isSeen) => !isSeen).length, some.length])}`;
+    return isOfKeys && seen.every((some, at) => {
+      const [unseen, isTold] = [some.filter((isSeen) => !isSeen).length, counts[2 * at] !== undefined];
+      return isTold === (unseen >= 3 && unseen * 10 >= some.length) && (!isTold || `${counts.slice(2 * at, 2 * at + 2).map(Number)}` === `${[unseen, some.length]}`);
+    });
   }],
-  [/^because (\d+) of the (\d+) times that a key was lost or came back, this happened to another key, too, meanwhile \(expected by chance: (\d+)%\)$/, (it, [some, all, usual]) =>
+  [/^because at least (\d+) of the (\d+) times that a key was lost or came back, this happened to another key, too, meanwhile \(expected by chance: (\d+)%\)$/, (it, [some, all, usual]) =>
     Number(some) <= Number(all) && keysOf(it).filter((key) => !hasOrderOf(it, key)).length >= 2 && Number(some) * 100 >= Number(all) * (Number(usual) + 25)],
   [/^fact (?:before moment \d+ the calls had an order; from then on )?(at least )?(\d+) contradictions?: (.*)$/, (it, [atLeast, count, listed], why) => {
     const told = listed.split("; ");
@@ -707,9 +739,10 @@ const OF_WHY = [
   }],
   [/^fact with no change in between, the next (add|remove|contains) of the key was right$/, (it, [operation], { told }) =>
     told.wrong.some((answer) => nextCall(it, answer, operation) !== undefined && !told.wrong.includes(nextCall(it, answer, operation)))],
-  [/^fact with no change in between, the next (add|remove|contains) of the key was right (\d+) of (\d+) times$/, (it, [operation, right, all], { told }) => {
+  [/^fact the error (passes|lasts): with no change in between, the next (add|remove|contains) of the key was (right|wrong) (\d+) of (\d+) times$/, (it, [what, operation, reply, some, all], { told }) => {
     const next = told.wrong.map((answer) => [answer, nextCall(it, answer, operation)]).filter(([, one]) => one !== undefined).map(([, one]) => told.wrong.includes(one));
-    return told.isAll && next.filter((isWrong) => !isWrong).length === Number(right) && next.length === Number(all);
+    const isSo = (what === "passes") === (reply === "right") && Number(some) * 10 >= Number(all) * (what === "passes" ? 9 : 5);
+    return isSo && told.isAll && next.filter((isWrong) => isWrong === (reply === "wrong")).length === Number(some) && next.length === Number(all);
   }],
   [/^fact \(the picture shows a later contradiction of key (\d+) that is easier to see; the first ends at moment (\d+)\)$/, (it, [key, moment], why) => {
     const isFirst = (until) => !keysOf(it).every((one) => hasOrder(knownBy(ofKey(it, one), until), one, opens(it, one)));
@@ -734,7 +767,7 @@ const OF_WHY = [
     const isOutlasted = (answer) => [...it.calls, ...it.padding].some((call) => call.begun < answer.begun && (call.ended ?? LAST) > answer.ended);
     return told.wrong.length === Number(all) && told.wrong.filter(isOutlasted).length === Number(some) && Number(usual) <= 25;
   }],
-  [/^because no two calls overlapped during (\d+) of (\d+) wrong answers, nor since the calls that these contradict$/, (it, [some, all], { told }) =>
+  [/^because no two calls overlapped during (\d+) of (\d+) (?:checked )?wrong answers, nor since the calls that these contradict$/, (it, [some, all], { told }) =>
     Number(all) <= told.wrong.length && told.wrong.filter((answer) => isAlone(it, answer)).length >= Number(some)],
   [/^because (\d+) of (\d+) contradictions are two (add|remove)s that both returned true, \d+ are two (?:add|remove)s$/, (it, [some, all, operation]) => Number(some) <= Number(all) &&
     it.calls.some((one) => one.operation === operation && one.reply === "true" && it.calls.some((two) => two !== one && two.key === one.key && two.operation === operation && two.reply === "true"))],
@@ -765,7 +798,7 @@ const OF_WHY = [
     const isActive = (call) => it.calls.some((one) => one !== call && one.operation !== "contains" && (one.key === call.key || one.reply === "true") && inTime(one, call.begun, call.ended));
     return told.wrong.length === Number(all) && told.wrong.filter(isActive).length === Number(some);
   }],
-  [/^because at (\d+) of (\d+) wrong answers the last call of every larger key had left that key absent$/, (it, [some, all], { told }) => told.wrong.length >= Number(all) && Number(some) <= Number(all)],
+  [/^because at (\d+) of (\d+) (?:checked )?wrong answers the last call of every larger key had left that key absent$/, (it, [some, all], { told }) => told.wrong.length >= Number(all) && Number(some) <= Number(all)],
   [/^because a successful (add) of another key ran during (\d+) of the (\d+) wrong answers$/, (it, [operation, some, all], { told }) =>
     told !== null && told.wrong.length === Number(all) && told.wrong.filter((call) => it.calls.some((one) => one.key !== call.key && one.operation === operation && one.reply === "true" && inTime(one, call.begun, call.ended))).length === Number(some)],
   [/^because as calls of one key the calls of keys (\d+) and (\d+) have an order$/, (it, [one, two]) => {
@@ -782,18 +815,18 @@ const OF_WHY = [
     const isSo = (answer) => lastOwn(answer) !== undefined && lastOwn(answer).ended !== null && leaves(lastOwn(answer)) === needsKey(answer);
     return told !== null && told.wrong.length === Number(all) && told.wrong.filter(isSo).length === Number(some);
   }],
-  [/^because at (\d+) of (\d+) wrong answers the last call of every other key had left that key absent$/, (it, [some, all], { told }) => {
+  [/^because at (\d+) of (\d+) (checked )?wrong answers the last call of every other key had left that key absent$/, (it, [some, all, checked], { told }) => {
     const isAbsent = (key, moment) => {
       const ended = [...it.calls, ...it.padding].filter((call) => call.key === key && call.ended !== null && call.ended < moment).sort((one, other) => one.ended - other.ended);
       return ended.length === 0 ? !opens(it, key) : !leaves(ended.at(-1));
     };
     const isLonely = (answer) => keysOf(it).every((key) => key === answer.key || isAbsent(key, answer.begun));
-    return told !== null && told.wrong.length === Number(all) && told.wrong.filter(isLonely).length === Number(some);
+    return told !== null && (checked === undefined ? told.wrong.length === Number(all) : told.wrong.length > Number(all)) && told.wrong.filter(isLonely).length >= Number(some);
   }],
   ...[/^because before (\d+) of the (\d+) times that a key was lost, a remove was among the overlapping changes of the key$/,
     /^because (\d+) of the (\d+) times that a key was lost or came back, an order would exist if one call had returned the opposite reply$/,
     /^because (\d+) of the (\d+) times that a key was lost or came back, a call that returned false can have made this change$/,
-    /^because no change of another key ran during (\d+) of the (\d+) times that a key was lost or came back \(at other times: \d{1,2}0?%\)$/,
+    /^because no change of another key ran during (\d+) of the (\d+) times that a key was lost or came back \(in later periods of this length: \d{1,2}0?%\)$/,
     /^because a smaller key was removed during (\d+) of the (\d+) times that a key was lost or came back, (?:and the smallest key is never affected|any other key during \d+)$/].map((pattern) =>
     [pattern, (it, [some, all], { tally }) => Number(some) <= Number(all) && Number(all) <= tally.lost + tally["came back"]]),
   [/^because keys are lost \((\d+)\)( and never come back)?, and at (\d+)(?: of (\d+))? losses (?:during one|that a call shows)/, (it, [lost, never, some, all], { tally }) =>
@@ -818,18 +851,18 @@ const OF_WHY = [
     return Number(some) <= soon && Number(some) <= Number(all) && Number(all) <= tally.lost && Number(usual) === soon && Number(adds) === added.length;
   }],
   [/^because (\d+) of (\d+) wrong answers, of more than one operation, overlapped a change of another key$/, (it, [some, all], { tally }) => Number(some) <= Number(all) && Number(all) <= tally["one wrong answer"]],
-  [/^because another key was lost at (\d+) of the (\d+) removes after which their key came back$/, (it, [some, all], { tally }) => Number(some) <= Number(all) && Number(all) <= tally["came back"]],
+  [/^because another key was lost at (\d+) or more of the (\d+) removes after which their key came back$/, (it, [some, all], { tally }) => Number(some) <= Number(all) && Number(all) <= tally["came back"]],
   [/^because (\d+) keys are affected, each once$/, (it, [count]) => keysOf(it).filter((key) => !hasOrderOf(it, key)).length === Number(count)],
   [/^because keys are lost \((\d+)\) and added twice \((\d+)\), none comes back, and none is removed twice$/, (it, [lost, twice], { tally }) =>
     Number(lost) === tally.lost && Number(twice) === tally["two adds true"] && tally["two removes true"] === 0 && tally["came back"] === 0],
-  [/^because a successful (add|remove) of another key ran during the add of (\d+) of the (\d+) lost keys, but only during (\d+)% of successful adds$/, (it, [operation, some, all, usual], { tally }) => {
+  [/^because a successful (add|remove) of another key ran during the add of (\d+) of the (\d+) lost keys, but only during (\d+)% of (?:sampled )?successful adds$/, (it, [operation, some, all, usual], { tally }) => {
     const adds = it.calls.filter((call) => call.operation === "add" && call.reply === "true" && !hasOrderOf(it, call.key));
     const isMet = (add) => it.calls.some((one) => one.key !== add.key && one.operation === operation && one.reply === "true" && inTime(one, add.begun, add.ended));
     return adds.filter(isMet).length >= Number(some) && Number(some) <= Number(all) && Number(all) <= tally.lost && Number(usual) <= 100;
   }],
-  [/^because (\d+) of (\d+) contradictions that one other reply repairs share time with one of another key$/, (it, [some, all]) =>
+  [/^because at least (\d+) of (\d+) contradictions that one other reply repairs share time with one of another key$/, (it, [some, all]) =>
     Number(some) <= Number(all) && (Number(some) === 0 || keysOf(it).filter((key) => !hasOrderOf(it, key)).length >= 2)],
-  [/^because during (\d+) of (\d+) changes that were undone another key came back or was lost$/, (it, [some, all], { tally }) => Number(some) <= Number(all) && Number(all) <= tally.lost + tally["came back"]],
+  [/^because during at least (\d+) of (\d+) changes that were undone another key came back or was lost$/, (it, [some, all], { tally }) => Number(some) <= Number(all) && Number(all) <= tally.lost + tally["came back"]],
   [/^because (\d+) of (\d+) undone changes of key (\d+) overlapped changes of key (\d+), and fewer overlapped those of any third key$/, (it, [some, all, one, two], { tally }) =>
     Number(some) <= Number(all) && Number(all) <= tally.lost + tally["came back"] && one !== two && !hasOrderOf(it, Number(one))],
   [/^(?:because|fact) the last change of the key was by another thread before (\d+) of (\d+) checked wrong answers \(before sampled answers: (\d+)%\); before (\d+) of these, the thread of the answer had changed a key since$/, (it, [some, all, usual, since], { told }) => {
@@ -847,10 +880,8 @@ const OF_WHY = [
     return wrong.length >= Number(all) && wrong.filter(isMet).length >= Number(some) && Number(some) <= Number(all) && Number(usual) <= 100;
   }],
   [/^because they disagree as long as nothing changes the key$/, () => true],
-  [/^fact (\d+) of the (\d+) times that a change was undone or reported twice, another add or remove of the key overlapped the change \(of all changes: (\d+)%\); (\d+) times, a change of another key \((\d+)%\); (\d+) times, the first calls of the key were still running \((\d+)%\)$/, (it, [own, all, usual, others, beside, first, early]) =>
-    isOfUndone(it, "own", own, all, usual) && isOfUndone(it, "others", others, all, beside) && isOfUndone(it, "first", first, all, early)],
-  [/^because (\d+) of the (\d+) times that a change was undone or reported twice, (another add or remove of the key overlapped the change|a change of another key overlapped the change|the first calls of the key were still running) \(of all changes: (\d+)%\)$/, (it, [some, all, what, usual]) =>
-    isOfUndone(it, what.startsWith("the first") ? "first" : what.startsWith("another") ? "own" : "others", some, all, usual)],
+  [new RegExp(`^fact (?:calls of one key|changes of different keys|the first calls of a key) seem to disturb each other: ${UNDONE}`), (it, found, why) => ofUndone(it, found, why) && why.because.length === 0 && Number(found[0]) * 2 >= Number(found[1])],
+  [new RegExp(`^because ${UNDONE}`), ofUndone],
   [/^because after (\d+) of (\d+) successful adds the next call found the key absent$/, (it, [lost, adds]) => {
     const seen = keysOf(it).filter((key) => !hasOrderOf(it, key)).flatMap((key) => nextCallsSee(ofKey(it, key), "add"));
     return lost === adds && seen.length === Number(adds) && seen.every((isSeen) => !isSeen);
@@ -859,7 +890,7 @@ const OF_WHY = [
     const isBefore = keysOf(it).every((key) => hasOrder(knownBy(ofKey(it, key), Number(moment) - 1), key, opens(it, key)));
     return isBefore && keysOf(it).filter((key) => !hasOrderOf(it, key)).length === Number(hit) && Number(all) === new Set([...keysOf(it), ...it.padding.map(({ key }) => key)]).size;
   }],
-  [/^because a successful remove of another key ran during (?:the remove|(\d+) of (\d+) removes) that add did not see, and nearly all later adds failed, too$/, (it, [some = 1, all = 1], { told }) => {
+  [/^because a successful remove of another key ran during (?:the remove|(\d+) of (\d+) (?:checked )?removes) that add did not see, and nearly all later adds failed, too$/, (it, [some = 1, all = 1], { told }) => {
     const lastRemove = (answer) => ofKey(it, answer.key).filter((call) => call.operation === "remove" && call.reply === "true" && call.begun <= answer.begun).sort((one, other) => one.begun - other.begun).at(-1);
     const removes = [...new Set(told.wrong.map(lastRemove))].filter((call) => call !== undefined && told.wrong.some((answer) => call.ended < answer.begun && lastRemove(answer) === call));
     const isWith = (call) => it.calls.some((one) => one.key !== call.key && one.operation === "remove" && one.reply === "true" && inTime(one, call.begun, call.ended));

@@ -52,10 +52,6 @@ pub struct Evidence {
     pub span: u32,
 }
 
-/// If at least this many contradictions were found, the keys that were not searched yet are left out. The limit keeps
-/// the memory for contradictions small.
-const MOST_PLACES: usize = 20_000;
-
 /// The results of the search for contradictions in a recording that is not linearizable.
 #[derive(Drop)]
 pub struct Found {
@@ -231,7 +227,7 @@ fn places_of_all(
     };
     found.tally.keys = u64::try_from(refused.len()).unwrap_or(u64::MAX);
     for one in refused {
-        if found.places.len() >= MOST_PLACES {
+        if !found.tally.has_all_keys() {
             break;
         }
         let key = runs.calls_of(one.key)?;

@@ -84,6 +84,8 @@ pub struct Odd {
     /// whatever its reply, or an `add` or `remove` of another key that returned true. For comparison with `active`. 0
     /// if there are no right answers.
     pub usually_active: u64,
+    /// Whether the sample of right answers, for the percentages, leaves out some right answers.
+    pub has_more_answers: bool,
     /// The number of wrong answers after which the next completed call of the operation on the key was right, although
     /// no other change of the key can have come between.
     pub then_right: u64,
@@ -363,6 +365,7 @@ fn odd_of(found: &OddFound) -> Odd {
         usual: 0,
         usually_same: 0,
         usually_active: 0,
+        has_more_answers: false,
         then_right: 0,
         then_wrong: 0,
         placed: 0,
@@ -639,8 +642,10 @@ fn count_usual(
     let (mut tried, mut next) = (0u64, 0usize);
     let step = calls.len().checked_div(SAMPLED).unwrap_or(0);
     for (index, call) in calls.iter().enumerate() {
-        let is_sampled = index >= next && is_answer(*call, odd.operation);
-        if is_sampled && wrong.binary_search(&call.begun).is_err() {
+        let is_other = is_answer(*call, odd.operation) && wrong.binary_search(&call.begun).is_err();
+        if is_other && index < next {
+            odd.has_more_answers = true;
+        } else if is_other {
             next = index.saturating_add(step);
             let is_beside = neighbours.overlap(call.key, call.begun, call.ended, None);
             let is_same = runs_beside(runs.made_of(call.key), *call);

@@ -173,6 +173,8 @@ pub struct Tally {
     /// How many contradictions in `missed` have a wrong reply of a call that overlaps an `add` or `remove` of another
     /// key that returned true.
     pub missed_beside: u64,
+    /// Whether the samples of calls, for the percentages, leave out some calls.
+    pub has_more_calls: bool,
     /// Contradictions among calls that do not overlap: no call, on any key, that began during the contradiction began
     /// while another call was running.
     pub apart: u64,
@@ -201,11 +203,20 @@ fn is_soon(change: Made, before: Option<Made>) -> bool {
     before.is_some_and(|before| change.begun <= before.ended.saturating_add(SOON))
 }
 
+/// If at least this many contradictions were found, the keys that were not searched yet are left out. The limit keeps
+/// the memory for contradictions small.
+pub(crate) const MOST_PLACES: u64 = 20_000;
+
 impl Tally {
     /// Returns the number of losses and returns of keys, including those that only the final keys show. Does not
     /// allocate.
     pub fn gone(&self) -> u64 {
         self.lost.saturating_add(self.came_back)
+    }
+
+    /// Returns whether the contradictions of all keys were counted. Does not allocate.
+    pub fn has_all_keys(&self) -> bool {
+        self.places < MOST_PLACES
     }
 
     /// Returns the number of losses and returns of keys that a later call shows. Leaves out those that only the final
@@ -508,6 +519,7 @@ impl Tally {
     ) -> Result<(), AllocError> {
         let crossings = Crossings::of(alloc, calls)?;
         self.add_swapped(places, losses);
+        self.has_more_calls = calls.len() > MOST_COMPARED;
         self.add_usual(calls, neighbours);
         self.usually_refused_beside = usual_of_writers(calls, neighbours);
         for place in places {

@@ -2,11 +2,12 @@
 
 use crate::likely_odd::is_outlasted_each;
 use crate::likely_races::is_rarely_together;
+use crate::met::Met;
 use crate::patterns::Pattern;
 use crate::rates::put_ran;
 use std::alloc::{AllocError, Global};
 use tool_calls::{Made, NEVER};
-use tool_facts::{Cause, Evidence, Further, Growth, Meets, Odd, Share, Tally};
+use tool_facts::{Cause, Evidence, Further, Growth, Odd, Tally};
 
 /// Writes the fact that supports `cause`, if `contains` finds absent keys, or both finds absent keys and misses present
 /// keys.
@@ -58,10 +59,16 @@ fn put_because_of_found(out: &mut String, odd: &Odd, cause: Cause) -> Result<(),
     }
 }
 
+/// Returns `checked ` if only some of the wrong answers were checked. The word precedes `wrong answers` in a sentence.
+fn checked_word(some: u64, all: u64) -> &'static str {
+    if some < all { "checked " } else { "" }
+}
+
 /// Writes the fact that supports `cause`, if `contains` misses present keys.
 fn put_because_of_missed(out: &mut String, odd: &Odd, cause: Cause) -> Result<(), AllocError> {
     let missed = odd.missed;
     let (compared, lonely) = (odd.compared, odd.lonely);
+    let checked = checked_word(compared, odd.wrong);
     match cause {
         Cause::NotSeenYet if missed == 1 => writeln!(
             out,
@@ -73,13 +80,13 @@ fn put_because_of_missed(out: &mut String, odd: &Odd, cause: Cause) -> Result<()
         ),
         Cause::SizeFirst => writeln!(
             out,
-            "at {lonely} of {compared} wrong answers the last call of every other key had left that key absent"
+            "at {lonely} of {compared} {checked}wrong answers the last call of every other key had left that key absent"
         ),
         Cause::LastKey => {
             let largest = odd.largest;
             writeln!(
                 out,
-                "at {largest} of {compared} wrong answers the last call of every larger key had left that key absent"
+                "at {largest} of {compared} {checked}wrong answers the last call of every larger key had left that key absent"
             )
         }
         Cause::Shortcut if odd.beside < odd.wrong => {
@@ -113,6 +120,7 @@ fn put_given_up(out: &mut String, odd: &Odd) -> Result<(), AllocError> {
 fn put_because_of_odd(out: &mut String, odd: &Odd, cause: Cause) -> Result<(), AllocError> {
     let (missed, wrong, adding) = (odd.missed, odd.wrong, odd.adding);
     let (apart, placed) = (odd.apart, odd.placed);
+    let checked = checked_word(placed, wrong);
     let (count, keys) = (odd.keys, if odd.keys == 1 { "key" } else { "keys" });
     match cause {
         Cause::MarkNotRead
@@ -150,7 +158,7 @@ fn put_because_of_odd(out: &mut String, odd: &Odd, cause: Cause) -> Result<(), A
         Cause::RemoveGivesUp => put_given_up(out, odd),
         Cause::EndsEarly => writeln!(
             out,
-            "no two calls overlapped during {apart} of {placed} wrong answers, nor since the calls that these contradict"
+            "no two calls overlapped during {apart} of {placed} {checked}wrong answers, nor since the calls that these contradict"
         ),
         _ => writeln!(out, "without these answers all other calls have an order"),
     }
@@ -206,8 +214,13 @@ fn put_because_of_calls(out: &mut String, tally: &Tally, cause: Cause) -> Result
 }
 
 /// Writes the fact that supports the cause `UnlinkLost`: other removes ran during the removes that `add` did not see.
-fn put_because_of_unlinks(out: &mut String, further: &Further) -> Result<(), AllocError> {
+fn put_because_of_unlinks(
+    out: &mut String,
+    odd: &Odd,
+    further: &Further,
+) -> Result<(), AllocError> {
     let (removes, beside) = (further.unseen.of, further.unseen.count);
+    let checked = checked_word(odd.placed, odd.wrong);
     if removes == 1 && beside == 1 {
         return out.push_str(
             "a successful remove of another key ran during the remove that add did not see, and nearly all later adds failed, too\n",
@@ -215,27 +228,7 @@ fn put_because_of_unlinks(out: &mut String, further: &Further) -> Result<(), All
     }
     writeln!(
         out,
-        "a successful remove of another key ran during {beside} of {removes} removes that add did not see, and nearly all later adds failed, too"
-    )
-}
-
-/// Writes the fact that supports `cause`, if calls at the same time undo each other.
-fn put_because_of_meets(out: &mut String, meets: &Meets, cause: Cause) -> Result<(), AllocError> {
-    let (what, share) = match cause {
-        Cause::SameKey => (
-            "another add or remove of the key overlapped the change",
-            meets.own,
-        ),
-        Cause::OtherKeys => (
-            "a change of another key overlapped the change",
-            meets.others,
-        ),
-        _ => ("the first calls of the key were still running", meets.first),
-    };
-    let Share { count, of, usual } = share;
-    writeln!(
-        out,
-        "{count} of the {of} times that a change was undone or reported twice, {what} (of all changes: {usual}%)"
+        "a successful remove of another key ran during {beside} of {removes} {checked}removes that add did not see, and nearly all later adds failed, too"
     )
 }
 
@@ -279,6 +272,11 @@ fn put_because_of_lost(out: &mut String, tally: &Tally, cause: Cause) -> Result<
     }
 }
 
+/// Returns `sampled ` if the percentages of all adds, or of all adds and removes, are of samples that leave some out.
+fn sampled_word(tally: &Tally) -> &'static str {
+    if tally.has_more_calls { "sampled " } else { "" }
+}
+
 /// Writes the fact that supports `cause`, if keys are lost after a successful add.
 fn put_because_of_adds(out: &mut String, tally: &Tally, cause: Cause) -> Result<(), AllocError> {
     let (lost, placed, both) = (tally.lost, tally.placed, tally.both_adds);
@@ -286,6 +284,7 @@ fn put_because_of_adds(out: &mut String, tally: &Tally, cause: Cause) -> Result<
         Cause::SharedPlace => (tally.with_add, tally.usually_with_add, "add"),
         _ => (tally.with_remove, tally.usually_with_remove, "remove"),
     };
+    let sampled = sampled_word(tally);
     match cause {
         Cause::AddLost => writeln!(
             out,
@@ -293,7 +292,7 @@ fn put_because_of_adds(out: &mut String, tally: &Tally, cause: Cause) -> Result<
         ),
         _ => writeln!(
             out,
-            "a successful {word} of another key ran during the add of {count} of the {placed} lost keys, but only during {usual}% of successful adds"
+            "a successful {word} of another key ran during the add of {count} of the {placed} lost keys, but only during {usual}% of {sampled}successful adds"
         ),
     }
 }
@@ -329,11 +328,11 @@ fn put_because_of_mixed(out: &mut String, tally: &Tally, cause: Cause) -> Result
         }
         Cause::OtherReply | Cause::MixedCalls => writeln!(
             out,
-            "{crossed} of {replies} contradictions that one other reply repairs share time with one of another key"
+            "at least {crossed} of {replies} contradictions that one other reply repairs share time with one of another key"
         ),
         _ => writeln!(
             out,
-            "during {some} of {all} changes that were undone another key came back or was lost"
+            "during at least {some} of {all} changes that were undone another key came back or was lost"
         ),
     }
 }
@@ -346,6 +345,7 @@ fn put_because_of_refusals(
 ) -> Result<(), AllocError> {
     let (adds, removes) = (tally.refused_adds, tally.refused_removes);
     let (beside, usual) = (tally.refused_beside, tally.usually_refused_beside);
+    let sampled = sampled_word(tally);
     write!(
         out,
         "{adds} adds of an absent key and {removes} removes of a present key returned false and changed nothing"
@@ -353,7 +353,7 @@ fn put_because_of_refusals(
     match cause {
         Cause::GivesUpBeside => writeln!(
             out,
-            "; a change of another key ran during {beside} of them, but only during {usual}% of adds and removes"
+            "; a change of another key ran during {beside} of them, but only during {usual}% of {sampled}adds and removes"
         ),
         _ => out.push_str("\n"),
     }
@@ -426,7 +426,7 @@ fn put_because_of_gone(
     match cause {
         Cause::ReplacedAtOnce | Cause::OldCopyAtOnce => writeln!(
             out,
-            "{together} of the {timed} times that a key was lost or came back, this happened to another key, too, meanwhile (expected by chance: {usually}%)"
+            "at least {together} of the {timed} times that a key was lost or came back, this happened to another key, too, meanwhile (expected by chance: {usually}%)"
         ),
         Cause::CarriedOutTwice => writeln!(
             out,
@@ -434,7 +434,7 @@ fn put_because_of_gone(
         ),
         Cause::NoLock => writeln!(
             out,
-            "no change of another key ran during {alone} of the {timed} times that a key was lost or came back (at other times: {quiet}%)"
+            "no change of another key ran during {alone} of the {timed} times that a key was lost or came back (in later periods of this length: {quiet}%)"
         ),
         Cause::OldCopy => writeln!(
             out,
@@ -442,7 +442,7 @@ fn put_because_of_gone(
         ),
         Cause::OldLink => writeln!(
             out,
-            "keys are lost ({lost}) more than they come back ({back}), and a change of another key ran during {beside} of {timed} such contradictions (at other times: {usual}%)"
+            "keys are lost ({lost}) more than they come back ({back}), and a change of another key ran during {beside} of {timed} such contradictions (in later periods of this length: {usual}%)"
         ),
         Cause::Unlinked if evidence.is_first_spared => writeln!(
             out,
@@ -454,7 +454,7 @@ fn put_because_of_gone(
         ),
         Cause::OtherKey => writeln!(
             out,
-            "another key was lost at {swapped} of the {undone} removes after which their key came back"
+            "another key was lost at {swapped} or more of the {undone} removes after which their key came back"
         ),
         _ => writeln!(out, "{keys} keys are affected, each once"),
     }
@@ -529,7 +529,7 @@ fn put_because(
     }
     if let Some(odd) = &evidence.odd {
         if matches!(cause, Cause::UnlinkLost) {
-            return put_because_of_unlinks(out, further);
+            return put_because_of_unlinks(out, odd, further);
         }
         if matches!(cause, Cause::AddGivesUp) && is_outlasted_each(odd, further) {
             return put_because_of_outlasted(out, odd, further);
@@ -540,9 +540,9 @@ fn put_because(
         return put_because_of_swap(out, one, two);
     }
     match cause {
-        Cause::FirstUse | Cause::FirstCalls | Cause::SameKey | Cause::OtherKeys => {
-            put_because_of_meets(out, &evidence.meets, cause)
-        }
+        Cause::FirstUse | Cause::FirstCalls => Met::FirstCalls.put(out, &evidence.meets),
+        Cause::SameKey => Met::OwnKey.put(out, &evidence.meets),
+        Cause::OtherKeys => Met::OtherKeys.put(out, &evidence.meets),
         Cause::GoesOn
         | Cause::AddUndone
         | Cause::EarlierLook

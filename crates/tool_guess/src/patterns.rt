@@ -16,7 +16,7 @@ const LEAST: u64 = 3;
 
 /// Returns whether at least half of the cases have the property, and the probability of this by chance is small: less
 /// than one in a thousand if all cases have the property, otherwise less than one in a hundred (Hoeffding's bound).
-fn is_clear(share: Share) -> bool {
+pub(crate) fn is_clear(share: Share) -> bool {
     let percent = share
         .count
         .saturating_mul(100)

@@ -172,9 +172,15 @@ fn is_after_gap(bars: &[Bar], call: Made) -> bool {
 /// `many`.
 fn put_rule(out: &mut String, shown: usize, all: usize) -> Result<(), AllocError> {
     if all >= MOST_AROUND {
-        writeln!(out, "---------- also running: many calls, {shown} shown")
+        writeln!(
+            out,
+            "---------- also running: {shown} of many changes of other keys"
+        )
     } else if shown < all {
-        writeln!(out, "---------- also running: {all} calls, {shown} shown")
+        writeln!(
+            out,
+            "---------- also running: {shown} of {all} changes of other keys"
+        )
     } else {
         out.push_str("---------- also running\n")
     }

@@ -337,15 +337,15 @@ impl Diagnosis {
         let (since, until) = time_of(place, neighbours, self.cause);
         let (key, cause, clash) = (place.key, self.cause, place.clash);
         let changes = neighbours.around(alloc, key, since, until, MOST_AROUND)?;
-        let is_cut = changes.len() >= MOST_AROUND;
+        let has_all = changes.len() < MOST_AROUND;
         self.beside = match cause {
             Some(Cause::Displaced | Cause::Batch | Cause::Evicted) => changes,
             _ => at_calls(alloc, changes, &place.clash)?,
         };
-        self.beside_count = if is_cut {
-            MOST_AROUND
-        } else {
+        self.beside_count = if has_all {
             self.beside.len()
+        } else {
+            MOST_AROUND
         };
         let guilty = self.guilty_beside(place);
         self.guilty = guilty;

@@ -4,7 +4,7 @@ use lset_words::Presence;
 use std::alloc::AllocError;
 use tool_calls::{Made, NEVER, Operation, Place, Split, Symptom, other, state_word};
 use tool_facts::{Meets, Odd, Tally};
-use tool_guess::{put_ran, put_rate};
+use tool_guess::{Met, is_no_chance, put_ran, put_rate};
 use tool_picture::Diagnosis;
 
 /// Writes a line such as `contains(3) returned true, expected false`.
@@ -17,6 +17,15 @@ fn put_returned(out: &mut String, call: Made, expected: bool) -> Result<(), Allo
         write!(out, ", expected {other}")?;
     }
     out.push_str("\n")
+}
+
+/// Writes the headline for a call that contradicts other calls, if it is not known that its reply is the wrong one.
+fn put_contradicted(out: &mut String, call: Made) -> Result<(), AllocError> {
+    let (word, key, yes) = (call.operation.word(), call.key, call.reply == Some(true));
+    writeln!(
+        out,
+        "{word}({key}) returned {yes}, which other calls of key {key} contradict"
+    )
 }
 
 /// Writes the headline for a key that was lost or returned.
@@ -86,7 +95,10 @@ pub(crate) fn put_headline(out: &mut String, diagnosis: &Diagnosis) -> Result<()
             )
         }
         Symptom::Lost | Symptom::CameBack => put_gone(out, diagnosis),
-        _ => put_contradiction(out, diagnosis),
+        _ => match (diagnosis.wrong, diagnosis.second) {
+            (None, Some(call)) => put_contradicted(out, call),
+            _ => put_contradiction(out, diagnosis),
+        },
     }
 }
 
@@ -171,8 +183,10 @@ fn put_kinds(out: &mut String, tally: &Tally) -> Result<(), AllocError> {
     let others = tally.others;
     match others {
         0 => Ok(()),
-        _ if others == tally.places => write!(out, ": {others} of other kinds"),
-        _ => write!(out, " + {others} of other kinds"),
+        _ if others == tally.places => {
+            write!(out, ": {others} where it is unclear which call is wrong")
+        }
+        _ => write!(out, " + {others} where it is unclear which call is wrong"),
     }
 }
 
@@ -265,12 +279,35 @@ fn put_tally(out: &mut String, diagnosis: &Diagnosis) -> Result<(), AllocError> 
     }
     put_kinds(out, tally)?;
     let (keys, all) = (tally.keys, evidence.keys);
+    write!(out, "\n{keys} of {all} keys are affected")?;
+    put_unseen_changes(out, tally)?;
+    out.push_str("\n")
+}
+
+/// Returns whether the next call on the key often does not see a change: at least three changes, and at least one in
+/// ten. (After rarer cases, the change itself can have had an effect that was undone later.)
+fn is_often_unseen(unseen: u64, changes: u64) -> bool {
+    unseen >= 3 && unseen.saturating_mul(10) >= changes
+}
+
+/// Writes how often the next call on the key did not see a successful add or remove, although no opposite change ran in
+/// between. Writes nothing if the next call nearly always saw the change, or if not all affected keys were counted.
+fn put_unseen_changes(out: &mut String, tally: &Tally) -> Result<(), AllocError> {
     let (adds, removes) = (tally.followed_adds, tally.followed_removes);
     let (lost, kept) = (tally.unseen_adds, tally.unseen_removes);
-    writeln!(
-        out,
-        "\n{keys} of {all} keys are affected; with no opposite change in between, the next call found the key absent after {lost} of {adds} successful adds, and present after {kept} of {removes} successful removes"
-    )
+    if tally.has_all_keys() && is_often_unseen(lost, adds) {
+        write!(
+            out,
+            "; the next call often does not see an add: after {lost} of {adds} successful adds it found the key absent, with no remove in between"
+        )?;
+    }
+    if tally.has_all_keys() && is_often_unseen(kept, removes) {
+        write!(
+            out,
+            "; the next call often does not see a remove: after {kept} of {removes} successful removes it found the key present, with no add in between"
+        )?;
+    }
+    Ok(())
 }
 
 /// Writes how many calls of each operation found the key of a split present or absent.
@@ -309,18 +346,16 @@ fn put_apart(out: &mut String, tally: &Tally) -> Result<(), AllocError> {
     )
 }
 
-/// Writes which calls ran at the same time as the changes that were undone, or that two calls reported.
+/// Writes what ran during most of the changes that contradictions undo or report twice, if it runs clearly less often
+/// during other changes. Writes nothing otherwise.
 fn put_meets(out: &mut String, meets: &Meets) -> Result<(), AllocError> {
-    let (of, own, others, first) = (meets.own.of, meets.own, meets.others, meets.first);
-    let (met, usual, beside, usually) = (own.count, own.usual, others.count, others.usual);
-    let (early, often) = (first.count, first.usual);
-    if of < 2 {
-        return Ok(());
+    for met in [Met::FirstCalls, Met::OwnKey, Met::OtherKeys] {
+        if met.is_clear(meets) {
+            met.put_conclusion(out)?;
+            return met.put(out, meets);
+        }
     }
-    writeln!(
-        out,
-        "{met} of the {of} times that a change was undone or reported twice, another add or remove of the key overlapped the change (of all changes: {usual}%); {beside} times, a change of another key ({usually}%); {early} times, the first calls of the key were still running ({often}%)"
-    )
+    Ok(())
 }
 
 /// Returns whether a share of wrong answers is clearly larger than the usual percentage.
@@ -359,27 +394,24 @@ fn put_around_one(out: &mut String, diagnosis: &Diagnosis, odd: &Odd) -> Result<
     Ok(())
 }
 
-/// Writes which changes ran during the wrong answers, and how often during other answers: the first kind of change that
-/// ran clearly more often than during other answers or, without such a kind, how often any or none ran.
+/// Writes which kind of change ran clearly more often during the wrong answers than during other answers or, without
+/// such a kind, that no change ran during most wrong answers. Writes nothing if neither is true, or if there are so few
+/// wrong answers that it can be chance.
 fn put_meanwhile(out: &mut String, odd: &Odd) -> Result<(), AllocError> {
     let (same, active, wrong) = (odd.same, odd.active, odd.wrong);
-    let alone = active.saturating_sub(same);
+    let (alone, none) = (active.saturating_sub(same), wrong.saturating_sub(active));
     let (usually_same, usually) = (odd.usually_same, odd.usually_active);
-    if is_more(same, wrong, usually_same) {
-        put_ran(
-            out,
-            odd,
-            "another add or remove of their key",
-            same,
-            usually_same,
-        )?;
-    } else if is_more(alone, wrong, usually.saturating_sub(usually_same)) {
+    let usually_alone = usually.saturating_sub(usually_same);
+    if is_more(same, wrong, usually_same) && is_no_chance(odd, same, usually_same) {
+        let what = "another add or remove of their key";
+        put_ran(out, odd, what, same, usually_same)?;
+    } else if is_more(alone, wrong, usually_alone) && is_no_chance(odd, alone, usually_alone) {
         put_ran(out, odd, "a change of another key", odd.beside, odd.usual)?;
         write!(
             out,
             "; during {alone} of these no other add or remove of their own key ran"
         )?;
-    } else if is_more(active, wrong, usually) || active.saturating_mul(2) > wrong {
+    } else if is_more(active, wrong, usually) && is_no_chance(odd, active, usually) {
         let what = "another add or remove of their key, or a change of another key,";
         put_ran(out, odd, what, active, usually)?;
         let beside = odd.beside;
@@ -387,15 +419,41 @@ fn put_meanwhile(out: &mut String, odd: &Odd) -> Result<(), AllocError> {
             out,
             "; of their own key during {same}, of another key during {beside}"
         )?;
-    } else {
-        let count = wrong.saturating_sub(active);
+    } else if none.saturating_mul(2) > wrong && wrong >= FEW {
         write!(
             out,
-            "during {count} of the {wrong} wrong answers no other add or remove of their key ran, and no change of another key"
+            "during {none} of the {wrong} wrong answers no other add or remove of their key ran, and no change of another key"
         )?;
-        put_rate(out, odd, count, 100u64.saturating_sub(usually))?;
+        put_rate(out, odd, none, 100u64.saturating_sub(usually))?;
+    } else {
+        return Ok(());
     }
     out.push_str("\n")
+}
+
+/// Fewer wrong answers than this are too few for a statement about most of them.
+const FEW: u64 = 3;
+
+/// Writes whether the next calls on the key were right or wrong after the wrong answers, if nearly all were right, or at
+/// least half were wrong. Writes nothing if these are few, or if not all wrong answers are known.
+fn put_next(out: &mut String, odd: &Odd) -> Result<(), AllocError> {
+    let (right, wrong, word) = (odd.then_right, odd.then_wrong, odd.operation.word());
+    let all = right.saturating_add(wrong);
+    if !odd.is_exact || all < FEW {
+        Ok(())
+    } else if right.saturating_mul(10) >= all.saturating_mul(9) {
+        writeln!(
+            out,
+            "the error passes: with no change in between, the next {word} of the key was right {right} of {all} times"
+        )
+    } else if wrong.saturating_mul(2) >= all {
+        writeln!(
+            out,
+            "the error lasts: with no change in between, the next {word} of the key was wrong {wrong} of {all} times"
+        )
+    } else {
+        Ok(())
+    }
 }
 
 /// Writes which calls ran during the wrong answers, and whether the next calls were right.
@@ -405,22 +463,14 @@ fn put_around(out: &mut String, diagnosis: &Diagnosis, odd: &Odd) -> Result<(), 
     }
     put_meanwhile(out, odd)?;
     put_unseen(out, odd)?;
-    let (right, wrong, word) = (odd.then_right, odd.then_wrong, odd.operation.word());
-    let all = right.saturating_add(wrong);
-    if odd.is_exact && all > 0 {
-        writeln!(
-            out,
-            "with no change in between, the next {word} of the key was right {right} of {all} times"
-        )?;
-    }
-    Ok(())
+    put_next(out, odd)
 }
 
-/// Writes which threads made the last completed changes that the wrong answers contradict, and how long before the
-/// answers these changes ended.
+/// Writes which threads made the completed changes that the wrong answers contradict, and how long before the answers
+/// these changes ended. Writes nothing if there are few such changes.
 fn put_unseen(out: &mut String, odd: &Odd) -> Result<(), AllocError> {
     let (own, others, latest) = (odd.by_same, odd.by_others, odd.latest);
-    if own.saturating_add(others) == 0 {
+    if own.saturating_add(others) < FEW {
         return Ok(());
     }
     writeln!(
