@@ -14,9 +14,9 @@ fn answers_cause_text(cause: Cause) -> &'static str {
         Cause::TakenLater =>
             "contains still finds a key after its remove has returned (a queue of removals, a copy or an index that is updated late)",
         Cause::Shortcut =>
-            "contains does not look at the whole set (a size, a filter or summary bit, a cache of absent keys, a remembered node, adds still in a buffer)",
+            "contains does not look at the whole set (a size or filter that is updated late, adds still in a buffer, a remembered node)",
         Cause::MovedOrShortcut =>
-            "contains misses a key that a change of another key moves at that time (rotation, split, displacement, growth, a reused node), or does not look at the whole set (a size, a filter, a summary bit)",
+            "contains misses a key while a change of another key moves it or cuts the way to it (an unlinked node, a rotation or split, a table that grows), or does not look at the whole set",
         Cause::HalfDone =>
             "contains meets a half done add or remove of its key (a node linked too early, cut out or reused too early)",
         Cause::MarkOrCopy =>
@@ -26,12 +26,12 @@ fn answers_cause_text(cause: Cause) -> &'static str {
         Cause::ThreadCache =>
             "contains reads a cache of its thread, which changes by other threads do not update",
         Cause::MovedKeys =>
-            "contains misses a key that a change of another key moves at that time (rotation, split, displacement, growth, a reused node), and does not look again",
+            "contains misses a key while a change of another key moves it or cuts the way to it (an unlinked or reused node, a rotation or split, a table that grows), and does not look again",
         Cause::LateCopy =>
             "contains reads a copy that is updated after add and remove return (a cache, a replica)",
         Cause::ThreadCopy =>
             "each thread reads a copy of its own, which changes by other threads reach late (a cache, a snapshot)",
-        Cause::OneKey => "a hash, a comparison, a filter or a limit treats a key unlike others",
+        Cause::OneKey => "a comparison, a hash or a limit treats a key unlike others",
         Cause::SomeKeys =>
             "contains treats some keys unlike others (a hash, a key that is cut short, a limit)",
         Cause::AddSeesRemoved =>
@@ -45,7 +45,7 @@ fn answers_cause_text(cause: Cause) -> &'static str {
         Cause::LastKey =>
             "contains leaves out the last key (a loop or search with a bound that is too small)",
         Cause::EndsEarly =>
-            "the search ends too early, also without a race (a bit or slot that another key cleared, a remembered node, adds still in a buffer, a bound)",
+            "the search ends too early, also without a race (a slot that another key cleared, adds still in a buffer, a bound that is too small)",
         Cause::RemoveShortcut =>
             "remove has a shortcut that returns false too early (a size that add updates late)",
         _ =>
@@ -63,7 +63,7 @@ pub fn cause_text(cause: Cause) -> &'static str {
         Cause::Overflow =>
             "a comparison overflows (a difference of keys in a signed number of 32 bits)",
         Cause::Displaced =>
-            "an add of another key drops it (a table that grows, a limit, an eviction, a shared slot)",
+            "an add of another key drops it (a shared slot, a table that grows, an eviction)",
         Cause::Batch =>
             "a remove of another key carries out earlier removes (a batch, a queue), also of keys that were added again",
         Cause::OtherKey =>
@@ -89,7 +89,7 @@ pub fn cause_text(cause: Cause) -> &'static str {
         Cause::NeverFound =>
             "keys are added, but never found again (a comparison by identity, a hash that changes, a key cut short)",
         Cause::MovedForAll =>
-            "a search misses a key that a change of another key moves at that time (rotation, split, displacement, growth)",
+            "a search misses a key while a change of another key moves it or cuts the way to it (an unlinked node, a rotation or split, a table that grows)",
         Cause::Outgrown =>
             "changes are lost while many keys are added (a table copied to a larger one while calls still change the old one, or two changes of one bucket or array at once)",
         Cause::FirstUse =>
@@ -115,7 +115,7 @@ pub fn cause_text(cause: Cause) -> &'static str {
         Cause::OldCopy | Cause::OldCopyAtOnce =>
             "an older copy is written over newer changes of other keys (copy on write, a whole table, a shared word)",
         Cause::SharedPlace =>
-            "two adds at the same time take the same place, and one overwrites the other (a free or removed slot taken twice, a head stored over another)",
+            "two adds at the same time take the same place: one overwrites the other, or the order of keys breaks (a place not checked again after the search, a slot taken twice)",
         Cause::AddLost =>
             "two adds at the same time both write, and one is lost, yet returns true (a failed compare-and-swap that is not checked)",
         Cause::OldCopyByAdd =>
@@ -141,8 +141,10 @@ pub fn cause_text(cause: Cause) -> &'static str {
         Cause::RemovedLater =>
             "a remove deletes the key late or again, and takes out a newer add (a queue of deletions, a helper, an unlink)",
         Cause::OldLink | Cause::Unlinked | Cause::WrittenBack | Cause::BehindUnlinked =>
-            "changes of neighbouring keys write over each other's links (a node linked to one that is being removed, a mark or link not checked after the walk, two locks for one list)",
-        Cause::Replaced | Cause::ReplacedAtOnce =>
+            "changes of neighbouring keys write over each other's links (a mark or link not checked after the walk, a node linked to one that is being removed, two locks for one list)",
+        Cause::ReplacedAtOnce =>
+            "the set, or a part of it, is replaced by a copy without the newest changes (copy on write, a table that grows, a merge of two parts)",
+        Cause::Replaced =>
             "a table, segment or copy is replaced while calls still change the old one (a resize, a compaction, a failover)",
         _ => answers_cause_text(cause),
     }

@@ -39,6 +39,21 @@ fn is_at_once(tally: &Tally) -> bool {
         && is_least(tally.together, tally.timed(), least.max(65))
 }
 
+/// Returns whether at least half of a few losses and returns of keys share time with one of another key, which is rare
+/// by chance, and most contradictions are such losses and returns.
+fn is_at_once_of_few(evidence: &Evidence) -> bool {
+    let tally = &evidence.tally;
+    tally.timed() >= LEAST_FEW_AT_ONCE
+        && tally.usually_together <= 10
+        && is_least(tally.together, tally.timed(), 50)
+        && is_least(tally.gone(), tally.places, 60)
+        && tally.keys >= 2
+        && !is_first_use(evidence)
+}
+
+/// The minimum number of losses and returns of keys for the guess that a copy replaces newer changes of several keys.
+const LEAST_FEW_AT_ONCE: u64 = 3;
+
 /// Returns the likely cause if changes do not take effect during their calls: they take effect later, cancel each
 /// other, or take effect although the call returned false.
 fn cause_of_effects(evidence: &Evidence) -> Option<Cause> {
@@ -387,6 +402,7 @@ pub fn likely_cause(evidence: &Evidence, further: &Further) -> Option<Cause> {
     match cause {
         None if further.swap.is_some() => Some(Cause::OtherReply),
         None if is_old_copy_at_once(evidence) => Some(Cause::OldCopyAtOnce),
+        None if is_at_once_of_few(evidence) => Some(Cause::ReplacedAtOnce),
         None => cause_of_meets(evidence),
         cause => cause,
     }

@@ -71,6 +71,6 @@ impl Pattern {
 pub(crate) fn is_borrowed(patterns: &Patterns) -> bool {
     let some = patterns.borrowed_true;
     let others = patterns.borrowed.of.saturating_sub(some);
-    let are_most = is_least(patterns.borrowed.count, patterns.borrowed.of, 60);
+    let are_most = is_least(patterns.borrowed.count, patterns.borrowed.of, 90);
     are_most && some.min(others) >= 3 && Pattern::Borrowed.is_clear(patterns)
 }
