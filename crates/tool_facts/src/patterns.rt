@@ -1,30 +1,32 @@
-//! Patterns among contradictions that only few kinds of bugs leave. Each pattern is a share of contradictions or wrong
-//! answers, with the percentage of comparable cases that have the property, too.
+//! Counts patterns of wrong answers that only few kinds of bugs leave. An answer is a call that changed nothing. A wrong
+//! answer is the only wrong reply of a contradiction (a few calls on one key that no order explains). A `Share` has the
+//! number of wrong answers with a property, and the percentage of comparable right answers with the property.
 
 use crate::further::Share;
 use crate::odd_facts::more;
 use std::alloc::{AllocError, Global};
 use tool_calls::{Made, Operation, Place, Runs};
 
-/// Patterns among contradictions.
+/// Counts of wrong answers with certain properties.
 #[derive(Clone, Copy, Default)]
 pub struct Patterns {
-    /// The wrong answers: how often another thread made the last change of their key that had ended before.
-    /// Comparable are sampled `contains` calls.
+    /// How often another thread made the last change of the key that had ended before the wrong answer began. A change
+    /// is an add or remove that returned true. Comparable are sampled `contains` calls.
     pub foreign: Share,
-    /// The wrong answers in `foreign` with a later change, of any key, that their own thread made before them.
+    /// How many wrong answers in `foreign.of` came after a change of any key that their own thread made later than that
+    /// last change.
     pub refreshed: u64,
-    /// The wrong answers: how often a call of another thread that overlapped them returned the same. Comparable are
-    /// sampled `contains` calls and calls of another thread that returned the opposite.
+    /// How often a call of another thread, of any key, overlapped the wrong answer and returned the same reply.
+    /// Comparable are sampled `contains` calls that overlapped a call of another thread with the opposite reply.
     pub borrowed: Share,
     /// The number of wrong answers that returned true.
     pub borrowed_true: u64,
 }
 
-/// The maximum number of contradictions, and of sampled calls, that are compared.
+/// The maximum number of wrong answers that are counted. About as many `contains` calls are sampled.
 const MOST: usize = 400;
 
-/// The maximum number of calls and changes that are checked for an overlap.
+/// The maximum number of earlier calls that are checked for an overlap with an answer.
 const MOST_EARLIER: usize = 64;
 
 /// The maximum number of calls on a key that are searched for its last change.
@@ -74,7 +76,7 @@ fn has_reply_beside(calls: &[Made], call: Made, reply: bool) -> bool {
     false
 }
 
-/// Returns the wrong answers of contradictions, ordered by begin. Each is a call that changed nothing.
+/// Returns at most `MOST` wrong answers of contradictions, ordered by begin.
 fn wrong_answers(alloc: Global, places: &[Place]) -> Result<Vec<Made>, AllocError> {
     let mut answers = Vec::new(alloc);
     for wrong in places.iter().filter_map(|place| place.wrong) {
@@ -86,7 +88,7 @@ fn wrong_answers(alloc: Global, places: &[Place]) -> Result<Vec<Made>, AllocErro
     Ok(answers)
 }
 
-/// Returns at most about `MOST` completed calls of `contains`.
+/// Returns a sample of completed calls of `contains`: about `MOST` calls, and less than twice as many.
 fn sampled(alloc: Global, calls: &[Made]) -> Result<Vec<Made>, AllocError> {
     let step = calls.len().checked_div(MOST).unwrap_or(0);
     let (mut found, mut next) = (Vec::new(alloc), 0usize);
@@ -100,7 +102,8 @@ fn sampled(alloc: Global, calls: &[Made]) -> Result<Vec<Made>, AllocError> {
     Ok(found)
 }
 
-/// Returns the shares `foreign` and `borrowed` of wrong answers or, if not `are_wrong`, of other calls.
+/// Counts the properties of answers. `answers` are wrong answers or, if `are_wrong` is false, sampled calls; for these
+/// `borrowed` counts the opposite reply.
 fn shares_of(runs: &Runs<'_>, answers: &[Made], are_wrong: bool) -> Patterns {
     let calls = &runs.recorded.calls;
     let mut shares = Patterns::default();
@@ -117,7 +120,7 @@ fn shares_of(runs: &Runs<'_>, answers: &[Made], are_wrong: bool) -> Patterns {
     shares
 }
 
-/// Returns the patterns among contradictions. Allocates.
+/// Returns the counts for the wrong answers of the contradictions `places`. Allocates.
 pub(crate) fn patterns_of(
     alloc: Global,
     runs: &Runs<'_>,

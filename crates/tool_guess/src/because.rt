@@ -1,4 +1,9 @@
-//! Writes the fact that supports a likely cause. In the message it follows the word `because`.
+//! Writes the fact that supports a likely cause. In the message the fact follows the word `because`.
+//!
+//! A *contradiction* is a few calls on one key that no order explains. A *change* is an add or remove that returned true.
+//! `Tally` counts contradictions, and `Odd` the wrong answers of an operation that alone is wrong: some order explains all
+//! calls except its answers (its calls that changed nothing). Their fields are explained in `tool_facts`; `likely_odd` and
+//! `likely_races` list those that matter here.
 
 use crate::likely_odd::is_outlasted_each;
 use crate::likely_races::is_rarely_together;
@@ -9,8 +14,7 @@ use std::alloc::{AllocError, Global};
 use tool_calls::{Made, NEVER};
 use tool_facts::{Cause, Evidence, Further, Growth, Odd, Tally};
 
-/// Writes the fact that supports `cause`, if `contains` finds absent keys, or both finds absent keys and misses present
-/// keys.
+/// Writes the fact that supports `cause`, if only `contains` is wrong, and finds absent keys.
 fn put_because_of_found(out: &mut String, odd: &Odd, cause: Cause) -> Result<(), AllocError> {
     let (running, found, own, wrong) = (odd.running, odd.found, odd.own, odd.wrong);
     let only = if odd.is_exact { "only " } else { "" };
@@ -64,7 +68,7 @@ fn checked_word(some: u64, all: u64) -> &'static str {
     if some < all { "checked " } else { "" }
 }
 
-/// Writes the fact that supports `cause`, if `contains` misses present keys.
+/// Writes the fact that supports `cause`, if only `contains` is wrong, and misses present keys.
 fn put_because_of_missed(out: &mut String, odd: &Odd, cause: Cause) -> Result<(), AllocError> {
     let missed = odd.missed;
     let (compared, lonely) = (odd.compared, odd.lonely);
@@ -107,7 +111,8 @@ fn put_active(out: &mut String, odd: &Odd) -> Result<(), AllocError> {
     put_ran(out, odd, what, odd.active, odd.usually_active)
 }
 
-/// Writes the fact that supports the cause `RemoveGivesUp`.
+/// Writes the fact that supports the cause `RemoveGivesUp`: during each wrong answer another call wrote or, if this is not
+/// so, that all other calls have an order.
 fn put_given_up(out: &mut String, odd: &Odd) -> Result<(), AllocError> {
     if odd.active == odd.wrong {
         put_active(out, odd)
@@ -164,7 +169,7 @@ fn put_because_of_odd(out: &mut String, odd: &Odd, cause: Cause) -> Result<(), A
     }
 }
 
-/// Writes the fact that supports `cause`, if replies are wrong or overlapping changes go wrong.
+/// Writes the fact that supports `cause`, if keys are lost or come back, or two overlapping calls both returned true.
 fn put_because_of_calls(out: &mut String, tally: &Tally, cause: Cause) -> Result<(), AllocError> {
     let (gone, both, places) = (tally.gone(), tally.both(), tally.places);
     let (silent, turned) = (tally.silent, tally.turned);
@@ -277,7 +282,7 @@ fn sampled_word(tally: &Tally) -> &'static str {
     if tally.has_more_calls { "sampled " } else { "" }
 }
 
-/// Writes the fact that supports `cause`, if keys are lost after a successful add.
+/// Writes the fact that supports `cause`, if the adds of lost keys overlapped changes of other keys, or were added twice.
 fn put_because_of_adds(out: &mut String, tally: &Tally, cause: Cause) -> Result<(), AllocError> {
     let (lost, placed, both) = (tally.lost, tally.placed, tally.both_adds);
     let (count, usual, word) = match cause {
@@ -359,7 +364,8 @@ fn put_because_of_refusals(
     }
 }
 
-/// Writes the fact that supports the cause `SharedWord`: changes of two keys undo each other.
+/// Writes the fact that supports the cause `SharedWord`: the undone changes of one key mostly overlap changes of one other
+/// key.
 fn put_because_of_pairs(out: &mut String, evidence: &Evidence) -> Result<(), AllocError> {
     let Some(bound) = evidence.bound else {
         return Ok(());
@@ -408,7 +414,7 @@ fn put_because_of_one(
     }
 }
 
-/// Writes the fact that supports `cause`, if keys are lost and return.
+/// Writes the fact that supports `cause`, if keys are lost and come back.
 fn put_because_of_gone(
     out: &mut String,
     evidence: &Evidence,

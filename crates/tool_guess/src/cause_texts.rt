@@ -1,8 +1,9 @@
-//! The sentences for the likely causes.
+//! The sentences that follow `likely:` in a message. Parentheses list at most three examples of such a bug, the likeliest
+//! first.
 
 use tool_facts::Cause;
 
-/// Returns the sentence for a likely cause of wrong answers.
+/// Returns the sentence for a likely cause if one operation alone is wrong.
 fn answers_cause_text(cause: Cause) -> &'static str {
     match cause {
         Cause::MarkNotRead =>

@@ -1,4 +1,23 @@
-//! Guesses the likely cause from the facts in the message. Makes no guess if the facts fit no cause.
+//! Guesses the likely cause of a refusal from counted facts. Makes no guess if the facts fit no cause.
+//!
+//! A *contradiction* is a few calls on one key that no order explains. A *change* is an add or remove that returned true.
+//! `Tally` counts contradictions by kind. A key was *lost*: it became absent although no remove returned true. A key *came
+//! back*: it became present although no add returned true. *Both* of two overlapping adds, or removes, of a key returned
+//! true. One call that changed nothing has a *wrong reply*. The kind of all *others* is unclear.
+//!
+//! The fields of `Tally` that the tests below compare:
+//!
+//! - `gone()`: losses and returns of keys. `timed()`: those that a call shows, not only the final keys.
+//! - `turned`: those that one opposite reply would explain. `silent`: those that one more add or remove that returned true,
+//!   instead of false, would explain.
+//! - `beside`: those that overlap a change of another key; `usual` is the percentage of later periods of the same length
+//!   that do. `below`: those that overlap a remove of a smaller key. `together`: those that overlap a loss or return of
+//!   another key; `usually_together` is the percentage by chance.
+//! - `made`: those that undo a known change. `own`: how many of these changes overlapped another change of the same key.
+//!   `fits`: how many can be due to a change of another key that read the set before and wrote it afterwards.
+//! - `crossed`: losses right after overlapping changes of the key, among them a remove. `placed`: losses that undo a known
+//!   add; `with_add` and `with_remove` count the adds that overlapped an add, or a remove, of another key.
+//! - `apart`: contradictions during which no two calls overlapped.
 
 use crate::likely_odd::cause_of_odd;
 use crate::likely_races::{
@@ -128,9 +147,9 @@ fn is_mostly_apart(tally: &Tally) -> bool {
         && !is_least(tally.others, tally.places, 65)
 }
 
-/// Returns whether keys are lost even without overlapping calls. Otherwise returns whether pairs of calls that both
-/// returned true are rare, and less than 60 percent of the losses can be due to a change of another key that wrote back
-/// an older state.
+/// Returns whether lost keys do not look like the result of a race: keys are lost even without overlapping calls, or a
+/// change of another key that wrote back an older state can explain less than 60 percent of the losses, and pairs of
+/// calls that both returned true are rare.
 fn is_displaced(tally: &Tally) -> bool {
     let is_alone = !is_least(tally.fits, tally.made, 60);
     let is_crossed = is_least(tally.crossed, tally.lost, 60);
@@ -155,7 +174,7 @@ fn cause_of_losses(tally: &Tally) -> Option<Cause> {
     }
 }
 
-/// Returns `true` if keys are lost only while many keys are present, more often than by chance.
+/// Returns whether at least `LEAST_FULL` keys were present at each loss of a key, and this is no coincidence.
 fn is_only_full(tally: &Tally) -> bool {
     tally.least_full >= LEAST_FULL && share_of_all(tally.usually_full, tally.short) < 10_000
 }
@@ -163,7 +182,7 @@ fn is_only_full(tally: &Tally) -> bool {
 /// A set is full only if it has at least this many keys.
 const LEAST_FULL: u64 = 4;
 
-/// Returns whether a key seems to be in the set twice: nearly all returned keys return after a successful remove, pairs
+/// Returns whether the set seems to contain a key twice, and a remove deletes one of the two: nearly all returned keys return after a successful remove, pairs
 /// of calls that both returned true are rare, and less than 60 percent of the losses and returns can be due to a change
 /// of another key that wrote back an older state.
 fn is_kept(tally: &Tally) -> bool {
@@ -243,8 +262,8 @@ fn is_enough(evidence: &Evidence) -> bool {
     evidence.calls >= LEAST_CALLS && answers >= LEAST_ANSWERS
 }
 
-/// Returns whether calls of several operations miss present keys, always while another key changes, and other
-/// contradictions are rare.
+/// Returns whether calls of several operations return false for present keys, each while a change of another key runs,
+/// and other contradictions are rare.
 fn is_missed_beside(tally: &Tally) -> bool {
     let (missed, gone) = (tally.missed, tally.gone());
     missed >= 8
@@ -297,9 +316,9 @@ fn is_never_found(tally: &Tally) -> bool {
     lost >= 2 * ENOUGH && lost == tally.followed_adds && tally.unseen_removes == 0
 }
 
-/// Returns whether all cases have a property, and the probability of this by chance is less than `most` parts per
-/// million. Otherwise returns whether three quarters of the cases have the property, and the probability of this is
-/// less than one in twenty (Hoeffding's bound).
+/// Returns whether a share of undone changes is no coincidence: all have the property, which happens by chance in less
+/// than `most` of a million such samples; or three quarters have it, which happens by chance in less than one of twenty
+/// samples (Hoeffding's bound).
 fn is_usual(share: Share, most: u64) -> bool {
     let percent = share.count.saturating_mul(100).checked_div(share.of);
     let more = percent.unwrap_or(0).saturating_sub(share.usual);
@@ -309,8 +328,8 @@ fn is_usual(share: Share, most: u64) -> bool {
             && share.of.saturating_mul(more).saturating_mul(more) >= 15_000)
 }
 
-/// Returns the likely cause from the calls at the same time as the undone changes: calls of the same key, or changes of
-/// other keys.
+/// Returns the likely cause from the calls that overlapped the changes that were undone or reported twice (`Meets`):
+/// calls on the same key, or changes of other keys.
 fn cause_of_meets(evidence: &Evidence) -> Option<Cause> {
     let (tally, meets) = (&evidence.tally, &evidence.meets);
     let (own, others, first) = (meets.own, meets.others, meets.first);
@@ -333,8 +352,8 @@ fn cause_of_meets(evidence: &Evidence) -> Option<Cause> {
     }
 }
 
-/// Returns the likely cause if most contradictions are single adds and removes that returned false and changed nothing,
-/// and other wrong answers are rare.
+/// Returns the likely cause if most contradictions are due to a single add or remove that returned false although the
+/// key permitted the change, and other wrong replies are rare.
 fn cause_of_refusals(tally: &Tally) -> Option<Cause> {
     let (refused, beside) = (tally.refused(), tally.refused_beside);
     let replies = tally.missed.saturating_add(tally.found);
@@ -449,8 +468,8 @@ fn cause_of_changes(evidence: &Evidence, further: &Further) -> Option<Cause> {
     or_outgrown(evidence, further, cause)
 }
 
-/// Returns the cause `Outgrown` in place of no cause, or in place of a table that is replaced, if many keys are added
-/// and few of them are affected.
+/// Returns the cause `Outgrown` if many keys are added and few of them have contradictions, and `cause` is `None` or a
+/// cause that `Outgrown` makes more precise. Otherwise returns `cause`.
 fn or_outgrown(evidence: &Evidence, further: &Further, cause: Option<Cause>) -> Option<Cause> {
     let is_open = matches!(
         cause,

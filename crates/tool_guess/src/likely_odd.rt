@@ -1,17 +1,33 @@
-//! The likely cause if one operation alone is wrong.
+//! Guesses the likely cause if one operation alone is wrong.
+//!
+//! An *answer* is a call that changed nothing. An operation *alone is wrong* if some order explains all calls except its
+//! answers. A *wrong answer* is an answer of this operation that no order explains together with the other operations'
+//! calls. `Odd` counts the wrong answers: `found` an absent key, or `missed` a present key. Its other fields count how many
+//! overlap other calls:
+//!
+//! - `running`: a change of the key to the state that the answer did not see. `starting`: a change to the state it saw.
+//! - `same`: another add or remove of the key. `beside`: a change of another key (`adding`, `removing`: by an add, by a
+//!   remove). `active`: one of these. `writing`: an add or remove of any key. A field `usual..` is the percentage of the
+//!   operation's right answers that overlap such a call.
+//! - `apart`: no two calls overlapped during the answer and since the call that it contradicts (of `placed` that were
+//!   checked).
+//! - `then_right`, `then_wrong`: the next answer for the key, with no change in between, was right or wrong.
+//! - `by_same`, `by_others`: a change that had ended was not seen; the thread of the answer, or another thread, made it.
+//! - `own`: the last call on the key by the same thread had left the key in the state that the answer saw.
+//! - `lonely`, `largest`: no other key, or no larger key, was known to be present (of `compared` that were checked).
 
 use crate::patterns::{Pattern, is_borrowed};
 use crate::shares::{ENOUGH, is_least, share_of_all};
 use tool_calls::Operation;
 use tool_facts::{Cause, Evidence, Further, Odd, Patterns};
 
-/// Returns `true` if the chance that all wrong answers overlapped changes of other keys by accident is less than one in
-/// four.
+/// Returns whether the wrong answers that missed a key overlap changes of other keys not only by chance: for that many
+/// right answers, the probability would be less than one in four.
 fn is_no_chance(odd: &Odd) -> bool {
     share_of_all(odd.usual, odd.missed) < 250_000
 }
 
-/// The minimum number of wrong answers for a guess from the calls that they overlapped.
+/// The minimum number of wrong answers for a guess from the calls that they overlap.
 const LEAST_BESIDE: u64 = 8;
 
 /// Returns whether nearly all wrong answers overlapped another add or remove of their key or a change of another key,
@@ -35,7 +51,7 @@ fn are_most(some: u64, odd: &Odd) -> bool {
     some.saturating_mul(4) >= odd.missed.saturating_mul(3)
 }
 
-/// Returns whether answers are wrong even if no calls overlap.
+/// Returns whether at least one in ten wrong answers, and at least two, needed no overlapping calls.
 fn needs_no_overlap(odd: &Odd) -> bool {
     odd.apart >= 2 && is_least(odd.apart, odd.placed, 10)
 }
@@ -95,20 +111,20 @@ fn is_half_done(odd: &Odd) -> bool {
 /// The minimum number of wrong answers for a guess, unless a fact applies to all or nearly all wrong answers.
 const LEAST_WRONG: u64 = 20;
 
-/// Returns whether many wrong answers are followed by another wrong answer, with no change of the key in between.
+/// Returns whether the error lasts: with no change of the key in between, at least one in five next answers is wrong, too.
 fn is_lasting(odd: &Odd) -> bool {
     let next = odd.then_right.saturating_add(odd.then_wrong);
     odd.is_exact && odd.then_wrong >= 3 && is_least(odd.then_wrong, next, 20)
 }
 
-/// Returns whether nearly all wrong answers are followed by a right answer, with no change of the key in between.
+/// Returns whether the error passes: with no change of the key in between, nearly all next answers are right.
 fn is_passing(odd: &Odd) -> bool {
     let next = odd.then_right.saturating_add(odd.then_wrong);
     odd.is_exact && odd.then_right >= 3 && is_least(odd.then_right, next, 90)
 }
 
-/// Returns `true` if the wrong answers of `contains` mostly occur while no other key is present, more often than by
-/// chance.
+/// Returns whether `contains` misses a key mostly while no other key is present, as if the set seemed to be empty, and more
+/// often than by chance.
 fn is_size(odd: &Odd) -> bool {
     let more_often = odd.usually_lonely.saturating_add(35);
     odd.compared >= 3
@@ -116,7 +132,7 @@ fn is_size(odd: &Odd) -> bool {
         && share_of_all(odd.usually_lonely, odd.lonely) < 50_000
 }
 
-/// Returns `true` if all wrong answers agree with the last earlier call of the same key by the same thread.
+/// Returns whether each of at least eight wrong answers repeats what the last call on the key by its own thread left.
 fn is_own(odd: &Odd) -> bool {
     odd.wrong >= 8 && odd.own == odd.wrong
 }
@@ -198,7 +214,7 @@ fn cause_of_remove(odd: &Odd) -> Option<Cause> {
     }
 }
 
-/// Returns whether the key seems to stay present for `add` after a remove: nearly all wrong answers are followed by
+/// Returns whether `add` seems to find a removed key present from then on: nearly all wrong answers are followed by
 /// another one, and most removes that they did not see overlapped a remove of another key.
 fn is_for_good(odd: &Odd, further: &Further) -> bool {
     let next = odd.then_right.saturating_add(odd.then_wrong);
@@ -209,14 +225,14 @@ fn is_for_good(odd: &Odd, further: &Further) -> bool {
         && is_least(further.unseen.count, further.unseen.of, 60)
 }
 
-/// Returns whether many answers are wrong, and most next answers are right.
+/// Returns whether there are many wrong answers, and most next answers for their keys are right.
 fn is_passing_often(odd: &Odd) -> bool {
     let next = odd.then_right.saturating_add(odd.then_wrong);
     odd.wrong >= LEAST_WRONG && odd.is_exact && is_least(odd.then_right, next, 75)
 }
 
-/// Returns whether another call outlasts each of at least five wrong answers, and the chance of that is less than one
-/// in a thousand.
+/// Returns whether, for each of at least five wrong answers, another call began earlier and ended later, and the
+/// probability of that by chance is less than one in a thousand.
 pub(crate) fn is_outlasted_each(odd: &Odd, further: &Further) -> bool {
     odd.wrong >= ENOUGH
         && further.outlasted.count == odd.wrong

@@ -1,11 +1,31 @@
-//! The likely cause if several operations are wrong while calls overlap.
+//! Guesses the likely cause if several operations have wrong replies, and calls that overlap are to blame (a race).
+//!
+//! A *contradiction* is a few calls on one key that no order explains. A *change* is an add or remove that returned true.
+//! `Tally` counts contradictions by kind. A key was *lost*: it became absent although no remove returned true. A key *came
+//! back*: it became present although no add returned true. *Both* of two overlapping adds, or removes, of a key returned
+//! true. One call that changed nothing has a *wrong reply*. The kind of all *others* is unclear.
+//!
+//! The fields of `Tally` that the tests below compare:
+//!
+//! - `gone()`: losses and returns of keys. `timed()`: those that a call shows, not only the final keys.
+//! - `turned`: those that one opposite reply would explain. `silent`: those that one more add or remove that returned true,
+//!   instead of false, would explain.
+//! - `beside`: those that overlap a change of another key; `usual` is the percentage of later periods of the same length
+//!   that do. `below`: those that overlap a remove of a smaller key. `together`: those that overlap a loss or return of
+//!   another key; `usually_together` is the percentage by chance.
+//! - `made`: those that undo a known change. `own`: how many of these changes overlapped another change of the same key.
+//!   `fits`: how many can be due to a change of another key that read the set before and wrote it afterwards.
+//! - `crossed`: losses right after overlapping changes of the key, among them a remove. `placed`: losses that undo a known
+//!   add; `with_add` and `with_remove` count the adds that overlapped an add, or a remove, of another key.
+//! - `apart`: contradictions during which no two calls overlapped.
 
 use crate::shares::{ENOUGH, is_least, is_share, share_of_all};
 use tool_facts::{Cause, Evidence, Tally};
 
-/// Returns whether at least two contradictions, and nearly all contradictions of the recording, began while the first
-/// calls on their keys ran, and no key returned. Other adds and removes of the key must have run during at least half of the undone changes,
-/// or the probability by chance must be less than one in a thousand.
+/// Returns whether the first calls on keys seem to be the cause: at least two contradictions, and nearly all, began while
+/// the first calls on their keys ran, and no key came back. If other adds and removes of the same key overlapped at least
+/// half of the undone changes, the probability by chance must be less than one in ten, otherwise less than one in a
+/// thousand.
 pub(crate) fn is_first_use(evidence: &Evidence) -> bool {
     let (first, own) = (evidence.meets.first, evidence.meets.own);
     let chance = share_of_all(first.usual, first.of);
@@ -92,7 +112,8 @@ fn cause_of_old_state(evidence: &Evidence) -> Option<Cause> {
     }
 }
 
-/// Returns whether `count` is a clearly larger share of `of` adds than the usual percentage `usual`.
+/// Returns whether `count` of `of` adds, with at least ten adds, is a percentage at least 20 larger than `usual`, the
+/// percentage of all adds.
 pub(crate) fn is_with(count: u64, of: u64, usual: u64) -> bool {
     of >= 2 * ENOUGH && is_least(count, of, usual.saturating_add(20).min(100))
 }
@@ -140,9 +161,9 @@ fn old_copy(tally: &Tally, other: Cause) -> Cause {
     }
 }
 
-/// Returns whether nearly all of the adds overlapped a kind of change, and at most one in four does so usually: of at
-/// least eight adds three quarters, of at least five all but one, if the chance of that is less than one in a thousand.
-/// `usual` is the percentage of all adds that did.
+/// Returns whether nearly all of a few adds overlapped a kind of change that overlaps at most one in four of all adds.
+/// Of at least eight adds, three quarters are enough. Of at least five, all but one are enough if the probability by
+/// chance is less than one in a thousand. `usual` is the percentage of all adds that overlapped such a change.
 fn is_each_with(count: u64, of: u64, usual: u64) -> bool {
     let ways = if count == of { 1 } else { of };
     let is_rare = share_of_all(usual, count).saturating_mul(ways) < 1_000;
@@ -165,13 +186,14 @@ fn cause_of_few_lost(tally: &Tally) -> Option<Cause> {
     }
 }
 
-/// Returns whether several keys have wrong replies at the same time, more often than by chance.
+/// Returns whether wrong replies of different keys often share time, more often than by chance.
 pub(crate) fn has_crossed_replies(tally: &Tally) -> bool {
     let least = tally.usually_crossed.saturating_add(25).max(50);
     tally.replies >= 4 * ENOUGH && is_least(tally.crossed_replies, tally.replies, least)
 }
 
-/// Returns whether keys are lost and return, and many contradictions are single wrong replies.
+/// Returns whether keys are often lost and often come back, many contradictions have a single wrong reply, and wrong
+/// replies of different keys share time more often than by chance.
 fn is_mixed(tally: &Tally) -> bool {
     let replies = tally.missed.saturating_add(tally.found);
     let is_both_ways = tally.lost.min(tally.came_back) >= 2 * ENOUGH;
@@ -192,7 +214,8 @@ fn is_of_other_calls(tally: &Tally) -> bool {
     tally.swapped >= 4 && tally.swapped_adds >= 4 && is_least(some, all, 60)
 }
 
-/// Returns whether a remove seems to remove another key instead of its own, and wrong replies are rare.
+/// Returns whether removes seem to remove another key instead of their own: while a remove runs after which its key comes
+/// back, another key is lost. Wrong replies must be rare.
 pub(crate) fn is_of_other_key(tally: &Tally) -> bool {
     let replies = tally.missed.saturating_add(tally.found);
     let is_beside = is_with(tally.with_remove, tally.placed, tally.usually_with_remove);
@@ -291,7 +314,7 @@ pub(crate) fn is_earlier_look(tally: &Tally) -> bool {
     is_each || is_all || (is_enough && is_share(tally.turned, gone, 95))
 }
 
-/// If keys have at least this many calls, it is no coincidence that each key has only one contradiction.
+/// If keys have on average at least this many calls, it is no coincidence that each key has only one contradiction.
 pub(crate) const MANY_CALLS: u64 = 30;
 
 /// Returns the likely cause if several operations are wrong while calls overlap.

@@ -1,21 +1,26 @@
-//! The patterns among contradictions that support a likely cause if they are clearly more frequent than by chance.
+//! Decides whether wrong answers have a pattern that few bugs leave, and writes the line about it. An answer is a call that
+//! changed nothing. A wrong answer is the only wrong reply of a contradiction (a few calls on one key that no order
+//! explains).
 
 use crate::shares::{is_least, share_of_all};
 use std::alloc::AllocError;
 use tool_facts::{Cause, Patterns, Share};
 
-/// A pattern among contradictions.
+/// A pattern of wrong answers.
 #[derive(Clone, Copy)]
 pub(crate) enum Pattern {
+    /// Another thread made the last change of the key before the answer.
     Foreign,
+    /// A call of another thread that overlaps the answer returned the same reply.
     Borrowed,
 }
 
-/// A pattern counts only if there are at least this many cases.
+/// A pattern is no coincidence only if there are at least this many wrong answers.
 const LEAST: u64 = 3;
 
-/// Returns whether at least half of the cases have the property, and the probability of this by chance is small: less
-/// than one in a thousand if all cases have the property, otherwise less than one in a hundred (Hoeffding's bound).
+/// Returns whether at least half of the cases of a share have its property, and this is no coincidence. The probability by
+/// chance must be less than one in a thousand if all cases have the property, otherwise less than one in a hundred
+/// (Hoeffding's bound).
 pub(crate) fn is_clear(share: Share) -> bool {
     let percent = share
         .count
@@ -67,7 +72,8 @@ impl Pattern {
     }
 }
 
-/// Returns whether most wrong replies, of both kinds, are replies of other threads' calls at the same time.
+/// Returns whether wrong answers seem to be replies of other threads' calls. Nearly all must equal the reply of a call of
+/// another thread that overlaps them, more often than by chance, and at least three must be `true`, and three `false`.
 pub(crate) fn is_borrowed(patterns: &Patterns) -> bool {
     let some = patterns.borrowed_true;
     let others = patterns.borrowed.of.saturating_sub(some);

@@ -1,4 +1,5 @@
-//! Tests whether one number is a large enough part of another number, and how likely that is by chance.
+//! Tests whether a number is a large enough part of another number, and computes how likely that is by chance. The numbers
+//! count contradictions (a few calls on one key that no order explains), wrong replies or changes.
 
 /// A share of contradictions counts only if there are at least this many contradictions.
 pub(crate) const ENOUGH: u64 = 5;

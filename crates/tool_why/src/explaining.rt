@@ -1,4 +1,5 @@
-//! The message of a diagnosis: headline, picture, scope, duration, and a likely cause.
+//! Writes the message of a diagnosis: a headline, a picture of the calls, facts, and a likely cause. Also reads a recording
+//! and diagnoses it.
 
 use crate::diagnosing::diagnose;
 use crate::sentences::{put_first, put_headline, put_known};
@@ -14,7 +15,7 @@ use tool_picture::{Diagnosis, count_in, put_picture};
 /// not counted.
 const MOST_LINES: usize = 15;
 
-/// Writes the likely cause, and the fact that supports it.
+/// Writes the likely cause, if the diagnosis has one, and the fact that supports the cause.
 fn put_guess(alloc: Global, out: &mut String, diagnosis: &Diagnosis) -> Result<(), AllocError> {
     if let Some(cause) = diagnosis.cause {
         let text = cause_text(cause);
@@ -36,8 +37,8 @@ fn lines_of(text: &str) -> usize {
     text.lines().filter(|line| !line.is_empty()).count()
 }
 
-/// Writes the lines of the known facts, but leaves out `extra` lines. Keeps the first two lines if enough other lines
-/// can be left out.
+/// Writes the lines of facts in `known`, but leaves out `extra` lines. Keeps the first line, and the second if enough other
+/// lines can be left out.
 fn put_some(out: &mut String, known: &str, extra: usize) -> Result<(), AllocError> {
     let from = lines_of(known).saturating_sub(extra).max(1).min(2);
     let end = from.saturating_add(extra);
@@ -50,9 +51,9 @@ fn put_some(out: &mut String, known: &str, extra: usize) -> Result<(), AllocErro
     Ok(())
 }
 
-/// Returns the number of lines for the picture. `room` lines are free, and `known` facts follow the picture. To show a
-/// change of another key or, if a cause is named, up to three of them, the picture can take the lines of facts: all but
-/// the first or, if an operation alone is wrong, all but the first two.
+/// Returns the maximum number of lines for the picture. `room` lines are free, and `known` lines of facts follow the
+/// picture. If the picture has changes of other keys, it can use lines of facts for one of them or, if there is a likely
+/// cause, for up to three. It leaves the first line of facts or, if an operation alone is wrong, the first two.
 fn room_of_picture(diagnosis: &Diagnosis, room: usize, known: usize) -> usize {
     let beside = diagnosis.beside.len();
     let beside = if diagnosis.cause.is_some() {
@@ -109,10 +110,10 @@ pub fn diagnosis_text(
     Ok(out)
 }
 
-/// The number of lines of a contradiction by counting in a message.
+/// The number of lines in a message for a contradiction by counting: replies that need more changes than there are.
 const COUNT_LINES: usize = 3;
 
-/// The number of lines of a verdict that names no two contradicting calls.
+/// A verdict with at most this many lines names no two contradicting calls.
 const LEAST_USED: usize = 2;
 
 /// The explanation of a refused recording.
@@ -128,7 +129,8 @@ pub struct Explained {
 /// If the first calls of a longer recording already have no order, only this many of them are explained.
 const MOST_EXPLAINED: usize = 1_000_000;
 
-/// Converts a diagnosis to an explanation. In `recorded`, calls that are pending in the diagnosis can have ended.
+/// Converts a diagnosis to an explanation. `used` is the number of lines above the explanation. A call that is pending in
+/// the diagnosis can have ended in `recorded`.
 fn described(
     alloc: Global,
     recorded: &Recorded,

@@ -1,4 +1,9 @@
-//! Writes the sentences of a diagnosis: the headline, the scope and the duration.
+//! Writes the sentences of a diagnosis, except for the likely cause: the headline, and the facts below the picture.
+//!
+//! A *contradiction* is a few calls on one key that no order explains. A *change* is an add or remove that returned true.
+//! An *answer* is a call that changed nothing. An operation *alone is wrong* if some order explains all calls except its
+//! answers; `Odd` counts its wrong answers. Otherwise `Tally` counts the contradictions. A *split* is a period without a
+//! change of a key, although some calls find the key present and others find it absent.
 
 use lset_words::Presence;
 use std::alloc::AllocError;
@@ -28,7 +33,7 @@ fn put_contradicted(out: &mut String, call: Made) -> Result<(), AllocError> {
     )
 }
 
-/// Writes the headline for a key that was lost or returned.
+/// Writes the headline for a key that was lost or came back: it changed although no remove, or add, returned true.
 fn put_gone(out: &mut String, diagnosis: &Diagnosis) -> Result<(), AllocError> {
     if let Some(call) = diagnosis.wrong {
         // (the call returned false although its operation makes the contradicting change)
@@ -102,7 +107,7 @@ pub(crate) fn put_headline(out: &mut String, diagnosis: &Diagnosis) -> Result<()
     }
 }
 
-/// Returns the words for an operation's calls that changed nothing.
+/// Returns the words for the answers of an operation.
 fn answers_word(operation: Operation) -> &'static str {
     match operation {
         Operation::Add => "add that returned false",
@@ -111,7 +116,7 @@ fn answers_word(operation: Operation) -> &'static str {
     }
 }
 
-/// Writes that the opposite kind of wrong answer never occurred, if all wrong answers are known.
+/// Writes that the opposite wrong answer `what` never occurred, if all wrong answers are known. Closes the parenthesis.
 fn put_never(out: &mut String, odd: &Odd, what: &str) -> Result<(), AllocError> {
     if odd.is_exact {
         write!(out, ", and never {what}")?;
@@ -136,7 +141,7 @@ fn put_ways(out: &mut String, odd: &Odd) -> Result<(), AllocError> {
     }
 }
 
-/// Writes the number of wrong answers of the operation that alone is wrong.
+/// Writes which operation alone is wrong, and the number of its wrong answers.
 fn put_odd(out: &mut String, odd: &Odd) -> Result<(), AllocError> {
     let word = answers_word(odd.operation);
     let (wrong, of) = (odd.wrong, odd.of);
@@ -156,7 +161,7 @@ fn put_odd(out: &mut String, odd: &Odd) -> Result<(), AllocError> {
     out.push_str("\n")
 }
 
-/// Writes how many contradictions of each kind there are. The numbers add up to the number of contradictions.
+/// Writes how many contradictions of each kind there are. These numbers add up to the number of contradictions.
 fn put_kinds(out: &mut String, tally: &Tally) -> Result<(), AllocError> {
     let kinds = [
         (tally.lost, "where a key was lost"),
@@ -190,8 +195,8 @@ fn put_kinds(out: &mut String, tally: &Tally) -> Result<(), AllocError> {
     }
 }
 
-/// Writes the single wrong answers of each kind in parentheses. Writes nothing if no contradiction has a single wrong
-/// answer.
+/// Writes in parentheses how many single wrong replies each operation gave. Writes nothing if no contradiction has a single
+/// wrong reply.
 fn put_answers(out: &mut String, tally: &Tally) -> Result<(), AllocError> {
     let (adds, removes) = (tally.refused_adds, tally.refused_removes);
     let kinds = [
@@ -214,7 +219,7 @@ fn put_answers(out: &mut String, tally: &Tally) -> Result<(), AllocError> {
     out.push_str(if is_first { "" } else { ")" })
 }
 
-/// Returns the words for a contradiction's symptom in a short list of contradictions.
+/// Returns the words for the kind of a contradiction in a list of all contradictions.
 fn symptom_text(symptom: Symptom) -> &'static str {
     match symptom {
         Symptom::Missed(_) => "missed",
@@ -227,7 +232,7 @@ fn symptom_text(symptom: Symptom) -> &'static str {
     }
 }
 
-/// Writes a short list of contradictions: the key, the symptom and the time of each.
+/// Writes a list of a few contradictions: the key, the kind and the time of each.
 fn put_few(out: &mut String, few: &[Place]) -> Result<(), AllocError> {
     let mut mark = ":";
     for place in few {
@@ -243,11 +248,11 @@ fn put_few(out: &mut String, few: &[Place]) -> Result<(), AllocError> {
     out.push_str("\n")
 }
 
-/// An error is late if it shows at this moment or later.
+/// A first contradiction is late if it ends at this moment or later.
 const LATE: u64 = 200;
 
-/// Returns whether most contradictions are unclear, as after a late error that breaks the set for good. The first error
-/// is then the finding.
+/// Returns whether the kind of most contradictions is unclear and the first one is late, as after an error that breaks the
+/// set for good. The moment of the first contradiction is then worth a mention.
 fn is_from_one_moment(diagnosis: &Diagnosis) -> bool {
     let tally = &diagnosis.evidence.tally;
     let moment = diagnosis.first_moment;
@@ -332,8 +337,8 @@ fn put_split(out: &mut String, split: &Split) -> Result<(), AllocError> {
     writeln!(out, "{removes} remove absent, {votes} contains {state}")
 }
 
-/// Writes during how many contradictions no two calls overlapped, if it is at least 10 percent. Writes nothing if most
-/// contradictions are unclear, since after an early error many later calls disagree.
+/// Writes during how many contradictions no two calls overlapped, if these are at least 10 percent. Writes nothing if the
+/// kind of most contradictions is unclear, since after one early error many later calls disagree.
 fn put_apart(out: &mut String, tally: &Tally) -> Result<(), AllocError> {
     let (apart, places, others) = (tally.apart, tally.places, tally.others);
     let is_few = apart == 0 || apart.saturating_mul(10) < places;
@@ -358,14 +363,15 @@ fn put_meets(out: &mut String, meets: &Meets) -> Result<(), AllocError> {
     Ok(())
 }
 
-/// Returns whether a share of wrong answers is clearly larger than the usual percentage.
+/// Returns whether `count` of `of` wrong answers is a percentage at least 25 larger than `usual`, the percentage of other
+/// answers.
 fn is_more(count: u64, of: u64, usual: u64) -> bool {
     let least = usual.saturating_add(25);
     count >= 2 && count.saturating_mul(100) >= of.saturating_mul(least)
 }
 
-/// Writes which calls ran during the only wrong answer, whether the picture shows those of its key, and whether the
-/// next call was right.
+/// Writes which changes ran during the only wrong answer, whether the picture shows those of its key, and whether the next
+/// call of the operation on the key was right.
 fn put_around_one(out: &mut String, diagnosis: &Diagnosis, odd: &Odd) -> Result<(), AllocError> {
     let word = odd.operation.word();
     if odd.same > 0 {
@@ -456,7 +462,7 @@ fn put_next(out: &mut String, odd: &Odd) -> Result<(), AllocError> {
     }
 }
 
-/// Writes which calls ran during the wrong answers, and whether the next calls were right.
+/// Writes which changes ran during the wrong answers, and whether the next calls of the operation on their keys were right.
 fn put_around(out: &mut String, diagnosis: &Diagnosis, odd: &Odd) -> Result<(), AllocError> {
     if odd.wrong == 1 {
         return put_around_one(out, diagnosis, odd);
@@ -495,7 +501,8 @@ pub(crate) fn put_first(out: &mut String, diagnosis: &Diagnosis) -> Result<(), A
     }
 }
 
-/// Writes the known facts: how many calls or keys are wrong, and when.
+/// Writes the facts: how many replies or keys are wrong, and what ran at the same time. If there is no likely cause, also
+/// writes facts that otherwise support a cause.
 pub(crate) fn put_known(out: &mut String, diagnosis: &Diagnosis) -> Result<(), AllocError> {
     match &diagnosis.evidence.odd {
         Some(odd) => {
