@@ -826,7 +826,7 @@ const OF_WHY = [
   ...[/^because before (\d+) of the (\d+) times that a key was lost, a remove was among the overlapping changes of the key$/,
     /^because (\d+) of the (\d+) times that a key was lost or came back, an order would exist if one call had returned the opposite reply$/,
     /^because (\d+) of the (\d+) times that a key was lost or came back, a call that returned false can have made this change$/,
-    /^because no change of another key ran during (\d+) of the (\d+) times that a key was lost or came back \(in later periods of this length: \d{1,2}0?%\)$/,
+    /^because no change of another key ran during (\d+) of the (\d+) times that a key was lost or came back \(in other periods of this length: \d{1,2}0?%\)$/,
     /^because a smaller key was removed during (\d+) of the (\d+) times that a key was lost or came back, (?:and the smallest key is never affected|any other key during \d+)$/].map((pattern) =>
     [pattern, (it, [some, all], { tally }) => Number(some) <= Number(all) && Number(all) <= tally.lost + tally["came back"]]),
   [/^because keys are lost \((\d+)\)( and never come back)?, and at (\d+)(?: of (\d+))? losses (?:during one|that a call shows)/, (it, [lost, never, some, all], { tally }) =>

@@ -440,7 +440,7 @@ fn put_because_of_gone(
         ),
         Cause::NoLock => writeln!(
             out,
-            "no change of another key ran during {alone} of the {timed} times that a key was lost or came back (in later periods of this length: {quiet}%)"
+            "no change of another key ran during {alone} of the {timed} times that a key was lost or came back (in other periods of this length: {quiet}%)"
         ),
         Cause::OldCopy => writeln!(
             out,
@@ -448,7 +448,7 @@ fn put_because_of_gone(
         ),
         Cause::OldLink => writeln!(
             out,
-            "keys are lost ({lost}) more than they come back ({back}), and a change of another key ran during {beside} of {timed} such contradictions (in later periods of this length: {usual}%)"
+            "keys are lost ({lost}) more than they come back ({back}), and a change of another key ran during {beside} of {timed} such contradictions (in other periods of this length: {usual}%)"
         ),
         Cause::Unlinked if evidence.is_first_spared => writeln!(
             out,

@@ -10,7 +10,7 @@
 //! - `gone()`: losses and returns of keys. `timed()`: those that a call shows, not only the final keys.
 //! - `turned`: those that one opposite reply would explain. `silent`: those that one more add or remove that returned true,
 //!   instead of false, would explain.
-//! - `beside`: those that overlap a change of another key; `usual` is the percentage of later periods of the same length
+//! - `beside`: those that overlap a change of another key; `usual` is the percentage of other periods of the same length
 //!   that do. `below`: those that overlap a remove of a smaller key. `together`: those that overlap a loss or return of
 //!   another key; `usually_together` is the percentage by chance.
 //! - `made`: those that undo a known change. `own`: how many of these changes overlapped another change of the same key.
