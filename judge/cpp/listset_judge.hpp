@@ -165,7 +165,7 @@ constexpr range RANGES[] = {{"threads", 1, 64}, {"threads times calls", 1, 10000
 constexpr unsigned PART = 20000, LONGEST = 100, HOT = 4, ENOUGH = 5, HARDER = 2, PATIENCE = 10, MEET = 250, AWAKE = 300000, WITHIN = 60, STOPS = 128, AGAIN = 4, PATIENT = 40, MANY = 40, SOON = 4000, ALERT = 500, TRIES = 60, NEAR = 128, FURTHER = 4, FURTHER_FOR = 3, FURTHER_MOST = 10, CLEAR = 10, LONGER = 4, STOPS_PER = 5000;
 constexpr const char *OK = "ok: %s calls, and %s of them overlapped a change of their key";
 constexpr const char *FEW = "few calls overlapped, so ok means little: %s calls, and %s of them overlapped a change of their key";
-constexpr const char *TOO_FEW = "too few calls overlapped: %s of %s calls overlapped a change of their key, and at_least requires %s of 100. Use fewer keys, more threads, or a less busy machine";
+constexpr const char *TOO_FEW = "too few calls overlapped: %s of %s calls overlapped a change of their key, and at_least requires %s of 100. If the machine is busy, raise within. Otherwise use fewer keys or more threads";
 constexpr const char *FAILED_RUN = "%s\n\nseed %s (%s), %s threads%s; recorded in %s%s; judge: %s";
 constexpr const char *RANGE = "%s is %s, but must be %s to %s";
 constexpr const char *TWICE = "the key function returns %s for %s and for %s, but must return a different key for each number";

@@ -28,7 +28,7 @@ const (
 	manyLonger      = 4
 	sayOk           = "ok: %v calls, and %v of them overlapped a change of their key"
 	sayFew          = "few calls overlapped, so ok means little: %v calls, and %v of them overlapped a change of their key"
-	sayTooFew       = "too few calls overlapped: %v of %v calls overlapped a change of their key, and at_least requires %v of 100. Use fewer keys, more threads, or a less busy machine"
+	sayTooFew       = "too few calls overlapped: %v of %v calls overlapped a change of their key, and at_least requires %v of 100. If the machine is busy, raise within. Otherwise use fewer keys or more threads"
 	sayFailedRun    = "%v\n\nseed %v (%v), %v threads%v; recorded in %v%v; judge: %v"
 	sayRange        = "%v is %v, but must be %v to %v"
 	sayTwice        = "the key function returns %v for %v and for %v, but must return a different key for each number"

@@ -92,7 +92,7 @@ public final class Judge {
     private static final int PART = 20000, LONGEST = 100, HOT = 4, ENOUGH = 5, HARDER = 2, PATIENCE = 10, MEET = 250, AWAKE = 300000, WITHIN = 60, APART = 100, FURTHER = 4, FURTHER_FOR = 3, FURTHER_MOST = 10, CLEAR = 10, LONGER = 4;
     private static final String OK = "ok: %s calls, and %s of them overlapped a change of their key";
     private static final String FEW = "few calls overlapped, so ok means little: %s calls, and %s of them overlapped a change of their key";
-    private static final String TOO_FEW = "too few calls overlapped: %s of %s calls overlapped a change of their key, and at_least requires %s of 100. Use fewer keys, more threads, or a less busy machine";
+    private static final String TOO_FEW = "too few calls overlapped: %s of %s calls overlapped a change of their key, and at_least requires %s of 100. If the machine is busy, raise within. Otherwise use fewer keys or more threads";
     private static final String FAILED_RUN = "%s\n\nseed %s (%s), %s threads%s; recorded in %s%s; judge: %s";
     private static final String RANGE = "%s is %s, but must be %s to %s";
     private static final String TWICE = "the key function returns %s for %s and for %s, but must return a different key for each number";
