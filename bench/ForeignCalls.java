@@ -142,8 +142,7 @@ final class ForeignCalls {
 
     public static void main(String[] words) throws Throwable {
         int threads = Integer.parseInt(words[1]), calls = Integer.parseInt(words[2]), keys = Integer.parseInt(words[3]);
-        // Makes three runs to warm up, which are not timed: the virtual machine compiles the calls during the first
-        // runs.
+        // Makes three untimed runs, because the virtual machine compiles the calls during the first runs.
         for (int at = 0; at < 3; at++) {
             nanoseconds(opened(words[0], threads, WARM_UP_KEYS), WARM_UP_CALLS / threads, WARM_UP_KEYS);
         }

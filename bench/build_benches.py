@@ -1,6 +1,6 @@
-"""Builds the benches: Rattle programs that measure the library. The gate does not prove the benches. They are proved
-and built in a separate folder, together with their dependencies. In bench/, the names of the benches' source files end
-in `_`, because rt accepts .rt and .antt files only in crates.
+"""Proves and builds the benches (Rattle programs that measure the library) in a separate folder, with their
+dependencies. The gate does not prove the benches. In bench/, the benches' sources are named .rt_ and .antt_, because rt
+accepts .rt and .antt files only in crates.
 """
 
 import pathlib

@@ -1,5 +1,5 @@
-"""Measures how long calls on a set of liblistset take from C, C++, Rust, Java and Python, and compares the times with
-those of a different set that the language's threads can share.
+"""Measures calls on a set of liblistset from C, C++, Rust, Java and Python. Compares their times with calls on
+another set that the language's threads can share.
 """
 
 import os
@@ -39,8 +39,8 @@ path = "{source}"
 
 def foreign():
     """Prints the nanoseconds per call (the elapsed time divided by the number of calls of all threads) on sets of
-    several sizes, with one thread and with four threads. Each number is the median of several runs, which alternate
-    between the sets.
+    several sizes, with one thread and with four threads. Each number is the median of several runs. The runs
+    alternate between the sets.
     """
     if not (OUT / "lib" / "liblistset.a").exists():
         sys.exit("bench: foreign/out is missing: build it with foreign/build")
@@ -84,7 +84,7 @@ def by_c(room):
 
 
 def by_cpp(room):
-    """Returns the rows for C++. There is a row for libcds's skip list if Debian's package libcds-dev is installed."""
+    """Returns the rows for C++. libcds's skip list has a row if Debian's package libcds-dev is installed."""
     program, libcds = room / "of_cpp", ["-lcds"] * LIBCDS.exists()
     library = [f"-I{OUT}/include", OUT / "lib" / "liblistset.a", "-pthread", *libcds]
     compiled("g++", "-std=c++17", "-O2", BENCH / "foreign_calls.cpp", *library, "-o", program)

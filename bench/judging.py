@@ -35,10 +35,9 @@ RECORDINGS = {
 
 
 def judge():
-    """Prints the table of recordings. Each time is the minimum of several runs, which alternate between the two judges.
-    Each size is the peak memory. The instructions per call are counted in a recording with a tenth of the calls. The
-    last column is the number of instructions for the whole recording divided by the number for the recording with a
-    tenth of the calls.
+    """Prints the table of recordings. Each time is the minimum of several runs. The runs alternate between the two
+    judges. Each size is the peak memory. The instructions per call are counted in a recording with a tenth of the
+    calls. The last column is the ratio of the instructions for the whole recording and for the tenth.
     """
     measures = "`judge`, s", "KB", "by hand, s", "KB", "ratio of s", "of KB", "instructions a call", "by hand", "ratio", "ten times"
     heading("Recording", *measures)
@@ -65,9 +64,9 @@ def ratio(ours, hand):
 
 def instructions(programs, room, whole, calls, *asked):
     """Returns the table cells about instructions. The first two cells are the instructions per call of `judge` and of
-    the judge written by hand, counted in a recording with a tenth of the calls; the third cell is their ratio. The last
-    cell is how many times as many instructions `judge` needs for the whole recording as for the recording with a tenth
-    of the calls, or `-` for a recording of more than a million calls.
+    the judge written by hand, counted in a recording with a tenth of the calls. The third cell is their ratio. The last
+    cell is the ratio of `judge`'s instructions for the whole recording and for the tenth, or `-` if the recording has
+    more than a million calls.
     """
     file = write(f"{room}/tenth", calls // 10, *asked)
     ours, hand = (instructions_of(words, file) or 0 for words in programs)

@@ -64,7 +64,7 @@ impl Wanted {
         Wanted { protocol, port: port as u16, clients, at_once: at_once as usize, requests: requests as usize, keys }
     }
 
-    /// Returns what a client writes, as a list of byte strings. Each byte string contains `at_once` requests.
+    /// Returns the byte strings that a client writes, each with `at_once` requests.
     fn writes(&self, client: u64) -> Vec<Vec<u8>> {
         let mut drawn = 0x2545_f491_4f6c_dd1d ^ ((client + 1) << 32);
         let mut request = |_| {

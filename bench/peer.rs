@@ -1,11 +1,11 @@
-//! The baseline for sets that several threads call: the lists in `lists.rs`, and std's tree, which one lock protects.
+//! The baseline for sets that several threads call: the lists in `lists.rs`, and std's tree under one lock.
 //!   rustc -O peer.rs
 //!   peer each KIND THREADS QUOTA CALLS KEYS SEED     times each call, like `bench_calls KIND each ..`
 //!   peer whole KIND ..                               times rounds of all calls, like `bench_calls KIND whole ..`; here KIND can also be
 //!                                                    `mutex-tree`, which has no quota
 //! The times are printed on standard error. `each` prints two numbers for each operation: the total nanoseconds of the
-//! calls of all threads, and how many calls were left out because they lasted longer than `LONGEST`, for example
-//! because their thread was preempted. `whole` prints the elapsed nanoseconds. Standard output has the number of calls.
+//! calls of all threads, and the number of calls left out (longer than `LONGEST`). `whole` prints the elapsed
+//! nanoseconds. Standard output has the number of calls.
 
 mod lists;
 
@@ -16,7 +16,7 @@ use std::sync::Mutex;
 use std::time::{Duration, Instant};
 
 const LONGEST: u64 = 200_000;
-/// The minimum total time of the rounds. Rounds are repeated until their total time reaches the minimum.
+/// The minimum total time of the rounds: rounds are repeated until they have lasted this long.
 const ENOUGH: Duration = Duration::from_millis(100);
 const OPS: [(Op, &str); 3] = [(Op::Add, "add"), (Op::Remove, "remove"), (Op::Contains, "contains")];
 
@@ -51,7 +51,7 @@ impl Pcg {
     }
 }
 
-/// The arguments, in the order in which `listset run` takes them.
+/// The arguments, in the order of `listset run`.
 struct Wanted {
     threads: u64,
     quota: u64,

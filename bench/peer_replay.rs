@@ -1,5 +1,5 @@
 // A replayer of schedules (lists of calls and steps), written by hand for speed as the baseline for `listset replay`.
-// It accepts sets that are opened with keys, but does not support `ceiling`.
+// Accepts sets that are opened with keys, but no calls of `ceiling`.
 //   rustc -O peer_replay.rs;  peer_replay replay < schedule > report;  peer_replay check < report
 use std::collections::{BTreeMap, BTreeSet, HashMap, HashSet};
 use std::fmt::Write as _;

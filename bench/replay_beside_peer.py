@@ -10,8 +10,8 @@ LINES = {"`replay`, a step a line": "1", "`replay`, up to 16": "16"}
 
 
 def replay():
-    """Prints the time in milliseconds that the library and the baseline each take to replay a million events and to
-    check the resulting report, and the ratio of the times.
+    """Prints the time in milliseconds that the library and the baseline each need to replay a million events and to
+    check the report, and the ratio of the times.
     """
     heading("List", *(cell for it in [*LINES, "`check`, up to 16"] for cell in (it, "peer", "ratio")))
     maker, tool = built("bench_schedule"), built("listset")
@@ -28,7 +28,7 @@ def replay():
 
 def beside(ours, peer, given):
     """Returns the times of the commands `ours` and `peer` in milliseconds, and their ratio. Each time is the minimum of
-    several runs, which alternate between the two commands.
+    several runs. The runs alternate between the two commands.
     """
     us, them = least([seconds_of(it, given, os.devnull, 0) for it in (ours, peer)] for _ in range(RUNS))
     return f"{1000 * us:.1f}", f"{1000 * them:.1f}", f"{us / them:.2f}"

@@ -74,7 +74,8 @@ def loaded(load, protocol, server, clients, at_once):
 
 def server():
     """Prints the table of servers: thousands of requests per second, and the 99th percentile of the microseconds from a
-    write to the last of its answers. Each number is the median of several rounds, which alternate between the servers.
+    write to the last of its answers. Each number is the median of several rounds. The rounds alternate between the
+    servers.
     """
     tool = built("listset")
     servers = {kind: ("listset", lambda clients, kind=kind: listset(tool, kind, clients)) for kind in KINDS}

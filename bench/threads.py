@@ -18,7 +18,7 @@ MANY_RUNS = 25
 
 def calls():
     """Prints the table of calls by operation. Each number is the library's time divided by the time of the list written
-    by hand, and is the median of several runs, which alternate between the two programs.
+    by hand: the median of several runs. The runs alternate between the two programs.
     """
     timer, kind_names = built("bench_calls"), ("add", "remove", "contains")
     heads = (f"`{call}`" + f", {named(many)}" * (call == "add") for many in THREADS for call in kind_names)
@@ -36,8 +36,8 @@ def calls():
 
 
 def sizes():
-    """Prints the table of sizes: millions of calls per second. The keys are random, and about half of them are in the set.
-    Each number is the median of several runs, which alternate between the programs.
+    """Prints the table of sizes: millions of calls per second. The keys are random, and about half of them are in the
+    set. Each number is the median of several runs. The runs alternate between the programs.
     """
     heading("Set", *(f"{size:,}" + f" keys, {named(many)}" * (size == SIZES[0]) for many in THREADS for size in SIZES))
     with tempfile.TemporaryDirectory() as room:

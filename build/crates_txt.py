@@ -1,5 +1,5 @@
-"""Reads crates.txt, which lists the crates and the dependencies of each crate. `lay_out` makes a copy of the repository
-with some of the crates.
+"""Reads crates.txt: the crates, and the dependencies of each crate. `lay_out` makes a copy of the repository with some
+of the crates.
 """
 
 import pathlib
@@ -7,7 +7,7 @@ import re
 import shutil
 
 TOP = pathlib.Path(__file__).resolve().parent.parent
-# Matches the names of the test crates, which ./gate builds without a proof.
+# Matches the names of the test crates. ./gate builds test crates without a proof.
 TESTS = re.compile(r"tests_\w+|memory_calls")
 LEFT_OUT = shutil.ignore_patterns(".git", "out", "dist", "target", "__pycache__", "must-fail")
 NO_EDITS = shutil.ignore_patterns("out", "must-fail")

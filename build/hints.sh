@@ -1,6 +1,6 @@
-# Prints hints below an error at a terminal: an explanation of the error, and how to correct it. Sourced by ./listset, which
-# has the functions kind_of_file and names_of_commands, and sets two variables: `engine` is the command line of the program,
-# and `called` is the name that the user called the script by.
+# Prints hints below an error at a terminal: an explanation of the error, and how to correct it. Sourced by ./listset. Uses
+# the functions kind_of_file and names_of_commands of ./listset, and the variables `engine` (the command line of the
+# program) and `called` (the name that the user called the script by).
 
 # Sets `values` to the arguments of a command that are not options, and `texts` to the values of its options.
 read_words() {
@@ -203,8 +203,8 @@ explain_refusal() {
   echo "$file has no 'key' lines, so it says that the set is empty at the end. If its final keys are not known, write 'cut' instead of 'end': sed -i '\$s/^end\$/cut/' $file"
 }
 
-# Prints a hint about the name of a missing file, if the name is `help`, an example or a URL, begins with ~, or lacks only the
-# extension of an existing file. Prints nothing for other names.
+# Prints a hint about the name of a missing file: `help`, an example, a URL, a name that begins with ~, or a name that
+# lacks only the extension of an existing file. Prints nothing for other names.
 print_meant() {
   local command=$1 name=$2 found
   found=$(compgen -G "$(printf '%q' "$name").*" 2>/dev/null) || true

@@ -131,7 +131,9 @@ complete -o default -F _listset listset
 
 def for_zsh(said):
     def told(about):
-        """Escapes the description of an option or argument for _arguments and _describe, which expect it in single quotes."""
+        """Shortens a description, and removes the characters that are special in the quoted arguments of _arguments and
+        _describe.
+        """
         return re.sub(r"[:\[\]'\\]", "", about[:70])
 
     def spec(name, value, about):

@@ -17,8 +17,8 @@ import version_stamp
 
 SECONDS_BETWEEN = 60  # the time between two lines about the crates in progress
 MINUTES_OF_A_CRATE = 3  # the average time to prove a crate on one processor
-# IS_DONE matches the line in which rt reports that a crate is proved ("is kept" if rt had stored its proof). IS_ERROR
-# matches the lines that report an error or a missing proof.
+# IS_DONE matches rt's report of a proved crate ("is kept" if rt had stored the proof). IS_ERROR matches an error or a
+# missing proof.
 IS_DONE = re.compile(r"rt: (\w+) (?:proved|is kept: .*)")
 IS_ERROR = re.compile(r"(^|: )error[:[]|it is not proved that|^rt: \w+ NOT PROVED|^rt: .*FAILED")
 
@@ -140,7 +140,6 @@ def take_program(name, room, began):
     program.parent.mkdir(exist_ok=True)
     shutil.copy2(made, f"{program}.new")
     version_stamp.stamp(f"{program}.new", version_stamp.PROVED)
-    # The program gets the time at which the build began, so that it counts as older than sources edited during the
-    # build.
+    # Sources that were edited during the build must count as newer than the program.
     os.utime(f"{program}.new", (began, began))
     os.replace(f"{program}.new", program)

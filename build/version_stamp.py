@@ -1,5 +1,5 @@
-"""The version text of a program or a library: four lines that scripts can read. They state the version; the kit and the
-logic; the commit (zeros if the build is not from a commit); and whether the build is proved.
+"""The version text of a program or a library: four lines that scripts can read. The lines state the version, the kit
+and the logic, the commit (zeros if the build is not from a commit), and whether the build is proved.
 """
 
 import pathlib

@@ -1,10 +1,9 @@
-"""Checks docs/BELIEVE.md and believed.txt, which list the definitions that a reader of the public contracts must
-believe. Reports definitions and files that the two lists lack, and names on the lists for which no definition, function
-or clause exists.
+"""Checks docs/BELIEVE.md and believed.txt, two lists of the definitions that a reader of the public contracts must
+believe. Reports definitions and files that the lists lack, and listed names without a definition, function or clause.
 
 The search for definitions begins with the names in the signature and the clauses of each public function, and in the
-statements of public types and traits. It continues with the names in each definition that it finds, but not into
-lemmas, which the prover checks, or into invariants of types.
+statements of public types and traits. The search continues with the names in each definition found, but not in lemmas
+(the prover checks them) or in invariants of types.
 """
 
 import functools
@@ -97,13 +96,13 @@ def named(text, sign, names, others, own=()):
 
 @functools.cache
 def public_contracts():
-    """Returns the result of `contracts_in_sources`, which is computed only once."""
+    """Returns the contracts in the sources, computed only once."""
     return list(contracts_in_sources())
 
 
 def contracts_in_sources():
-    """Yields the contract of each public function, type and trait: the library, the item's name, the text of the contract,
-    and the definitions that the names in the text can refer to.
+    """Yields, for each public function, type and trait: the library, the item's name, its contract, and the definitions
+    that names in the contract can refer to.
     """
     for root in sorted(CRATES.glob("*/src/lib.rt")):
         texts = {it.stem: it.read_text(encoding="utf-8") for it in sorted(root.parent.rglob("*.rt"))}
@@ -191,7 +190,7 @@ def file_faults():
 
 
 def name_faults(top, rows):
-    """Yields two kinds of errors: a name in brackets, in a comment or on a page, for which no definition exists; and a
+    """Yields an error for each name in brackets, in a comment or on a page, without a definition; and for each
     definition that no row names.
     """
     known = {name for _, names in entries() for name in names}
@@ -204,8 +203,8 @@ def name_faults(top, rows):
 
 
 def function_faults(rows):
-    """Yields a message for each function in `rows` that does not exist, and for each clause in `rows` that is not an
-    `ensures` clause of the functions in the same row.
+    """Yields a message for each missing function in `rows`, and for each clause that is no `ensures` clause of the
+    functions in its row.
     """
     stated = {}
     for crate, name, text, _ in public_contracts():

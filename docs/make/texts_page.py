@@ -1,6 +1,6 @@
-"""Generates parts of two pages. The tables of errors in docs/TEXTS.md come from the sources: the comments of the
-causes, and the text of `listset faults`. The usage and arguments of the commands in docs/COMMANDS.md come from `listset
-help`. Also reports limits in docs/TEXTS.md that differ from the sources.
+"""Generates parts of two pages. The tables of errors in docs/TEXTS.md are generated from the comments of the causes and
+the text of `listset faults`. The usage and arguments in docs/COMMANDS.md are generated from `listset help`. Also
+reports limits in docs/TEXTS.md that differ from the sources.
 """
 
 import re
@@ -22,8 +22,8 @@ def faults_below(top, head):
 
 
 def table_of_causes(top):
-    """Returns the table of causes for which a line is refused: the comment of each variant of `Cause`, and the kinds of
-    files that `listset faults` names for the variant.
+    """Returns the table of the causes of a refused line: the comment of each variant of `Cause`, and the kinds of files
+    that `listset faults` names for the variant.
     """
     text = (top / "crates/lset_text/src/causes.rt").read_text()
     causes = re.findall(r"((?:^    /// .*\n)+)    (\w+),$", text.split("pub enum Cause {")[1].split("\n}")[0], re.M)
@@ -39,7 +39,7 @@ def table_of_causes(top):
 
 
 def table_of_orders(top):
-    """Returns the table, taken from `listset faults`, of the errors for which `listset check` refuses an order."""
+    """Returns the table of the errors in an order, as `listset faults` lists them for `listset check`."""
     return table(["Fault", "When"], [[f"`{name}`", when] for name, when in faults_below(top, "refused FAULT ID").items()])
 
 
