@@ -5,23 +5,23 @@
 // report is the result of a schedule: the calls with their replies, and an order that explains the replies. A draft is
 // a schedule that states where threads stop rather than how many steps they make.
 //
-// A function writes the program's output, or the line about its error, to the start of `room`. It returns the length of
-// the text in bytes and sets `*status`. If the length is greater than `size`, nothing is written to `room`. In that
+// A function writes the program's output, or the line about its error, to the start of `room`, sets `*status`, and
+// returns the length of the text in bytes. If the length is greater than `size`, nothing is written to `room`. In that
 // case, repeat the call with a buffer of that length, or use `listset_said`, which repeats the call.
 //
 //     size_t length;
 //     uint8_t status;
 //     char *said = listset_said(listset_check, report, strlen(report), &length, &status);
 //
-// docs/FOREIGN.md names the functions that print proved text. The caller has four duties, which no function checks:
+// docs/FOREIGN.md names the functions that print proved text. Four duties of the caller are not checked:
 // - No pointer is null, even if the length beside it is 0.
 // - `room` does not overlap a text. During a call, no other thread writes to the text or accesses `room` or the status.
-// - malloc, realloc and free belong to the same allocator. It aligns a block to each power of two up to 16 that divides
-//   its size.
+// - malloc, realloc and free belong to the same allocator, and a block is aligned to each power of two up to 16 that
+//   divides the block's size.
 // - No function is called in a signal handler, or in the forked child of a process with threads.
 //
-// Any number of threads may call at the same time. A call stores nothing for later calls. It does not block, except
-// that `listset_judge_from` waits for its input.
+// Any number of threads may call at the same time. A call stores nothing for later calls. No call blocks, except that
+// `listset_judge_from` waits for its input.
 //
 // THE SETS: each thread calls through its own seat. `listset_open` stores a seat that contains all seats of the set;
 // `listset_split` splits a seat off for one more thread; `listset_gather` merges one seat of a set into another. Once a
@@ -47,7 +47,7 @@
 // - sizes or keys are out of range;
 // - an allocation fails.
 //
-// The caller has three further duties, which no function checks:
+// Three further duties of the caller are not checked:
 // - A seat is initialized with LISTSET_NONE, written only by the functions of listset.h, passed by its address, and
 //   never copied.
 // - Only one thread at a time uses a seat. A seat passes from one thread to another when a thread is started or
@@ -74,7 +74,7 @@
 extern "C" {
 #endif
 
-/// The status that a function of the judge sets if it fails. If it succeeds, the status is LISTSET_OK, which is 0.
+/// The status that a function of the judge sets if the function fails. If it succeeds, the status is LISTSET_OK (0).
 enum {
   LISTSET_WRONG_TEXT = 1,  ///< An error in the text, an order that is refused, or an event that is not enabled.
   LISTSET_WRONG_VALUE = 2, ///< A value, an option or a name that does not exist.
@@ -102,9 +102,9 @@ size_t listset_judge(const char *recording, size_t length, char *room, size_t si
 /// bytes are enough.
 size_t listset_judge_from(int32_t file, char *room, size_t size, uint8_t *status);
 
-/// Diagnoses a recording that `listset_judge` refuses. Returns LISTSET_WRONG_TEXT and a text that names calls that show
-/// the error, the wrong operation, how often it is wrong, and a likely cause. Returns an empty text and LISTSET_OK if
-/// some order explains the recording, or if the text is not a recording. Tested, not proved.
+/// Diagnoses a recording that `listset_judge` refuses. Returns LISTSET_WRONG_TEXT and a text with calls that show the
+/// error, the wrong operation, how often it is wrong, and a likely cause. Returns an empty text and LISTSET_OK if some
+/// order explains the recording, or if the text is not a recording. Tested, not proved.
 size_t listset_why(const char *recording, size_t length, char *room, size_t size, uint8_t *status);
 
 /// Returns `ok` if the order in a report explains the report's calls, otherwise the first error in the order.
@@ -113,8 +113,8 @@ size_t listset_check(const char *report, size_t length, char *room, size_t size,
 /// Returns the trace of a schedule: a line for each event (a step, or the start of a call).
 size_t listset_trace(const char *schedule, size_t length, char *room, size_t size, uint8_t *status);
 
-/// Returns the trace of a schedule (a line for each event: a step, or the start of a call), with the chain of nodes
-/// after each event that changed the chain.
+/// Returns the trace of a schedule (a line for each event), with the chain of nodes after each event that changed the
+/// chain.
 size_t listset_trace_with_chains(const char *schedule, size_t length, char *room, size_t size, uint8_t *status);
 
 /// Expands a draft (a schedule that states where threads stop rather than how many steps they make) into a schedule.
@@ -134,17 +134,17 @@ typedef struct {
 } listset_plan;
 
 /// Draws a schedule or a report as text. `options` contains the values of --from, --to and --width, separated by zero
-/// bytes. Each value is empty, or `=` and a number. `listset_draw` takes a `listset_window` in place of `options`.
+/// bytes. Each value is empty, or `=` and a number. `listset_draw` has a `listset_window` in place of `options`.
 size_t listset_show(const char *text, size_t length, const char *options, size_t options_length, char *room, size_t size,
                     uint8_t *status);
 
-/// Draws a schedule or a report as an SVG. For `options`, see `listset_show`. `listset_draw_svg` takes a
-/// `listset_window` in place of `options`.
+/// Draws a schedule or a report as an SVG. For `options`, see `listset_show`. `listset_draw_svg` has a `listset_window`
+/// in place of `options`.
 size_t listset_show_svg(const char *text, size_t length, const char *options, size_t options_length, char *room, size_t size,
                         uint8_t *status);
 
 /// Generates a schedule. `values` are KIND THREADS QUOTA CALLS KEYS SEED, separated by zero bytes. `listset_generate`
-/// takes a `listset_plan` in place of `values`.
+/// has a `listset_plan` in place of `values`.
 size_t listset_gen(const char *values, size_t length, char *room, size_t size, uint8_t *status);
 
 /// Returns the names of all examples, each with its list and a description.
@@ -169,10 +169,9 @@ typedef struct {
 
 #define LISTSET_NONE {false, NULL}
 
-/// A receipt (proof of the calls that a seat has made so far), or nothing. In the order of all calls, the calls that a
-/// receipt covers precede the later calls of each seat that accepts the receipt. A receipt also covers the calls of the
-/// seats that had been merged into the issuing seat, and the calls covered by the receipts that the issuing seat had
-/// accepted. A receipt is initialized with LISTSET_NONE, and can be passed to any thread.
+/// A receipt (proof of the calls that a seat has made so far), or nothing. A receipt also covers the calls of merged
+/// seats and of accepted receipts. In the order of all calls, the covered calls precede the later calls of each seat
+/// that accepts the receipt. A receipt is initialized with LISTSET_NONE, and can be passed to any thread.
 typedef struct {
   bool full;
   void *at;
@@ -189,7 +188,7 @@ typedef enum LISTSET_BYTE listset_answer {
   LISTSET_AT = 3,          ///< Of ceiling: the key was written to *at.
   LISTSET_NOTHING = 4,     ///< Of ceiling: the set has no key at or above this one.
   LISTSET_MAY_BLOCK = 254, ///< Of contains_now: a coarse, fine or optimistic list. No call was made.
-  LISTSET_NO_SEAT = 255    ///< The seat is empty or a closed set; or the call gave up after 2^64 - 1 rounds, and the seat is lost.
+  LISTSET_NO_SEAT = 255    ///< The seat is empty or a closed set; or it is lost after a loop of 2^64 - 1 rounds.
 } listset_answer;
 
 /// The reply of a call. Compare the field `is`, as in `reply.is == LISTSET_TRUE`. A reply is a struct, so code that
@@ -218,19 +217,19 @@ typedef enum LISTSET_BYTE listset_fault {
 /// Returns a constant sentence that describes a fault.
 const char *listset_fault_text(listset_fault fault);
 
-/// Opens a set with `seats` seats (one for each thread) and with the `count` keys in `keys`, which must be in strictly
-/// increasing order. Each seat may add `quota` keys. Stores a seat in `out`, which must be empty. All other seats can
-/// be split off the seat in `out`. No two open sets may have the same `number`, because `listset_gather` compares the
-/// numbers of the two seats' sets.
+/// Opens a set with `seats` seats (one for each thread) and with the `count` keys in `keys`, in strictly increasing
+/// order. Each seat may add `quota` keys. Stores a seat in `out`; all other seats can be split off this seat. `out`
+/// must be empty. Two open sets must have different numbers, because `listset_gather` compares the sets of two seats by
+/// `number`.
 LISTSET_USED listset_fault listset_open(listset_list kind, uint32_t seats, uint32_t quota, uint64_t number, const uint32_t *keys,
                                         size_t count, listset_seat *out);
 
-/// Splits a seat (one thread's access to the set) off `seat` and stores it in `out`, which must be empty. Returns
-/// LISTSET_NO_MORE if no seat can be split off, because all seats have been split off or a seat was merged into `seat`.
+/// Splits a seat (one thread's access to the set) off `seat` and stores the new seat in `out`. `out` must be empty.
+/// Returns LISTSET_NO_MORE if all seats have been split off, or if a seat was merged into `seat`.
 LISTSET_USED listset_fault listset_split(listset_seat *seat, listset_seat *out);
 
-/// Adds a key. Replies LISTSET_TRUE if the key was absent, LISTSET_FALSE if the key was present, and LISTSET_FULL if
-/// the key is absent but the seat (one thread's access to the set) has used up its quota of adds.
+/// Adds a key. Replies LISTSET_TRUE if the key was absent, LISTSET_FALSE if it was present. Replies LISTSET_FULL if the
+/// key is absent but the seat (one thread's access to the set) has used up its quota of adds.
 LISTSET_USED listset_reply listset_add(listset_seat *seat, uint32_t key);
 
 /// Removes a key. Replies LISTSET_TRUE if the key was present, otherwise LISTSET_FALSE.
@@ -243,8 +242,8 @@ LISTSET_USED listset_reply listset_contains(listset_seat *seat, uint32_t key);
 /// LISTSET_NOTHING if there is none. On a lock-free list, the call can wait until another thread adds or removes a key.
 LISTSET_USED listset_reply listset_ceiling(listset_seat *seat, uint32_t key, uint32_t *at);
 
-/// Replies like `listset_contains`, but waits for no lock and takes at most `listset_most_reads` steps, whatever other
-/// threads do. Only for lazy and lock-free lists: on any other list, replies LISTSET_MAY_BLOCK without reading
+/// Replies like `listset_contains`, but waits for no lock and executes at most `listset_most_reads` steps, whatever
+/// other threads do. Only for lazy and lock-free lists: on any other list, replies LISTSET_MAY_BLOCK without reading
 /// the list.
 LISTSET_USED listset_reply listset_contains_now(listset_seat *seat, uint32_t key);
 
@@ -252,7 +251,7 @@ LISTSET_USED listset_reply listset_contains_now(listset_seat *seat, uint32_t key
 /// quota `quota` and with `opening` keys. Returns 0 if no set can be opened with these numbers.
 uint64_t listset_most_reads(uint32_t seats, uint32_t quota, uint32_t opening);
 
-/// Stores a receipt, a record of the calls of `seat` so far, in `out`, which must be empty. The receipt can be sent to
+/// Stores a receipt (a record of the calls of `seat` so far) in `out`. `out` must be empty. The receipt can be sent to
 /// another thread with any message.
 LISTSET_USED listset_fault listset_receipt_of(listset_seat *seat, listset_receipt *out);
 
@@ -276,9 +275,9 @@ LISTSET_USED listset_fault listset_close(listset_seat *seat);
 /// `room`. Returns the number of keys, or SIZE_MAX if `closed` is not a closed set.
 size_t listset_keys(listset_seat *closed, uint32_t *room, size_t places);
 
-/// Merges all seats (one for each thread) in the array `seats`, which has `places` elements, into the first element of
-/// the array, and closes the set. Elements of the array may be empty. If a seat of the set is missing, returns
-/// LISTSET_SEATS_OUT and changes nothing. After LISTSET_OUT_OF_MEMORY nothing is lost, and the call can be repeated.
+/// Merges all seats (one for each thread) in the `places` elements of `seats` into the first element, and closes the
+/// set. Elements of the array may be empty. If a seat of the set is missing, returns LISTSET_SEATS_OUT and changes
+/// nothing. After LISTSET_OUT_OF_MEMORY nothing is lost, and the call can be repeated.
 LISTSET_USED listset_fault listset_close_all(listset_seat *seats, size_t places);
 
 /// Closes a set, and opens a set of the list `kind` with the same keys. The array `seats` must contain all seats of the
@@ -292,7 +291,7 @@ LISTSET_USED listset_fault listset_close_all(listset_seat *seats, size_t places)
 LISTSET_USED listset_fault listset_renew(listset_seat *seats, size_t places, listset_list kind, uint32_t count, uint32_t quota,
                                          uint64_t number);
 
-/// Drops the contents of `seat`, which is empty afterwards. If a seat of a set (one for each thread) has been dropped,
+/// Drops the contents of `seat`. Afterwards `seat` is empty. If a seat of a set (one for each thread) has been dropped,
 /// the set cannot be closed.
 void listset_drop(listset_seat *seat);
 

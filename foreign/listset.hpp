@@ -69,9 +69,9 @@ inline said replay(std::string_view schedule) { return of_text(listset_replay, s
 /// Judges a recording (calls of any set, with their replies and times). Returns `ok N calls` if some order explains the
 /// recorded calls, otherwise calls that show why no order explains the recording.
 inline said judge_text(std::string_view recording) { return of_text(listset_judge, recording); }
-/// Diagnoses a recording that `judge_text` refuses. The result has the status LISTSET_WRONG_TEXT and a text that names
-/// calls that show the error, the wrong operation, how often it is wrong, and a likely cause. The text is empty if some
-/// order explains the recording, or if the argument is not a recording.
+/// Diagnoses a recording that `judge_text` refuses. The result has the status LISTSET_WRONG_TEXT and a text with calls
+/// that show the error, the wrong operation, how often it is wrong, and a likely cause. The text is empty if some order
+/// explains the recording, or if the argument is not a recording.
 inline said why(std::string_view recording) { return of_text(listset_why, recording); }
 /// Returns `ok` if the order in a report explains the report's calls, otherwise the first error in the order.
 inline said check(std::string_view report) { return of_text(listset_check, report); }
@@ -134,10 +134,9 @@ inline std::vector<uint32_t> keys_of(listset_seat &closed) {
   return keys;
 }
 
-/// A receipt (proof of the calls that a seat has made so far), or nothing. In the order of all calls, the calls that a
-/// receipt covers precede the later calls of each seat that accepts the receipt. A receipt also covers the calls of the
-/// seats that had been merged into the issuing seat, and the calls covered by the receipts that the issuing seat had
-/// accepted. A receipt can be moved but not copied, and can be passed to any thread.
+/// A receipt (proof of the calls that a seat has made so far), or nothing. A receipt also covers the calls of merged
+/// seats and of accepted receipts. In the order of all calls, the covered calls precede the later calls of each seat
+/// that accepts the receipt. A receipt can be moved but not copied, and can be passed to any thread.
 class receipt {
 public:
   receipt() = default;
@@ -171,7 +170,7 @@ public:
   }
   ~seat() { listset_drop(&raw); }
 
-  /// Splits a seat (one thread's access to the set) off this seat, so that one more thread can call the set.
+  /// Splits a seat off this seat, so that one more thread can call the set.
   seat split() {
     use held(*this);
     seat made;
@@ -179,8 +178,8 @@ public:
     return made;
   }
 
-  /// Adds a key. Returns `is_true` if the key was absent, `is_false` if the key was present, and `is_full` if the key
-  /// is absent but the seat (one thread's access to the set) has used up its quota of adds.
+  /// Adds a key. Returns `is_true` if the key was absent, `is_false` if it was present. Returns `is_full` if the key is
+  /// absent but the seat has used up its quota of adds.
   added add(uint32_t key) { return static_cast<added>(by(listset_add, key)); }
 
   /// Removes a key. Returns whether the key was present.
@@ -189,8 +188,8 @@ public:
   /// Returns whether a key is in the set.
   bool contains(uint32_t key) { return by(listset_contains, key) == LISTSET_TRUE; }
 
-  /// Returns whether a key is in the set, like `contains`, but waits for no lock and takes at most `most_reads` steps,
-  /// whatever other threads do. Only for lazy and lock-free lists: on any other list, throws with
+  /// Returns whether a key is in the set, like `contains`, but waits for no lock and executes at most `most_reads`
+  /// steps, whatever other threads do. Only for lazy and lock-free lists: on any other list, throws with
   /// LISTSET_READS_BLOCK.
   bool contains_now(uint32_t key) {
     listset_answer answer = by(listset_contains_now, key);
@@ -282,8 +281,8 @@ inline uint64_t next_number() {
   return sets++;
 }
 
-/// Opens a set with keys in strictly increasing order. Returns a seat (one thread's access to the set), off which all
-/// other seats can be split.
+/// Opens a set with keys in strictly increasing order. Returns a seat (one thread's access to the set). All other seats
+/// can be split off this seat.
 inline seat open(list kind, uint32_t seats, uint32_t quota, const std::vector<uint32_t> &keys = {}) {
   seat made;
   uint32_t none = 0;
@@ -306,13 +305,13 @@ inline void renew(std::vector<seat> &seats, list kind, uint32_t count, uint32_t 
   seats.resize(count);
 }
 
-/// A set that renews itself: when a seat (one thread's access to the set) has used up its quota of adds, the set is
-/// closed, and a new set is opened with the same keys.
+/// A set that renews itself: when a seat (one thread's access) has used up its quota of adds, a new set with the same
+/// keys replaces the set.
 ///
 /// A thread gets its own seat from `split`; the seat's destructor returns the seat to the set. Calls wait during a
 /// renewal. The renewal waits for pending calls, but not for threads that are between two calls. A call waits for other
 /// calls for at most `patience`. After that, the call throws with LISTSET_TIMED_OUT and has no effect. docs/FOREIGN.md
-/// states what is promised about the order of calls.
+/// states the promised order of calls.
 class renewed_set {
   // A place in the set: a seat with its lock, and whether a thread has the seat.
   struct alignas(128) place {
@@ -339,8 +338,8 @@ class renewed_set {
   static constexpr std::chrono::milliseconds LONG{5};
 
   // Locks `lock`. On a lock-free list, the holder of `lock` can be in a `ceiling` that retries until another call
-  // unlinks a marked node. Therefore, if the seat in `helper` has used up its quota of adds, the waiting thread calls
-  // `add` with that seat: the `add` unlinks the node, but cannot add a key.
+  // unlinks a marked node. If the seat in `helper` has used up its quota of adds, the waiting thread therefore calls
+  // `add` with the seat: the `add` unlinks the node, but adds no key.
   //
   // `helper` is the caller's own place (its seat with the seat's lock) if the caller is locking all places, otherwise
   // null. After a caller with a `helper` has waited for 5 ms, new calls of other threads wait too, except calls that
@@ -467,7 +466,7 @@ public:
     }
 
     /// Adds a key, and renews the set if the thread's seat has used up its quota of adds. Returns `is_full` only if the
-    /// quota is 0, or if the set has more than 1,048,576 keys, because no set can be opened with so many keys.
+    /// quota is 0, or if the set has more than 1,048,576 keys (the maximum for opening a set).
     added add(uint32_t key) {
       const auto call = [&](place &it) { return add_from(it, key); };
       added answer = by(call);
@@ -528,8 +527,8 @@ public:
     throw fault(LISTSET_NO_MORE);
   }
 
-  /// Renews the set and returns the keys that it has during the renewal. Throws with LISTSET_BAD_KEYS if the set has
-  /// more than 1,048,576 keys.
+  /// Renews the set and returns its keys at the renewal. Throws with LISTSET_BAD_KEYS if the set has more than
+  /// 1,048,576 keys.
   std::vector<uint32_t> keys() {
     all_taken all(*this, places.front());
     if (keys_now() > MOST_OPENING) throw fault(LISTSET_BAD_KEYS);

@@ -52,9 +52,9 @@ FIRST_ROOM = 1 << 16  # the size of the first buffer for a text, in bytes
 
 
 class Wrong(Exception):
-    """The program's error. `status` is 1 for a wrong text, 2 for a wrong argument, and 3 if memory ran out. `text` is the
-    text that the program would print. If a line of the text is wrong, `line` is its number, counted from 1, and `cause`
-    is the name of the cause, which `faults()` explains. Otherwise `line` and `cause` are None.
+    """The program's error. `status` is 1 for a wrong text, 2 for a wrong argument, and 3 if memory ran out. `text` is
+    the text that the program would print. If a line of the text is wrong, `line` is its number, counted from 1, and
+    `cause` is the name of the cause (see `faults()`). Otherwise `line` and `cause` are None.
     """
 
     def __init__(self, text, status):
@@ -308,17 +308,17 @@ def _closed_keys(closed):
 
 
 class Receipt:
-    """A receipt: proof of the calls that a seat has made so far. In the order of all calls, the calls that a receipt
-    covers precede the later calls of each seat that accepts the receipt. A receipt also covers the calls of the seats
-    that had been merged into the issuing seat, and the calls covered by the receipts that the issuing seat had
-    accepted. A receipt can be passed to any thread.
+    """A receipt: proof of the calls that a seat has made so far. A receipt also covers the calls of merged seats and of
+    accepted receipts. In the order of all calls, the covered calls precede the later calls of each seat that accepts
+    the receipt. A receipt can be passed to any thread.
     """
 
     def __init__(self):
         self.raw = _Raw()
 
     def drop(self):
-        """Drops the receipt (proof of the calls that a seat has made), which is empty afterwards."""
+        """Drops the contents of the receipt (proof of the calls that a seat has made). Afterwards the receipt is empty.
+        """
         _DROP(self.raw)
 
     __del__ = drop
@@ -354,8 +354,8 @@ class Seat:
         return reply
 
     def split(self):
-        """Splits a seat (one thread's access to the set) off this seat, so that one more thread can call the set. No
-        seat can be split off a seat into which another seat was merged.
+        """Splits a seat off this seat, so that one more thread can call the set. No seat can be split off a seat into
+        which another seat was merged.
         """
         made = Seat()
         with self._used():
@@ -392,7 +392,7 @@ class Seat:
     __contains__ = contains
 
     def contains_now(self, key):
-        """Returns whether a key is in the set, like `contains`, but waits for no lock and takes at most `most_reads`
+        """Returns whether a key is in the set, like `contains`, but waits for no lock and executes at most `most_reads`
         steps, whatever other threads do. Only for lazy and lock-free lists: on any other list, raises `Fault`.
         """
         reply = self._reply(_NOW, key)
@@ -460,8 +460,8 @@ def most_reads(seats, quota, keys=0):
 
 
 def open_set(kind, seats, quota, keys=()):
-    """Opens a set with keys in strictly increasing order. Returns a seat (one thread's access to the set), off which
-    all other seats can be split.
+    """Opens a set with keys in strictly increasing order. Returns a seat (one thread's access to the set). All other
+    seats can be split off this seat.
     """
     made, keys, index = Seat(), list(keys), LISTS.index(_list(kind))
     sizes = _number(seats, "number of seats"), _number(quota, "quota"), next(_NUMBERS)
@@ -469,7 +469,7 @@ def open_set(kind, seats, quota, keys=()):
     return made
 
 
-open = open_set  # listset.open. It is not in __all__: `from listset import *` keeps Python's own open.
+open = open_set  # listset.open; not in __all__, so that `from listset import *` keeps Python's own open
 
 
 def _of_all(seats, call):
@@ -487,10 +487,10 @@ def _renew(seats, kind, quota):
 
 def renew(seats, kind, count, quota):
     """Closes a set, and opens a set of the list `kind` with the same keys. `seats` must contain all seats of the old
-    set (one for each thread). Returns the `count` seats of the new set, each with the quota `quota`. During the call,
-    no thread may use a seat in `seats`. If `renew` raises, nothing is lost. Either the set is still open, and `seats`
-    contains all its seats (some seats can have been merged into others), or the first seat in `seats` is a closed set,
-    whose `close` returns the keys.
+    set (one for each thread). Returns `count` seats of the new set, each with the quota `quota`. During the call, no
+    thread may use a seat in `seats`. If `renew` raises, nothing is lost. If the set is still open, `seats` contains all
+    its seats (some merged into others). Otherwise the first seat in `seats` is the closed set, and its `close` returns
+    the keys.
     """
     given, many, kind = list(seats), _number(count, "number of seats"), _list(kind)
     places = given + [Seat() for _ in range(len(given), min(many, 64))]
@@ -592,13 +592,13 @@ class _Place:
 
 
 class RenewedSet:
-    """A set that renews itself: when a seat (one thread's access to the set) has used up its quota of adds, the set is
-    closed, and a new set is opened with the same keys.
+    """A set that renews itself: when a seat (one thread's access) has used up its quota of adds, a new set with the
+    same keys replaces the set.
 
     A thread gets its own seat from `split`, and returns it with `drop` or at the end of a `with` block. Calls wait
     during a renewal. The renewal waits for pending calls, but not for threads that are between two calls. A call waits
     for other calls for at most `patience` seconds (without limit if `patience` is None). After that, the call raises
-    `TimedOut` and has no effect. docs/FOREIGN.md states what is promised about the order of calls.
+    `TimedOut` and has no effect. docs/FOREIGN.md states the promised order of calls.
     """
 
     def __init__(self, kind, seats, quota, keys=(), *, patience=None):
@@ -620,8 +620,7 @@ class RenewedSet:
         return OwnSeat(self, place)
 
     def keys(self):
-        """Renews the set and returns the keys that it has during the renewal. Raises `Fault` if the set has more than
-        1,048,576 keys.
+        """Renews the set and returns its keys at the renewal. Raises `Fault` if the set has more than 1,048,576 keys.
         """
         with self._all_taken(self._places[0]):
             if self._keys_now() > MOST_OPENING:
@@ -642,8 +641,8 @@ class RenewedSet:
 
     def _lock(self, lock, helper=None):
         """Locks `lock`. On a lock-free list, the holder of `lock` can be in a `ceiling` that retries until another call
-        unlinks a marked node. Therefore, if the seat in `helper` has used up its quota of adds, the waiting thread
-        calls `add` with that seat: the `add` unlinks the node, but cannot add a key.
+        unlinks a marked node. If the seat in `helper` has used up its quota of adds, the waiting thread therefore calls
+        `add` with the seat: the `add` unlinks the node, but adds no key.
 
         `helper` is the caller's own place (its seat with the seat's lock) if the caller is locking all places,
         otherwise None. After a caller with a `helper` has waited for 5 ms, new calls of other threads wait too, except
@@ -757,7 +756,7 @@ class OwnSeat:
 
     def try_add(self, key):
         """Adds a key, and renews the set if the thread's seat has used up its quota of adds. Returns `Added.FULL` only
-        if the quota is 0, or if the set has more than 1,048,576 keys, because no set can be opened with so many keys.
+        if the quota is 0, or if the set has more than 1,048,576 keys (the maximum for opening a set).
         """
         added = self._by(lambda it: it.try_add(key))
         if added is Added.FULL:
@@ -768,7 +767,7 @@ class OwnSeat:
     def add(self, key):
         """Adds a key, and renews the set if the thread's seat has used up its quota of adds. Returns True if the key
         was absent, False if it was present. Raises `Full` only if the quota is 0, or if the set has more than 1,048,576
-        keys, because no set can be opened with so many keys.
+        keys (the maximum for opening a set).
         """
         added = self.try_add(key)
         if added is Added.FULL:

@@ -1,5 +1,5 @@
 // The library's version, and a sentence for each fault. foreign/build defines the macros TOLD (the version text) and
-// NUMBER.
+// NUMBER (the version as a number).
 const char *listset_version(void) { return TOLD; }
 
 unsigned listset_version_number(void) { return NUMBER; }

@@ -1,5 +1,5 @@
-//! Finds `liblistset.a`. If the environment variable `LISTSET_LIB` is set, looks in the folder that the variable names,
-//! otherwise in the crate's folder `lib`, or in the folder `lib` of an installation by `foreign/build`.
+//! Finds `liblistset.a` in the folder that the environment variable `LISTSET_LIB` names. If the variable is not set,
+//! searches the crate's folder `lib`, and the folder `lib` of an installation by `foreign/build`.
 use std::env;
 use std::path::{Path, PathBuf};
 

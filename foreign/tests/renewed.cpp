@@ -77,8 +77,8 @@ static void write(FILE *file, const std::vector<std::vector<recorded>> &calls, c
   std::fprintf(file, "end\n");
 }
 
-// Returns whether the judge accepts the calls of threads that add and remove the same keys while another thread asks
-// for the keys.
+// Returns whether the judge accepts calls of threads that add and remove the same keys while another thread calls
+// `keys`.
 static bool is_explained(const char *path, list kind, uint32_t quota, size_t many) {
   renewed_set set(kind, THREADS, quota, {std::begin(OPENING), std::end(OPENING)});
   std::vector<std::future<std::vector<recorded>>> threads;
@@ -107,8 +107,8 @@ template <auto Places> struct reach {
 };
 template struct reach<&renewed_set::places>;
 
-// Checks that no call waits for a thread that is between two calls. Also checks that the calls of all other threads time out
-// while one thread stays in a call.
+// Checks that no call waits for a thread between two calls, and that the calls of all other threads time out while one
+// thread stays in a call.
 static void expect_patience() {
   renewed_set set(list::lazy, 2, 2, {}, 20ms);
   auto mine = set.split(), rests = set.split();

@@ -1,6 +1,6 @@
-// Tests each list with threads that share one set. For its own keys, a thread compares the replies with a model. For
-// shared keys, the thread counts the changes: the number of adds minus the number of removes that returned true must be
-// 1 if the set has the key at the end, otherwise 0.
+// Tests each list with threads that share one set. For its own keys, a thread compares the replies with a model. For a
+// shared key, all threads count together: 1 if the set was opened with the key, plus the adds and minus the removes
+// that returned true. The count must be 1 if the set has the key at the end, otherwise 0.
 //
 //     sets CALLS THREADS     at most 64 threads
 #include "listset.h"

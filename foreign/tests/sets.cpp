@@ -75,10 +75,10 @@ static bool is_right_shared(list kind) {
   return found == 4000 && set.contains(1) && set.ceiling(3) == 4u && set.close() == due;
 }
 
-// Adds keys from several threads, more than all quotas together allow. Returns whether the number of adds that return
-// true is the sum of the quotas, and the set then has exactly the added keys.
+// Adds more keys from several threads than all quotas together allow. Returns whether the adds that return true use up
+// all quotas, and the set then has exactly the added keys.
 static bool is_filled(uint32_t seats, uint32_t quota) {
-  listset::shared set(list::lock_free, seats, quota); // This list is lock-free, so a wrong call cannot leave a lock held.
+  listset::shared set(list::lock_free, seats, quota); // The list is lock-free, so that a wrong call cannot leave a lock held.
   std::vector<std::vector<uint32_t>> added_by(4);
   std::vector<std::thread> threads;
   for (uint32_t at = 0; at < 4; at++)
@@ -94,7 +94,7 @@ static bool is_filled(uint32_t seats, uint32_t quota) {
 }
 
 // Adds the same keys from four threads, exactly as many keys as all quotas together allow. Returns the number of adds
-// that return full. This number must be 0: when all quotas are used up, all keys are present.
+// that return full. The number must be 0: when all quotas are used up, all keys are present.
 static int full_too_soon() {
   const uint32_t many = 1000;
   listset::shared set(list::lazy, 2, many / 2);

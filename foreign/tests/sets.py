@@ -16,8 +16,8 @@ ENDS = [0, 2**32 - 1]  # the smallest and the largest key
 
 def calls_of(seat, number, kinds):
     """Calls operations with keys that all threads use, and with keys that only thread `number` uses. Returns, for each
-    shared key, the thread's number of adds minus its number of removes that returned true, and those of the thread's
-    own keys that the set contains at the end. `kinds` is the number of operations: 4, or 3 without `ceiling`.
+    shared key, the number of adds minus the number of removes that returned true. Also returns the thread's own keys
+    that the set contains at the end. `kinds` is the number of operations: 4, or 3 without `ceiling`.
     """
     draws, net, own = random.Random(number), [0] * KEYS, set()
     for _ in range(CALLS):
@@ -108,8 +108,7 @@ def raised(call, *values):
 
 
 def numbers():
-    """Checks that integers that do not fit into 32 bits, and values that are not integers, raise an error and do not
-    change the set.
+    """Checks that integers beyond 32 bits, and values that are no integers, raise an error and do not change the set.
     """
     mine = listset.open_set("lazy", 1, 4, [1, 5])
     calls = [mine.add, mine.remove, mine.contains, mine.ceiling, *(lambda it, at=at: opened(at, it) for at in range(4))]
@@ -274,7 +273,7 @@ def pages():
 
 
 def memory():
-    """Checks that sets to which no reference remains are freed. Each set in the test needs about 3 MB."""
+    """Checks that sets without references are freed. Each set in the test needs about 3 MB."""
     before = pages()
     for _ in range(60):
         listset.open_set("lazy", 8, 16384).split()

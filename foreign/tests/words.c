@@ -86,7 +86,7 @@ int main(int count, char **words) {
   uint8_t status = 255;
   read_words(count - 2, words + 2);
   size_t length = asked(words[1], &status);
-  // Only an error line begins with `listset: `, and goes to standard error.
+  // Only an error line begins with `listset: `. An error line is written to standard error.
   fwrite(room, 1, length, length >= 9 && memcmp(room, "listset: ", 9) == 0 ? stderr : stdout);
   return status;
 }

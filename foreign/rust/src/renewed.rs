@@ -1,5 +1,5 @@
-//! A set that renews itself: when a seat (one thread's access to the set) has used up its quota of adds, a new set with
-//! the same keys replaces the old one.
+//! A set that renews itself: when a seat (one thread's access) has used up its quota of adds, a new set with the same
+//! keys replaces the set.
 
 use std::sync::atomic::{AtomicBool, Ordering};
 use std::sync::{Mutex, MutexGuard, TryLockError};
@@ -13,13 +13,13 @@ const POLL: Duration = Duration::from_micros(50);
 const LONG: Duration = Duration::from_millis(5);
 const MOST_OPENING: u64 = 1 << 20;
 
-/// A set that renews itself: when a seat (one thread's access to the set) has used up its quota of adds, the set is
-/// closed, and a new set is opened with the same keys.
+/// A set that renews itself: when a seat (one thread's access) has used up its quota of adds, a new set with the same
+/// keys replaces the set.
 ///
 /// A thread gets its own seat from [`RenewedSet::split`], and returns the seat by dropping it. Calls wait during a
 /// renewal. The renewal waits for pending calls, but not for threads that are between two calls. A call waits for other
 /// calls for at most [`patience`](RenewedSet::with_patience). After that, the call returns [`Fault::TimedOut`] and has
-/// no effect. The page FOREIGN.md states what is promised about the order of calls.
+/// no effect. The page FOREIGN.md states the promised order of calls.
 ///
 /// ```
 /// use listset::{List, RenewedSet};
@@ -66,8 +66,8 @@ struct Part {
     removes: u64,
 }
 
-/// The stage of the set. All places (seats with their locks) store the same stage, which changes only while all places
-/// are locked.
+/// The stage of the set. All places (seats with their locks) store the same stage. The stage changes only while all
+/// places are locked.
 #[derive(Clone, Copy, Debug, PartialEq)]
 enum Stage {
     Open,
@@ -148,8 +148,8 @@ impl All<'_> {
 }
 
 impl RenewedSet {
-    /// Opens a set that contains `keys`, which must be in strictly increasing order. The set has `seats` seats (one for
-    /// each thread), 1 to 64. Each seat can add `quota` keys before the set has to be renewed.
+    /// Opens a set with 1 to 64 `seats` (one for each thread), and with `keys` in strictly increasing order. A seat can
+    /// add `quota` keys before the set is renewed.
     pub fn open(list: List, seats: u32, quota: u32, keys: &[u32]) -> Result<RenewedSet, Fault> {
         let mut all = vec![open(list, seats, quota, keys)?];
         while all.len() < seats as usize {
@@ -175,8 +175,8 @@ impl RenewedSet {
         found.map(|place| OwnSeat { set: self, place }).ok_or(Fault::NoMore)
     }
 
-    /// Renews the set and returns the keys that it has during the renewal. Returns [`Fault::Keys`] if the set has more
-    /// than 1,048,576 keys.
+    /// Renews the set and returns its keys at the renewal. Returns [`Fault::Keys`] if the set has more than 1,048,576
+    /// keys.
     pub fn keys(&self) -> Result<Vec<u32>, Fault> {
         let mut all = self.all(0)?;
         if all.keys_now() > MOST_OPENING {
@@ -201,8 +201,8 @@ impl RenewedSet {
     }
 
     /// Locks `lock`. On a lock-free list, the holder of `lock` can be in a `ceiling` that retries until another call
-    /// unlinks a marked node. Therefore, if the seat in `helper` has used up its quota of adds, the waiting thread
-    /// calls `add` with that seat: the `add` unlinks the node, but cannot add a key.
+    /// unlinks a marked node. If the seat in `helper` has used up its quota of adds, the waiting thread therefore calls
+    /// `add` with the seat: the `add` unlinks the node, but adds no key.
     ///
     /// `helper` is the caller's own place (its seat with the seat's lock) if the caller is locking all places,
     /// otherwise `None`. After a caller with a `helper` has waited for 5 ms, new calls of other threads wait too,
@@ -289,7 +289,7 @@ pub struct OwnSeat<'a> {
 
 impl OwnSeat<'_> {
     /// Adds a key, and renews the set if the thread's seat has used up its quota of adds. Returns [`Added::Full`] only
-    /// if the quota is 0, or if the set has more than 1,048,576 keys, because no set can be opened with so many keys.
+    /// if the quota is 0, or if the set has more than 1,048,576 keys (the maximum for opening a set).
     pub fn add(&mut self, key: u32) -> Result<Added, Fault> {
         let mut added = self.set.by(self.place, |it| it.add(key))?;
         if added == Added::Full {
@@ -337,7 +337,7 @@ mod tests {
     /// Tests calls of other threads during a long call of one thread: the calls of the other threads time out and have
     /// no effect. After the long call has ended, calls succeed again.
     #[test]
-    fn a_call_that_does_not_return_makes_others_time_out() {
+    fn calls_time_out_during_a_long_call_of_another_thread() {
         let set = RenewedSet::open(List::Lazy, 2, 1, &[]).unwrap().with_patience(Duration::from_millis(20));
         let mut seat = set.split().unwrap();
         assert_eq!(seat.add(1), Ok(Added::True));

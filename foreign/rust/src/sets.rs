@@ -104,8 +104,8 @@ impl Display for Fault {
 
 impl Error for Fault {}
 
-/// An error that hands the refused argument back to the caller. `?` converts it to a boxed error, or to its [`Fault`];
-/// a conversion to a [`Fault`] drops the argument.
+/// An error that contains the refused argument. `?` converts the error to a boxed error or to its [`Fault`]; the
+/// conversion to a [`Fault`] drops the argument.
 #[derive(Debug)]
 pub struct Refused<B> {
     /// The refused argument.
@@ -164,14 +164,13 @@ pub struct Seat {
 // SAFETY: the crate ffi_sets proves that the contents of a seat can be passed to another thread.
 unsafe impl Send for Seat {}
 
-// SAFETY: apart from `Debug`, no function takes a `&Seat`, so threads that share a seat can only print it. (`Sync` is
-// required because `?` converts an error with a seat to `Box<dyn Error + Send + Sync>`.)
+// SAFETY: apart from `Debug`, no function has a parameter `&Seat`, so threads that share a seat can only print the
+// seat. (`Sync` is required because `?` converts an error with a seat to `Box<dyn Error + Send + Sync>`.)
 unsafe impl Sync for Seat {}
 
-/// A receipt: proof of the calls that a seat has made so far. In the order of all calls, the calls that a receipt
-/// covers precede the later calls of each seat that accepts the receipt. A receipt also covers the calls of the seats
-/// that had been merged into the issuing seat, and the calls covered by the receipts that the issuing seat had
-/// accepted. A receipt can be passed to any thread.
+/// A receipt: proof of the calls that a seat has made so far. A receipt also covers the calls of merged seats and of
+/// accepted receipts. In the order of all calls, the covered calls precede the later calls of each seat that accepts
+/// the receipt. A receipt can be passed to any thread.
 #[derive(Debug)]
 pub struct Receipt {
     raw: Raw,
@@ -180,7 +179,8 @@ pub struct Receipt {
 // SAFETY: the crate ffi_sets proves that the contents of a receipt can be passed to another thread.
 unsafe impl Send for Receipt {}
 
-// SAFETY: apart from `Debug`, no function takes a `&Receipt`, so threads that share a receipt can only print it.
+// SAFETY: apart from `Debug`, no function has a parameter `&Receipt`, so threads that share a receipt can only print
+// the receipt.
 unsafe impl Sync for Receipt {}
 
 /// Returns the maximum number of steps of [`Seat::contains_now`] on a list that is opened for `seats` threads, with the
@@ -197,7 +197,7 @@ pub(crate) fn next_number() -> u64 {
 }
 
 /// Opens a set with `seats` seats (one for each thread) and with keys in strictly increasing order. Each seat may add
-/// `quota` keys. Returns a seat off which all other seats can be split.
+/// `quota` keys. Returns a seat; all other seats can be split off this seat.
 pub fn open(list: List, seats: u32, quota: u32, keys: &[u32]) -> Result<Seat, Fault> {
     let mut made = Seat { raw: NONE };
     // SAFETY: the pointers point to a slice and to an empty seat. No other set in the program has the number that
@@ -216,7 +216,7 @@ pub enum Left {
 }
 
 /// Closes a set, and opens a set of the list `list` with the same keys. `seats` must contain all seats (one for each
-/// thread) of the old set. Returns the `count` seats of the new set, each with the quota `quota`.
+/// thread) of the old set. Returns `count` seats of the new set, each with the quota `quota`.
 ///
 /// ```
 /// use listset::{open, renew, Added, List};
@@ -288,8 +288,8 @@ pub(crate) fn keys_of(closed: &mut Raw) -> Option<Vec<u32>> {
 
 // SAFETY of each call in the functions of `Seat`: `&mut self` is a seat that only the current thread uses.
 impl Seat {
-    /// Splits a seat (one thread's access to the set) off this seat, so that one more thread can call the set. Returns
-    /// [`Fault::NoMore`] if all seats have been split off, or if a seat was [merged](Seat::gather) into this seat.
+    /// Splits a seat off this seat, so that one more thread can call the set. Returns [`Fault::NoMore`] if all seats
+    /// have been split off, or if a seat was [merged](Seat::gather) into this seat.
     pub fn split(&mut self) -> Result<Seat, Fault> {
         let mut made = Seat { raw: NONE };
         told(unsafe { listset_split(&mut self.raw, &mut made.raw) })?;
@@ -316,7 +316,7 @@ impl Seat {
         replied(unsafe { listset_contains(&mut self.raw, key) }) == TRUE
     }
 
-    /// Returns whether a key is in the set, like `contains`, but waits for no lock and takes at most [`most_reads`]
+    /// Returns whether a key is in the set, like `contains`, but waits for no lock and executes at most [`most_reads`]
     /// steps, whatever other threads do. Only for lazy and lock-free lists: on any other list, returns
     /// [`Fault::ReadsBlock`].
     pub fn contains_now(&mut self, key: u32) -> Result<bool, Fault> {

@@ -105,7 +105,7 @@ mod tests {
     /// Tests calls while only one seat is free. Two threads call the set one after the other, so at least one thread
     /// finds the first seat that it tries occupied.
     #[test]
-    fn a_call_takes_a_seat_that_no_other_uses() {
+    fn a_call_uses_a_free_seat() {
         for (seats, free) in [2, 3, 8].into_iter().flat_map(|seats| (0..seats).map(move |free| (seats, free))) {
             let set = Arc::new(Shared::open(List::LockFree, seats as u32, 2, &[]).unwrap());
             let others = set.seats.iter().enumerate().filter(|(at, _)| *at != free);

@@ -39,7 +39,7 @@ fn each_example_is_judged_in_each_thread() {
 }
 
 #[test]
-fn each_function_says_its_own() {
+fn each_function_returns_its_own_text() {
     let schedule = example("snip").unwrap();
     let report = replay(&schedule).unwrap();
     assert!(!trace(&schedule).unwrap().contains("\nchain") && trace_with_chains(&schedule).unwrap().contains("\nchain"));
@@ -83,7 +83,7 @@ fn a_recording_is_judged() {
 }
 
 #[test]
-fn what_is_wrong_comes_with_its_status() {
+fn errors_have_their_status() {
     let broken = broken_example("snip").unwrap();
     let Wrong { text, status } = check(&broken).expect_err("a broken report is taken");
     assert!(text.starts_with("refused ") && status == 1, "{text}");

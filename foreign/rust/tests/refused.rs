@@ -69,7 +69,7 @@ unsafe extern "C" fn free(block: *mut c_void) {
     __libc_free(block)
 }
 
-/// The first step that failed in the life of a set, which is opened, used and closed.
+/// The first step that failed while a set was opened, used and closed.
 #[derive(PartialEq)]
 enum Told {
     Open,
@@ -102,7 +102,7 @@ fn life(list: List, refused: usize) -> Told {
 }
 
 #[test]
-fn a_set_that_is_refused_memory_is_there_still() {
+fn a_set_is_freed_and_usable_after_a_failed_allocation() {
     for list in LISTS {
         let (mut opens, mut closes) = (0, 0);
         for refused in 1.. {

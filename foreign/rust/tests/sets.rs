@@ -1,4 +1,4 @@
-//! Compares the lists, which four threads call, with sets of std, and tests the errors of refused calls.
+//! Compares lists that four threads call with sets of std, and tests the errors of refused calls.
 
 use std::collections::BTreeSet;
 use std::sync::Barrier;
@@ -11,8 +11,8 @@ const THREADS: u32 = 4;
 const CALLS: u32 = 5000;
 const OWN: u32 = 32;
 
-/// Checks at compile time that a `Seat` is not `Clone`. If it were, both impls of `Once` would apply, and `is_once`
-/// would be ambiguous.
+/// Checks at compile time that a `Seat` is not `Clone`. If a `Seat` were `Clone`, both impls of `Once` would apply, and
+/// `is_once` would be ambiguous.
 trait Once<T> {
     fn is_once() {}
 }
@@ -43,7 +43,7 @@ fn calls_of(seat: &mut Seat, thread: u32, kinds: u64) -> BTreeSet<u32> {
 }
 
 #[test]
-fn each_list_keeps_what_its_threads_put_in() {
+fn each_list_has_the_keys_that_its_threads_added() {
     for list in LISTS {
         let mut seats = vec![open(list, THREADS, CALLS, &[]).unwrap()];
         for _ in 1..THREADS {
@@ -94,8 +94,8 @@ fn a_shared_set_uses_the_quota_of_each_seat() {
     assert_eq!(Shared::open(List::Lazy, 0, 1, &[]).err(), Some(Fault::Seats));
 }
 
-/// Checks that the number of adds that return true is the sum of all quotas, whichever threads call `add`, and that the
-/// set then has exactly the added keys.
+/// Checks that as many adds return true as all quotas together allow, whichever threads call `add`. The set must then
+/// have exactly the added keys.
 #[test]
 fn threads_use_the_quota_of_each_seat() {
     for (seats, quota) in [(2, 50), (64, 1)] {
@@ -114,8 +114,8 @@ fn threads_use_the_quota_of_each_seat() {
     }
 }
 
-/// Several threads add the same keys: exactly as many keys as all quotas together allow. No add may return full,
-/// because all keys are present when all quotas are used up.
+/// Adds the same keys from several threads, as many keys as all quotas together allow. No add may return full: when all
+/// quotas are used up, all keys are present.
 #[test]
 fn no_add_is_full_while_a_seat_has_quota() {
     for _ in 0..20 {
@@ -131,7 +131,7 @@ fn no_add_is_full_while_a_seat_has_quota() {
 
 /// Checks that two threads that open sets at the same time get different numbers.
 #[test]
-fn sets_that_are_opened_at_once_are_told_apart() {
+fn sets_opened_at_once_have_different_numbers() {
     for _ in 0..1000 {
         let ready = Barrier::new(2);
         let run = || {
@@ -149,7 +149,7 @@ fn sets_that_are_opened_at_once_are_told_apart() {
 /// Checks that a seat (one thread's access to the set) cannot be merged with a seat of another set, even among more
 /// sets than 16 bits can number.
 #[test]
-fn sets_are_told_apart() {
+fn seats_of_different_sets_are_not_merged() {
     let mut mine = open(List::Lazy, 1, 0, &[]).unwrap();
     let run = || {
         let mut gathered = || mine.gather(open(List::Lazy, 1, 0, &[]).unwrap()).map_err(Fault::from);
@@ -187,7 +187,7 @@ fn the_least_key_and_the_greatest() {
 }
 
 #[test]
-fn what_is_refused_is_given_back() {
+fn an_error_contains_the_refused_seat() {
     assert_eq!(open(List::Lazy, 0, 1, &[]).err(), Some(Fault::Seats));
     assert_eq!(open(List::Lazy, 1, 16385, &[]).err(), Some(Fault::Quota));
     assert_eq!(open(List::Lazy, 1, 1, &[7, 7]).err(), Some(Fault::Keys));
@@ -205,7 +205,7 @@ fn what_is_refused_is_given_back() {
 }
 
 /// Checks that `?` converts a refusal (a fault with the refused seat) to a boxed error, with and without `Send`, or to
-/// its fault, which drops the seat.
+/// its fault. The conversion to a fault drops the seat.
 #[test]
 fn a_refusal_is_an_error() {
     fn closed() -> Result<Vec<u32>, Box<dyn std::error::Error + Send + Sync>> {
@@ -235,8 +235,7 @@ fn reads_that_do_not_block() {
     assert_eq!([most_reads(0, 1, 1), most_reads(65, 1, 1), most_reads(1, 16_385, 1), most_reads(1, 1, (1 << 20) + 1)], [0; 4]);
 }
 
-/// Sends a receipt (proof of the calls that a seat has made) to another thread. Checks that only a seat of the same set
-/// accepts the receipt.
+/// Checks that only a seat of the same set accepts a receipt (proof of the calls that a seat has made).
 #[test]
 fn receipts() {
     for list in LISTS {
@@ -292,7 +291,7 @@ fn a_set_is_renewed() {
 /// Tests threads that share a set that renews itself. The quota is so small that the set is closed and opened again
 /// hundreds of times.
 #[test]
-fn a_renewed_set_keeps_what_its_threads_put_in() {
+fn a_renewed_set_has_the_keys_that_its_threads_added() {
     for (list, quota) in LISTS.into_iter().zip([50, 50, 50, 1, 7]) {
         let set = RenewedSet::open(list, THREADS, quota, &[1 << 20]).unwrap();
         let run = |thread: u32| {
@@ -313,8 +312,7 @@ fn a_renewed_set_keeps_what_its_threads_put_in() {
     }
 }
 
-/// Checks that there are as many seats as requested, that a dropped seat is free again, and that no call waits for a thread
-/// that is between two calls.
+/// Checks the number of seats, and that a dropped seat is free again. No call may wait for a thread between two calls.
 #[test]
 fn the_seats_of_a_renewed_set() {
     let set = RenewedSet::open(List::LockFree, 2, 1, &[]).unwrap();
