@@ -7,8 +7,8 @@
 // end of each call are recorded. A judge decides whether some order of the calls explains their replies.
 //
 // The judge is liblistset if <listset.h> is included before this file. Otherwise it is the program named by the
-// environment variable LISTSET or, if that is not set, `listset` in PATH. LISTSET can also name a listset.js, which is
-// run with node. If LISTSET is `skip`, nothing is judged.
+// environment variable LISTSET or, if that is not set, `listset` in PATH. If LISTSET names a listset.js, node runs the
+// file. If LISTSET is `skip`, nothing is judged.
 //
 // If the test's process has only one thread, each run gets its own process. If a set crashes or hangs in a run's own
 // process, the calls made so far are judged. Requires C++17, -pthread and a POSIX system.
@@ -70,8 +70,8 @@ inline namespace judged_by_library {
 inline namespace judged_by_program {
 #endif
 
-/// Options of a test. All are checked before the first set is created. The runs of a test cycle through seven presets,
-/// which are built-in numbers of threads, calls and keys.
+/// Options of a test. All are checked before the first set is created. The runs of a test cycle through seven presets
+/// (built-in numbers of threads, calls and keys).
 struct options {
     /// The number of threads that call a set at the same time: 1 to 64. 0 selects the preset's number.
     unsigned threads = 0;
@@ -94,13 +94,12 @@ struct options {
     unsigned seconds = 30;
     /// The time limit for the test in seconds: 1 to 604,800. No run starts after the limit.
     unsigned within = 60;
-    /// The least percentage of calls that must overlap a call that adds or removes the same key: if fewer do, the
-    /// verdict is false.
+    /// The verdict is false if less than this percentage of the calls overlap a call that adds or removes the same key.
     unsigned at_least = 0;
     /// The relative frequencies of add, remove and contains.
     unsigned adds = 1, removes = 1, finds = 1;
-    /// If false, sets are called in the test's process, which then crashes or hangs if a set does. Useful for debuggers
-    /// and coverage.
+    /// If false, sets are called in the test's process. The process then crashes or hangs with a set. Useful for
+    /// debuggers and coverage.
     bool own_process = true;
     /// If true, `contains` is called for each key before all other calls to record the opening keys.
     bool opens_with_keys = false;
@@ -111,14 +110,14 @@ struct options {
     std::string record = "";
 };
 
-/// The result of a test. It is true if some order explains each run, each run was completed, and at least `at_least` percent
-/// of the calls overlapped a call that added or removed the same key. `<<` prints it.
+/// The result of a test. A verdict is true if each run was completed, some order explains each run, and enough calls
+/// overlapped a change of their key (`at_least`). `<<` prints a verdict.
 struct verdict {
     bool ok = true;
     /// Whether the test was skipped because LISTSET is `skip`, so that nothing was judged.
     bool is_skipped = false;
     uint64_t calls = 0;
-    /// The number of calls that overlapped a call that added or removed the same key, as counted by the judge.
+    /// The number of calls that overlapped a change of their key, as counted by the judge.
     uint64_t overlapped = 0;
     /// The seed of the failed run.
     uint64_t seed = 0;
@@ -235,7 +234,7 @@ inline uint64_t number_of(const char *variable, uint64_t other, uint64_t least, 
     return found;
 }
 
-// Applies the environment variables. LISTSET_SECONDS is the number of seconds for which runs are repeated, with seeds
+// Applies the environment variables. If LISTSET_SECONDS is set, runs are repeated for that many seconds, with seeds
 // that count up from the current time. LISTSET_SEED is the first seed.
 inline options by_environment(options how) {
     const unsigned seconds = unsigned(number_of("LISTSET_SECONDS", 0, 1, RANGES[6].most));
@@ -294,7 +293,7 @@ struct saved {
     unsigned moment = 0;
 };
 
-// The memory of a run, which processes can share. It contains the calls that have not been saved in the file yet.
+// The memory of a run, with the calls that have not been saved in the file yet. Processes can share the memory.
 struct area {
     const shape of;
     const uint64_t seed;
@@ -364,7 +363,7 @@ struct area {
 
 constexpr const char *WORDS[] = {"add", "remove", "contains"};
 
-// Returns the line of a call in a recording, where the call's key is `key` and its end is `end`.
+// Returns the line of a call in a recording, with the key `key` and the end `end`.
 inline std::string line_of(const slot &it, unsigned key, unsigned end) {
     std::string text = "call " + std::to_string(it.thread) + " " + WORDS[int(it.call)] + " " + std::to_string(key) + " " + std::to_string(it.begin) + " ";
     const bool is_open = end == 0 || it.answer == reply::unknown;
@@ -425,8 +424,8 @@ struct stops {
         errno = before;
     }
 
-    // Starts the timer before about STOPS of `calls` calls. After a signal that arrived between two calls, starts it
-    // before one call in AGAIN instead. Must be called before each of the `calls` calls.
+    // Starts the timer before about STOPS of `calls` calls. After a signal that arrived between two calls, starts the
+    // timer before one call in AGAIN if that is more. Must be called before each of the `calls` calls.
     void before_call(uint64_t calls) {
         const uint64_t starts = its.is_missed ? std::max(calls / AGAIN, uint64_t(STOPS)) : STOPS;
         if (timer < 0 || draw() % calls >= starts) return;
@@ -476,9 +475,9 @@ struct stops {
 };
 
 // Lets two threads begin calls at the same time, for races that last only nanoseconds. On a busy machine, threads are
-// seldom on two processors at once. So a thread polls for a partner before a call, and both threads continue when the
-// partner polls too. Half of the calls then use two neighboring keys, which change after every MEET calls. Only runs
-// with an odd seed have partners, and only if `pauses` is not 0.
+// seldom on two processors at once. Therefore a thread polls for a partner before a call, and both threads continue
+// when the partner polls too. Half of the calls then use two neighboring keys. The two keys change after every MEET
+// calls. Only runs with an odd seed have partners, and only if `pauses` is not 0.
 struct partners {
     area &run;
     const unsigned thread;
@@ -526,8 +525,8 @@ struct partners {
         return false;
     }
 
-    // Delays a call by up to some hundred nanoseconds, because of two partners the same one always continues a bit
-    // earlier.
+    // Delays a call by up to some hundred nanoseconds. Without the delay, the same one of two partners would always
+    // begin first.
     void delay() const {
         for (volatile unsigned left = near; left > 0; left = left - 1) {}
     }
@@ -656,7 +655,7 @@ template <class Make, class K> struct maker {
             if (run.is_stopping) return;
             save(run, lines_of(run).first);
         }
-        write(run, run.is_end_known ? left + "end\n" : "cut\n");  // (lines not marked as saved: the run can still be cut short)
+        write(run, run.is_end_known ? left + "end\n" : "cut\n");  // (these lines are not marked as saved, because the run can still be cut short)
     }
 
     // Runs all threads. `is_own` is true if the process was started for the set. If it is false, threads are not
@@ -677,8 +676,8 @@ template <class Make, class K> struct maker {
 };
 
 // Waits until `is_done` returns true. Returns false at the time `until`, or if no call begins or ends for `seconds`
-// seconds. The time between two polls counts as at most five milliseconds, so that a run that gets no processor for a
-// long time is not considered hung.
+// seconds. The time between two polls counts as at most five milliseconds, so that a run without a processor does not
+// count as hung.
 template <class Done> bool comes_to_end(const area &run, unsigned seconds, clock::time_point until, Done is_done) {
     unsigned seen = run.tickets;
     clock::duration waited{};
@@ -749,7 +748,7 @@ struct answer {
 
 inline std::string stripped(const std::string &text) { return text.substr(0, text.find_last_not_of('\n') + 1); }
 
-// Returns the line of output in which the judge states whether it is proved correct.
+// Returns the line of `version` that states whether the judge is proved.
 inline std::string proof_in(const std::string &version) {
     const size_t at = ("\n" + version).find("\nproof ");
     return at == std::string::npos ? "proof unknown" : version.substr(at, version.find('\n', at) - at);
@@ -828,7 +827,7 @@ inline judge_found find_judge() {
 #endif
 
 // Judges a recording. The first value of the result is the judge's output if no order explains the calls, otherwise an
-// empty string. The second is the number of calls that overlapped a call that changed the same key.
+// empty string. The second is the number of calls that overlapped a change of their key.
 inline std::pair<std::string, uint64_t> judged(const judge_found &by, const std::string &file) {
     const auto [status, said] = by.asked_of(file);
     const std::string first = said.substr(0, said.find('\n'));
@@ -937,16 +936,16 @@ template <class Make, class Key> struct tester {
         return it;
     }
 
-    // Returns the part of the message that names the presets of the earlier runs, which all passed.
+    // Returns the part of the message that names the presets of the earlier runs (all passed).
     std::string passed_before(uint64_t seed) const {
         std::string names;
         for (uint64_t it = how.seed; it < seed && it < how.seed + std::size(PRESETS); it++) names += (names.empty() ? "" : ", ") + std::string(shape_of(it).name);
         return names.empty() ? "" : say(PASSED_BEFORE, names);
     }
 
-    // Returns the sizes of a run with more overlapping calls: more threads (possibly more than processors), fewer keys and
-    // twice as many calls in total, unless the options set these numbers. The threads wait for each other only at the
-    // beginning, because on a busy machine a waiting thread is not interrupted during a call.
+    // Returns the sizes of a run with more overlapping calls: more threads (possibly more than processors), fewer keys,
+    // and twice as many calls in total. Does not change numbers that the options set. The threads wait for each other
+    // only at the beginning, because on a busy machine a waiting thread is not interrupted during a call.
     shape harder(shape it) const {
         const unsigned before = it.threads;
         if (!how.threads) it.threads = std::min(std::max(2 * it.threads, std::thread::hardware_concurrency() + 2), 64u);
@@ -988,8 +987,8 @@ template <class Make, class Key> struct tester {
         return lines.empty() ? " no call" : lines;
     }
 
-    // Returns the part of the message that states that the run's sizes were changed because few calls overlapped.
-    // Returns an empty string if the run has the sizes of its preset.
+    // Returns the part of the message about a run whose sizes were changed because few calls overlapped. Returns an
+    // empty string if the run has the sizes of its preset.
     std::string made_harder(uint64_t seed, const shape &it) const {
         const shape first = shape_of(seed);
         return it.threads == first.threads && it.calls == first.calls && it.keys == first.keys ? "" : MADE_HARDER;
@@ -1091,7 +1090,7 @@ template <class Make, class Key> struct tester {
         return all;
     }
 
-    // Returns the verdict when no run has failed. It is false if too few calls overlapped.
+    // Returns the verdict if no run has failed: false if too few calls overlapped.
     verdict passed(verdict all) const {
         const bool few = is_few(all.overlapped, all.calls);
         all.text = say(few ? FEW : OK, all.calls, all.overlapped) + "; judge: " + all.judge;
@@ -1102,8 +1101,7 @@ template <class Make, class Key> struct tester {
     }
 };
 
-// The type T, which the compiler looks up only when it knows the set S, because GoogleTest can be included after this
-// file.
+// The type T. The compiler looks up the type only when S is known, because GoogleTest can be included after this file.
 template <class S, class T> struct later {
     using type = T;
 };

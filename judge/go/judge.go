@@ -5,12 +5,12 @@
 // MySet has Add, Remove and Contains. Goroutines call new sets, and the start and the end of each call are recorded. A
 // judge decides whether some order of the calls explains their replies.
 //
-// The judge is liblistset in a test with the tag `listset`, which needs cgo and pkg-config. Otherwise it is the program
-// named by the environment variable LISTSET or, if that is not set, `listset` in PATH. LISTSET can also name a
-// listset.js, which is run with node. If LISTSET is `skip`, the test is skipped.
+// The judge is liblistset in a test with the tag `listset` (requires cgo and pkg-config). Otherwise it is the program
+// named by the environment variable LISTSET or, if that is not set, `listset` in PATH. If LISTSET names a listset.js,
+// node runs the file. If LISTSET is `skip`, the test is skipped.
 //
-// On Unix, Check starts a separate process for the set, which runs this test again up to Check. If the set crashes or
-// hangs in the separate process, the calls so far are judged.
+// On Unix, Check starts a separate process for the set. The process runs this test again up to Check. If the set
+// crashes or hangs in the process, the calls so far are judged.
 package judge
 
 import (
@@ -42,23 +42,23 @@ type notKnown struct{}
 var NotKnown any = notKnown{}
 
 // Options are the options of a test. All of them are checked before the first set is created. The runs of a test cycle
-// through seven presets, which are built-in numbers of threads, calls and keys.
+// through seven presets (built-in numbers of threads, calls and keys).
 type Options struct {
 	Threads       int    // the number of goroutines that call a set at the same time: 1 to 64; 0 selects the preset's number
-	Calls         int    // the number of calls of each goroutine: at least 1, at most 1,000,000,000 for all together; 0 selects the preset's number; after every 20,000 calls, the goroutines wait until these calls are written to the file
+	Calls         int    // the number of calls of each goroutine: at least 1, at most 1,000,000,000 for all together; 0 selects the preset's number. After every 20,000 calls, all goroutines wait until these calls are in the file
 	Keys          int    // the number of keys: 1 to 1,048,576; 0 selects the preset's number; with more than eight keys, half of the calls use the first four
-	Pauses        int    // how often a goroutine pauses before a call for a few microseconds, in percent: 0 to 100; unless this is 0, goroutines in the set's own process are also stopped during calls
+	Pauses        int    // how often a goroutine pauses before a call for a few microseconds, in percent: 0 to 100. Unless 0, goroutines in the set's own process are also stopped during calls
 	Runs          int    // the number of runs: 1 to 1,000,000; a run calls one set, or several new sets one after another
-	Seed          int64  // the random seed for the calls, keys and pauses of the first run; each later run uses the next seed; if the first seed is not 1, no further runs follow a refusal
+	Seed          int64  // the random seed for the calls, keys and pauses of the first run. Each later run uses the next seed. If the first seed is not 1, no further runs follow a refusal
 	Seconds       int    // if no call begins or ends for this many seconds, a run is considered hung and is cut short: 1 to 3,600
 	Within        int    // after this many seconds, the test begins no new run: 1 to 604,800
 	AtLeast       int    // the test fails if less than this percentage of the calls overlap a call that adds or removes the same key
 	Adds          int    // the relative frequency of Add among the calls
 	Removes       int    // the relative frequency of Remove among the calls
 	Finds         int    // the relative frequency of Contains among the calls
-	InProcess     bool   // calls sets in this process, which crashes or hangs with them; useful for debuggers and coverage
+	InProcess     bool   // calls sets in this process, and crashes or hangs with a set; useful for debuggers and coverage
 	OpensWithKeys bool   // calls Contains for each key before all other calls to record the opening keys
-	Record        string // the folder for the recordings of all runs; if empty, only the recording of a failed run is kept, in the folder that the variable LISTSET_RECORD names, or else in the folder for temporary files
+	Record        string // the folder for the recordings of all runs. If empty, only the recording of a failed run is kept, in the folder that LISTSET_RECORD names, or else in the folder for temporary files
 }
 
 // DefaultOptions returns the options for 20 runs with the presets.
@@ -86,8 +86,8 @@ func (o Options) check() error {
 	return nil
 }
 
-// byEnvironment applies the environment variables. LISTSET_SECONDS is the number of seconds for which runs are
-// repeated, with seeds that count up from the current time. LISTSET_SEED is the first seed.
+// byEnvironment applies the environment variables. If LISTSET_SECONDS is set, runs are repeated for that many seconds,
+// with seeds that count up from the current time. LISTSET_SEED is the first seed.
 func (o Options) byEnvironment() (Options, error) {
 	seconds, err := numberOf("LISTSET_SECONDS", 0, 1, int64(ranges[6].most))
 	if seconds > 0 {
@@ -174,8 +174,8 @@ func (o Options) shapeOf(seed int64) shape {
 	return s
 }
 
-// madeHarder returns the part of the message that states that the run's sizes were changed because few calls
-// overlapped. It returns an empty string if the run has the sizes of its preset.
+// madeHarder returns the part of the message about a run whose sizes were changed because few calls overlapped. Returns
+// an empty string if the run has the sizes of its preset.
 func (o Options) madeHarder(seed int64, s size) string {
 	first := o.shapeOf(seed)
 	if s.threads == first.threads && s.calls == first.calls && s.keys == first.keys {
@@ -184,9 +184,9 @@ func (o Options) madeHarder(seed int64, s size) string {
 	return sayMadeHarder
 }
 
-// harder returns the sizes of a run with more overlapping calls: more goroutines (possibly more than processors), fewer keys
-// and twice as many calls in total, unless the options set these numbers. The goroutines wait for each other only at the
-// beginning, because on a busy machine a waiting goroutine is not interrupted during a call.
+// harder returns the sizes of a run with more overlapping calls: more goroutines (possibly more than processors), fewer
+// keys, and twice as many calls in total. Does not change numbers that the options set. The goroutines wait for each
+// other only at the beginning, because on a busy machine a waiting goroutine is not interrupted during a call.
 func (o Options) harder(s shape) shape {
 	before := s.threads
 	if o.Threads == 0 {
@@ -228,8 +228,8 @@ func (o Options) most(of func(size) int) (most int) {
 }
 
 // Verdict is the result of a successful test: some order explains each run. Overlapped is the number of calls that
-// overlapped a call that added or removed the same key, as counted by the judge. Judge is the judge's name, and whether
-// the judge states that it is proved. String formats the verdict.
+// overlapped a change of their key, as counted by the judge. Judge is the judge's name, and whether the judge states
+// that it is proved. String formats the verdict.
 type Verdict struct {
 	Calls, Overlapped int
 	Judge             string
@@ -277,9 +277,9 @@ type Test interface {
 	Fatal(...any)
 }
 
-// Check judges the sets that newSet creates. It fails the test if no order explains a run, or if the set crashes or
-// hangs. It uses DefaultOptions unless an Options is given. The set gets a separate process, which runs the test from
-// its beginning up to the call to Check. Earlier calls to Check do nothing in the separate process.
+// Check judges the sets that newSet creates. Fails the test if no order explains a run, or if the set crashes or hangs.
+// Uses DefaultOptions unless options contains an Options. The set gets a separate process. The process runs the test
+// from its beginning up to the call to Check, and skips earlier calls to Check.
 func Check[S Set](t Test, newSet func() S, options ...Options) {
 	t.Helper()
 	check(t, func(int) (source, error) { return numbers(newSet), nil }, options)
@@ -320,7 +320,7 @@ func check(t Test, of func(keys int) (source, error), options []Options) {
 	}
 }
 
-// checkName is the environment variable that tells a child process for which call to Check it was started.
+// checkName is the environment variable of a child process with the name of the call to Check that started the process.
 const checkName = "LISTSET_CHECK"
 
 var (
@@ -354,7 +354,7 @@ func numbers[S Set](newSet func() S) source {
 	return source{func() Set { return newSet() }, func(n uint32) string { return fmt.Sprint(n) }, false}
 }
 
-// keyed is a set with keys of type K. It is called with numbers, which it converts to keys.
+// keyed is a set with keys of type K that is called with numbers, and converts the numbers to keys.
 type keyed[K any] struct {
 	set  SetOf[K]
 	keys []K
@@ -377,7 +377,7 @@ func ofKeys[K comparable, S SetOf[K]](newSet func() S, key func(uint32) K, count
 	return source{func() Set { return keyed[K]{newSet(), keys} }, shown, true}, nil
 }
 
-// tester is the state of a test. It judges runs one after another. No run starts after the time until.
+// tester is the state of a test. Runs are judged one after another. No run starts after the time until.
 type tester struct {
 	options Options
 	area    *area
@@ -473,7 +473,7 @@ func isWithin(since time.Time, seconds int) bool {
 	return time.Since(since) < time.Duration(seconds)*time.Second
 }
 
-// passedBefore returns the part of the message that names the presets of the earlier runs, which all passed.
+// passedBefore returns the part of the message that names the presets of the earlier runs (all passed).
 func (o Options) passedBefore(seed int64) string {
 	var names []string
 	for it := o.Seed; it < seed && len(names) < len(presets); it++ {
@@ -485,8 +485,7 @@ func (o Options) passedBefore(seed int64) string {
 	return fmt.Sprintf(sayPassedBefore, strings.Join(names, ", "))
 }
 
-// judgedRun performs a run and judges its recording. It returns the number of calls that overlapped a call that changed
-// the same key.
+// judgedRun performs a run and judges its recording. Returns the number of calls that overlapped a change of their key.
 func (t *tester) judgedRun(seed int64, s shape) (int, error) {
 	overlapped, first, err := t.outcome(seed, s, time.Time{})
 	if first == nil {
@@ -504,9 +503,8 @@ func (t *tester) judgedRun(seed int64, s shape) (int, error) {
 	return 0, &NotLinearizable{failed}
 }
 
-// outcome performs a run and judges its recording. It returns the number of calls that overlapped a call that changed
-// the same key, or the failed run, whose recording is still open. Unless until is zero, the run is cut short at the
-// time until.
+// outcome performs a run and judges its recording. Returns the number of calls that overlapped a change of their key,
+// or the failed run with its recording still open. Unless until is zero, the run is cut short at the time until.
 func (t *tester) outcome(seed int64, s shape, until time.Time) (overlapped int, failed *failedRun, err error) {
 	r, err := newRecording(seed, t.options.Record)
 	if err != nil {
@@ -532,10 +530,10 @@ func (o Options) isReplay() bool {
 	return os.Getenv("LISTSET_SEED") != "" || o.Seed != DefaultOptions().Seed && os.Getenv("LISTSET_SECONDS") == ""
 }
 
-// clearest performs longer runs with the preset of a refused run and later seeds, until a run cannot be completed. They
-// begin and end within manyFurtherFor seconds, or within manyFurtherMost seconds while the best refusal states fewer
-// than manyClear contradictions; less if the limits of the test are small. It returns the run whose refusal states the
-// most contradictions, and the part of the message that counts the refused runs.
+// clearest performs longer runs with the preset of a refused run and later seeds, until a run cannot be completed. The
+// longer runs begin and end within manyFurtherFor seconds, or within manyFurtherMost seconds while the best refusal
+// states fewer than manyClear contradictions; less if the limits of the test are small. It returns the run whose refusal
+// states the most contradictions, and the part of the message that counts the refused runs.
 func (t *tester) clearest(first *failedRun, s shape) (*failedRun, string) {
 	if _, isHere := t.caller.(*here); isHere || t.options.isReplay() {
 		return first, ""

@@ -8,9 +8,9 @@ import (
 )
 
 // partners lets two goroutines begin calls at the same time, for races that last only nanoseconds. On a busy machine,
-// goroutines are seldom on two processors at once. So a goroutine polls for a partner before a call, and both
-// goroutines continue when the partner polls too. Half of the calls then use two neighboring keys, which change after
-// every manyMeet calls. Only runs with an odd seed have partners, and only if Pauses is not 0.
+// goroutines are seldom on two processors at once. Therefore a goroutine polls for a partner before a call, and both
+// goroutines continue when the partner polls too. Half of the calls then use two neighboring keys. The two keys
+// change after every manyMeet calls. Only runs with an odd seed have partners, and only if Pauses is not 0.
 type partners struct {
 	*area
 	thread                  int
@@ -51,8 +51,8 @@ func (p *partners) keyOr(other int) int {
 	return other
 }
 
-// polls waits for at most manyAlert microseconds, and returns whether a second goroutine polled at the same time. It
-// never sleeps, because a sleeping goroutine would wake up too late.
+// polls waits for at most manyAlert microseconds, and returns whether a second goroutine polled at the same time.
+// Never sleeps, because a sleeping goroutine would wake up too late.
 func (p *partners) polls() bool {
 	mine := uint32(p.thread + 1)
 	if other := atomic.LoadUint32(&p.alert); other != 0 {
@@ -71,8 +71,8 @@ func (p *partners) polls() bool {
 	return !atomic.CompareAndSwapUint32(&p.alert, mine, 0)
 }
 
-// meet waits for a partner. A goroutine stops waiting for partners after manyTries waits without one. It returns
-// whether two goroutines can now begin their calls.
+// meet waits for a partner. A goroutine stops waiting for partners after manyTries waits without one. Returns whether
+// two goroutines can now begin their calls.
 func (p *partners) meet() bool {
 	if p.isOn {
 		p.near = p.draw.Intn(manyNear)
@@ -87,8 +87,8 @@ func (p *partners) meet() bool {
 	return false
 }
 
-// delay delays a call by up to some hundred nanoseconds, because of two partners the same one always continues a bit
-// earlier.
+// delay delays a call by up to some hundred nanoseconds. Without the delay, the same one of two partners would always
+// begin first.
 func (p *partners) delay() {
 	for left := p.near; left > 0; left-- {
 		atomic.LoadUint32(&p.isStopping)

@@ -68,8 +68,7 @@ type head struct {
 	file, why                   text   // the path of the recording, and why the run failed
 }
 
-// area is the memory of a run, which processes can share. It contains the calls that have not been saved in the file
-// yet.
+// area is the memory of a run, with the calls that have not been saved in the file yet. Processes can share the memory.
 type area struct {
 	options Options
 	source  source
@@ -158,7 +157,7 @@ func (h *here) close() { h.stop() }
 
 // made performs the run with the seed seed. If the run was cut short, trouble is the reason. Unless until is zero, the
 // run is cut short at the time until. The time between two polls counts as at most five milliseconds, so that a run
-// that gets no processor for a long time is not considered hung.
+// without a processor does not count as hung.
 func (a *area) made(seed int64, s size, file string, by caller, until time.Time) (trouble string, err error) {
 	for i := range a.memory {
 		a.memory[i] = 0
@@ -209,7 +208,7 @@ func (a *area) fail(as uint32, words string) {
 	}
 }
 
-// place returns where a panic occurred: the innermost call that is neither in Go's runtime nor in package judge.
+// place returns the place of a panic: the innermost call that is neither in Go's runtime nor in package judge.
 func place() string {
 	_, own, _, _ := runtime.Caller(0)
 	folder := own[:strings.LastIndex(own, "/")+1]
@@ -226,7 +225,7 @@ func place() string {
 	}
 }
 
-// waits waits until isDone returns true: it polls awake times, then sleeps between polls. It returns false if the run was
+// waits waits until isDone returns true: polls awake times, then sleeps between polls. Returns false if the run was
 // stopped.
 func (a *area) waits(awake int, isDone func() bool) bool {
 	for looks := 0; !isDone() && atomic.LoadUint32(&a.isStopping) == 0; looks++ {
@@ -237,8 +236,8 @@ func (a *area) waits(awake int, isDone func() bool) bool {
 	return atomic.LoadUint32(&a.isStopping) == 0
 }
 
-// meet waits until all goroutines have called meet, so that they continue at the same time. It polls without sleeping
-// if there is a processor for each goroutine, unless an earlier call of meet lasted too long.
+// meet waits until all goroutines have called meet, so that they continue at the same time. Polls without sleeping if
+// there is a processor for each goroutine, unless an earlier call of meet lasted too long.
 func (a *area) meet() bool {
 	awake, count, looks := manyLongest, uint32(a.threads), 0
 	if a.threads <= runtime.NumCPU() && atomic.LoadUint32(&a.isBusy) == 0 {
@@ -322,7 +321,7 @@ func (a *area) lead(on *stage) {
 	} else {
 		left += "end\n"
 	}
-	a.write(file, left) // (lines not marked as saved: the run can still be cut short)
+	a.write(file, left) // (these lines are not marked as saved, because the run can still be cut short)
 }
 
 func (a *area) write(file *os.File, lines string) {
@@ -361,7 +360,7 @@ func (a *area) number(key int) uint32 {
 // end. A call is repeated while its outcome is unknown.
 const mostAsked = 100
 
-// linesOfKeys calls Contains for each key, and calls it again if the outcome is unknown. It returns a line for each key
+// linesOfKeys calls Contains for each key, and calls it again if the outcome is unknown. Returns a line for each key
 // found, and whether the outcome became known for each key.
 func (a *area) linesOfKeys(word string, set Set, round int) (lines string, areKnown bool) {
 	areKnown = true

@@ -96,8 +96,8 @@ func (s *set) place(key uint32) uint32 {
 	return key
 }
 
-// called makes a call. With "not known" or "again", it loses one reply in fifty. With "not known" the outcome of the
-// call is then unknown, with "again" the call is repeated.
+// called makes a call. With "not known" or "again", loses one reply in fifty. With "not known" the outcome of the call
+// is then unknown, with "again" the call is repeated.
 func (s *set) called(call func(uint32) bool, key uint32) bool {
 	reply := call(s.place(key))
 	if s.is != "not known" && s.is != "again" || atomic.AddInt32(&s.calls, 1)%50 > 0 {
@@ -192,8 +192,8 @@ func howOf(words string) Options {
 	return how
 }
 
-// TestSet judges the set that the variable SET names, with the options in HOW, such as "threads=4 runs=2". It judges
-// the set once, or TESTS times.
+// TestSet judges the set that the variable SET names, with the options in HOW, such as "threads=4 runs=2", once or
+// TESTS times.
 func TestSet(t *testing.T) {
 	how := howOf(os.Getenv("HOW"))
 	switch os.Getenv("SET") {

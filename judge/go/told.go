@@ -47,8 +47,8 @@ type failedRun struct {
 	isCutShort bool
 }
 
-// judged returns the number of calls that overlapped a call that changed the same key, or the failed run. If the run was
-// cut short, trouble is the reason.
+// judged returns the number of calls that overlapped a change of their key, or the failed run. If the run was cut
+// short, trouble is the reason.
 func (r *recording) judged(by *judgeFound, a *area, trouble string) (int, *failedRun, error) {
 	underWay, lines := []slot(nil), ""
 	if trouble != "" {
@@ -133,8 +133,8 @@ func (a *area) inSet(number int) string {
 	return fmt.Sprintf(sayInSet, number/a.keys+1)
 }
 
-// keyLine describes the key whose number in the recording is number and, if the run has several sets, the key's set. It
-// returns an empty string if the key is the number and the run has a single set.
+// keyLine describes the key whose number in the recording is number and, if the run has several sets, the key's set.
+// Returns an empty string if the key is the number and the run has a single set.
 func keyLine(a *area, number int) string {
 	if a.sets == 1 && !a.source.isOwn {
 		return ""
@@ -143,8 +143,8 @@ func keyLine(a *area, number int) string {
 	return fmt.Sprintf(sayKeyIs, number, a.nameOf(key)) + a.inSet(key)
 }
 
-// alone writes a small file beside the recording, with calls on one key that no order explains. It returns the part of
-// the message that names the file.
+// alone writes a small file beside the recording, with calls on one key that no order explains. Returns the part of the
+// message that names the file.
 func (r *recording) alone(by *judgeFound, key string) string {
 	if by.command == nil {
 		return ""
@@ -227,7 +227,7 @@ func checkNode(name string) error {
 	return nil
 }
 
-// proofIn returns the line of output in which the judge states whether it is proved correct.
+// proofIn returns the line of version that states whether the judge is proved.
 func proofIn(version string) string {
 	if found := regexp.MustCompile("(?m)^proof .*$").FindString(version); found != "" {
 		return found
@@ -235,8 +235,8 @@ func proofIn(version string) string {
 	return "proof unknown"
 }
 
-// ran runs a command. It returns the exit status (127 if the command cannot be run) and the output, or the error output
-// if there is no output.
+// ran runs a command. Returns the exit status (127 if the command cannot be run) and the output, or the error output if
+// there is no output.
 func ran(words []string, shown io.Writer) (int, string) {
 	var out, errs bytes.Buffer
 	made := exec.Command(words[0], words[1:]...)
@@ -250,8 +250,8 @@ func ran(words []string, shown io.Writer) (int, string) {
 	return made.ProcessState.ExitCode(), strings.TrimSpace(out.String())
 }
 
-// judged judges a recording. It returns the number of calls that overlapped a call that changed the same key, or the
-// judge's output if no order explains the calls.
+// judged judges a recording. Returns the number of calls that overlapped a change of their key, or the judge's output
+// if no order explains the calls.
 func (j *judgeFound) judged(recording *os.File) (overlapped int, refused string, err error) {
 	status, said := j.answer(recording)
 	if _, err := fmt.Sscanf(said, "ok %d calls\n%d of them", new(int), &overlapped); status == 0 && err == nil {

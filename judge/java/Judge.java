@@ -47,9 +47,9 @@ import java.util.stream.Stream;
  * new sets. The start and the end of each call are recorded. {@code listset judge FILE} decides whether some order of
  * the calls explains their replies.
  *
- * <p>The environment variable LISTSET names the program {@code listset}; if LISTSET is not set, {@code listset} in
- * PATH is used. LISTSET can also name a listset.js, which is run with node. If LISTSET is {@code skip}, the test is
- * skipped the way JUnit or TestNG does it.
+ * <p>The environment variable LISTSET names the program {@code listset}; if LISTSET is not set, {@code listset} in PATH
+ * is used. If LISTSET names a listset.js, node runs the file. If LISTSET is {@code skip}, the test is skipped the way
+ * JUnit or TestNG does it.
  *
  * <p>The sets are called in a separate JVM, if the method references can be sent to it and a set can be created in it.
  * If a set ends the separate JVM or hangs, the calls made so far are judged.
@@ -130,8 +130,8 @@ public final class Judge {
 
     /**
      * Options of a test. All of them are checked before the first set is created. The runs of a test cycle through
-     * seven presets, which are built-in numbers of threads, calls and keys. A {@code with} method returns a changed
-     * copy and leaves the original options unchanged.
+     * seven presets (built-in numbers of threads, calls and keys). A {@code with} method returns a changed copy and
+     * leaves the original options unchanged.
      */
     public static final class Options implements Serializable, Cloneable {
         private static final long serialVersionUID = 1;
@@ -181,8 +181,8 @@ public final class Judge {
         public Options withWithin(int it) { return with(made -> made.within = it); }
 
         /**
-         * Sets the least percentage of calls that must overlap a call that adds or removes the same key. If fewer calls
-         * do, the test fails with {@link TooFew}.
+         * Sets the least percentage of calls that must overlap a call that adds or removes the same key. Otherwise the
+         * test fails with {@link TooFew}.
          */
         public Options withAtLeast(int it) { return with(made -> made.atLeast = it); }
 
@@ -192,8 +192,8 @@ public final class Judge {
         }
 
         /**
-         * Sets whether sets are called in a separate JVM. If not, sets are called in the test's JVM, which then crashes
-         * or hangs if a set does. Useful for debuggers and coverage.
+         * Sets whether sets are called in a separate JVM. If not, sets are called in the test's JVM. The JVM then
+         * crashes or hangs with a set. Useful for debuggers and coverage.
          */
         public Options withOwnProcess(boolean it) { return with(made -> made.ownProcess = it); }
 
@@ -235,7 +235,7 @@ public final class Judge {
         }
 
         /**
-         * Applies the environment variables. LISTSET_SECONDS is the number of seconds for which runs are repeated, with
+         * Applies the environment variables. If LISTSET_SECONDS is set, runs are repeated for that many seconds, with
          * seeds that count up from the current time. LISTSET_SEED is the first seed.
          */
         private Options byEnvironment() {
@@ -253,8 +253,9 @@ public final class Judge {
 
         /**
          * Returns the sizes of a run with more overlapping calls: more threads (possibly more than processors), fewer
-         * keys and twice as many calls in total, unless the options set the numbers. The threads wait for each other
-         * only at the beginning, because on a busy machine a waiting thread is not interrupted during a call.
+         * keys, and twice as many calls in total. Does not change numbers that the options set. The threads wait for
+         * each other only at the beginning, because on a busy machine a waiting thread is not interrupted during a
+         * call.
          */
         private Shape harder(Shape it) {
             int wanted = Math.max(2 * it.threads, Runtime.getRuntime().availableProcessors() + 2), more = threads > 0 ? it.threads : Math.min(wanted, 64);
@@ -265,8 +266,8 @@ public final class Judge {
 
     /**
      * The result of a successful test: some order explains each run. {@code overlapped} is the number of calls that
-     * overlapped a call that added or removed the same key, as counted by the judge. {@code judge} is the judge's name,
-     * and whether the judge states that it is proved. {@code toString} formats the result.
+     * overlapped a change of their key, as counted by the judge. {@code judge} is the judge's name, and whether the
+     * judge states that it is proved. {@code toString} formats the result.
      */
     public record Verdict(long calls, long overlapped, String judge) {
         @Override public String toString() {
@@ -305,7 +306,7 @@ public final class Judge {
         CutShort(long seed, String said, Path file, String text) { super(seed, said, file, text); }
     }
 
-    /** Thrown if fewer calls than the options require overlapped a call that changed the same key. */
+    /** Thrown if fewer calls than the options require overlapped a change of their key. */
     public static final class TooFew extends AssertionError {
         private static final long serialVersionUID = 1;
 
@@ -381,7 +382,7 @@ public final class Judge {
             try {
                 throw (RuntimeException) Class.forName(name).getConstructor(String.class).newInstance(SKIPPED);
             } catch (ReflectiveOperationException another) {
-                // The current framework does not run the tests: try the next one.
+                // This framework does not run the tests: try the next one.
             }
         }
         System.err.println(SKIPPED);
@@ -430,8 +431,10 @@ public final class Judge {
             return isFew(overlapped, shape.allCalls());
         }
 
-        /** Performs a run and judges its recording. Returns the number of calls that overlapped a call that changed the
-         * same key. */
+        /**
+         * Performs a run and judges its recording. Returns the number of calls that overlapped a change of their
+         * key.
+         */
         private long judged(long seed, Shape given) throws IOException {
             Shape shape = calls.keys == null ? given : given.withNumbers();
             Outcome first = outcome(seed, shape, Long.MAX_VALUE);
@@ -511,14 +514,16 @@ public final class Judge {
             return FAILED_RUN.formatted(its.said, its.seed, shape.name, shape.threads, madeHarder(its.seed, shape) + notes + named, file, alone, program);
         }
 
-        /** Returns the part of the message that states that the run's sizes were changed because few calls overlapped.
-         * Returns an empty string if the run has the sizes of its preset. */
+        /**
+         * Returns the part of the message about a run whose sizes were changed because few calls overlapped. Returns
+         * an empty string if the run has the sizes of its preset.
+         */
         private String madeHarder(long seed, Shape it) {
             Shape first = how.shapeOf(seed);
             return it.threads == first.threads && it.calls == first.calls && it.keys == first.keys ? "" : MADE_HARDER;
         }
 
-        /** Returns the part of the message that names the presets of the earlier runs, which all passed. */
+        /** Returns the part of the message that names the presets of the earlier runs (all passed). */
         private String passedBefore(long seed) {
             StringBuilder names = new StringBuilder();
             for (long it = how.seed; it < seed && it < how.seed + PRESETS.length; it++) {
@@ -594,7 +599,7 @@ public final class Judge {
         }
     }
 
-    /** The memory of a run, which JVMs can share. It contains the calls that have not been saved in the file yet. */
+    /** The memory of a run, with the calls that have not been saved in the file yet. JVMs can share the memory. */
     private record Area(Options how, ByteBuffer memory) {
         private static final VarHandle INT = MethodHandles.byteBufferViewVarHandle(int[].class, ByteOrder.nativeOrder());
         // Offsets in the memory. IS_HERE: whether the child JVM has started. SAVES: two records about the last save,
@@ -621,8 +626,10 @@ public final class Judge {
             return new Shape("", get(SHAPE), get(SHAPE + 4), get(SHAPE + 8), get(SHAPE + 12), get(SHAPE + 16), get(SHAPE + 20) == 1);
         }
 
-        /** Prepares the memory for the run with the seed {@code seed}, and starts the run, which writes its calls to
-         * {@code file}. */
+        /**
+         * Prepares the memory for the run with the seed {@code seed} and the recording {@code file}, and starts the
+         * run.
+         */
         void begin(long seed, Shape of, Path file) {
             for (int at = 0; at < SIZE; at += 4) if (at != IS_HERE) memory.putInt(at, 0);
             memory.putLong(SEED, seed);
@@ -750,7 +757,7 @@ public final class Judge {
             }
         }
 
-        /** Returns where an error was thrown: the innermost method that is neither in this class nor in the JDK. */
+        /** Returns the place of an error: the innermost method that is neither in this class nor in the JDK. */
         private static String place(Throwable why) {
             String own = Judge.class.getName();
             return Stream.of(why.getStackTrace()).filter(it -> !it.getClassName().equals(own) && !it.getClassName().startsWith(own + "$"))
@@ -802,7 +809,7 @@ public final class Judge {
                 if (area.get(Area.STOPPING) > 0) return; // (the run was cut short)
                 area.save(area.lines(area.rows()));
             }
-            area.write(left.contains(null) ? "cut\n" : String.join("", left) + "end\n"); // (lines not marked as saved: the run can still be cut short)
+            area.write(left.contains(null) ? "cut\n" : String.join("", left) + "end\n"); // (these lines are not marked as saved, because the run can still be cut short)
         }
 
         private String opening(int round) {
@@ -861,8 +868,8 @@ public final class Judge {
     }
 
     /**
-     * Performs runs one after another: in a child JVM, which ends when its input ends, or in the test's JVM if {@code
-     * process} is null.
+     * Performs runs one after another, in a child JVM or, if {@code process} is null, in the test's JVM. The child JVM
+     * ends when its input ends.
      */
     private record Caller<S, K>(Calls<S, K> calls, Options how, Area area, Process process) implements AutoCloseable {
         static <S, K> Caller<S, K> of(Calls<S, K> calls, Options how) {
@@ -904,8 +911,8 @@ public final class Judge {
 
         /**
          * Returns whether options and calls are unchanged after they have been serialized and read back. The javac of
-         * Java 17 identifies a method reference by the method that implements it. So if A and B inherit {@code
-         * contains}, {@code B::contains} is read back as {@code A::contains}.
+         * Java 17 identifies a method reference by the method that implements it. If A and B inherit {@code contains},
+         * {@code B::contains} is therefore read back as {@code A::contains}.
          */
         private static boolean isReadBackUnchanged(byte[] given) throws IOException, ClassNotFoundException {
             try (ObjectInputStream in = new ObjectInputStream(new ByteArrayInputStream(given))) {
@@ -931,7 +938,7 @@ public final class Judge {
         /**
          * Waits until the run has ended. Returns true after {@code most} nanoseconds, or if the run hangs, that is, if
          * no call begins or ends for too long. The time between two polls counts as at most five milliseconds, so that
-         * a run that gets no processor for a long time is not considered hung.
+         * a run without a processor does not count as hung.
          */
         private boolean isHung(long most) {
             long began = System.nanoTime(), last = began, waited = 0;
@@ -1064,8 +1071,8 @@ public final class Judge {
     // ---- the judge
 
     /**
-     * The verdict on a recording: the judge's output if it refused the recording (otherwise null), and the number of calls
-     * that overlapped a call that changed the same key.
+     * The verdict on a recording: the judge's output if it refused the recording (otherwise null), and the number of
+     * calls that overlapped a change of their key.
      */
     private record Judgement(String refused, long overlapped) { }
 
@@ -1073,8 +1080,8 @@ public final class Judge {
     private record Answer(String said, int status) { }
 
     /**
-     * The program that judges: its name, the command with its first arguments, and the line in which the program states
-     * whether it is proved. {@code toString} returns the name and the line.
+     * The program that judges: its name, the command with its first arguments, and its line about its proof. {@code
+     * toString} returns the name and the line.
      */
     private record Program(String name, List<String> command, String proof) {
         private static final Pattern OVERLAPPED = Pattern.compile("ok [0-9]+ calls\n([0-9]+) of them");

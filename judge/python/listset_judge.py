@@ -3,12 +3,12 @@
     def test_is_linearizable():
         print(listset_judge.judge(MySet))
 
-MySet() has `add` and `remove`, which return True or False, and `contains` or `in`. Threads call new sets. The start and
+MySet() has `add`, `remove`, and `contains` or `in`. Each returns True or False. Threads call new sets. The start and
 the end of each call are recorded. A judge decides whether some order of the calls explains their replies.
 
 The judge is the module `listset` if it can be imported. Otherwise it is the program named by the environment variable
-LISTSET or, if that is not set, `listset` in PATH. LISTSET can also name a listset.js, which is run with node. If
-LISTSET is `skip`, the test is skipped.
+LISTSET or, if that is not set, `listset` in PATH. If LISTSET names a listset.js, node runs the file. If LISTSET is
+`skip`, the test is skipped.
 
 If the test's process has only one thread and can be forked, each run gets its own process. If a set crashes or hangs in
 a run's own process, the calls made so far are judged.
@@ -126,8 +126,8 @@ NUMBER = "the variable %s is %s, but must be a number from %s to %s"
 @dataclasses.dataclass(frozen=True)
 class Verdict:
     """The result of a successful test: some order explains each run. `overlapped` is the number of calls that
-    overlapped a call that added or removed the same key, as counted by the judge. `judge` is the judge's name, and
-    whether the judge states that it is proved. str() formats the result.
+    overlapped a change of their key, as counted by the judge. `judge` is the judge's name, and whether the judge states
+    that it is proved. str() formats the result.
     """
 
     calls: int
@@ -160,12 +160,12 @@ class CutShort(Failed):
 
 
 class TooFew(AssertionError):
-    """Raised if fewer calls than `at_least` requires overlapped a call that changed the same key."""
+    """Raised if fewer calls than `at_least` requires overlapped a change of their key."""
 
 
 class NoVerdict(Exception):
-    """Raised if nothing is known about the set: an option is out of range, no set could be created, the set lacks one
-    of the three calls, or no judge was found.
+    """Raised if nothing is known about the set: an option is out of range, no set could be created, the set lacks a
+    call, or no judge was found.
     """
 
 
@@ -184,7 +184,7 @@ class Options(collections.namedtuple("Options", "threads calls keys key pauses r
             raise NoVerdict(f"record is {self.record!r}, but must be the path of a folder")
 
     def by_environment(self) -> Options:
-        """Applies the environment variables. LISTSET_SECONDS is the number of seconds for which runs are repeated, with
+        """Applies the environment variables. If LISTSET_SECONDS is set, runs are repeated for that many seconds, with
         seeds that count up from the current time. LISTSET_SEED is the first seed.
         """
         most = {name: most for name, _, most in RANGES}
@@ -396,7 +396,7 @@ class Tester:
         return FAILED_RUN % (said, its.seed, its.shape.name, its.shape.threads, notes, its.file, self.alone(its.file, key), self.by)
 
     def passed_before(self, seed: int) -> str:
-        """Returns the part of the message that names the presets of the earlier runs, which all passed."""
+        """Returns the part of the message that names the presets of the earlier runs (all passed)."""
         first = self.how.seed
         names = [self.how.shape_of(it).name for it in range(first, min(seed, first + len(PRESETS)))]
         return PASSED_BEFORE % ", ".join(names) if names else ""
@@ -568,8 +568,8 @@ class Run:
 
     def comes_to_end(self, is_done):
         """Waits until `is_done` returns true. Returns False at the time `until`, or if no call begins or ends for
-        `seconds` seconds. A wait counts as at most twice its length, so that a run that gets no processor for a long
-        time is not considered hung.
+        `seconds` seconds. A wait counts as at most twice its length, so that a run without a processor does not count
+        as hung.
         """
         seen, last, wait, waited = None, time.monotonic(), 0.0005, 0.0
         while not is_done():
@@ -703,7 +703,7 @@ class Run:
             self.there.abort()
 
     def call(self, places, of_set, thread, number, draw):
-        """Makes calls, and records them in the slots `places`. Returns the thread's number, which changes after a call
+        """Makes calls, and records them in the slots `places`. Returns the thread's number: a new number after a call
         with an unknown reply.
         """
         before, keys, few = sys.gettrace(), self.shape.keys, min(HOT, self.shape.keys)
@@ -745,9 +745,9 @@ def line_of(it):
 
 
 def pausing(pauses, draw, before):
-    """Returns a trace function that lets other threads run before `pauses` percent of the lines of all code outside of
-    this file and, in one call of ten, also before `pauses` percent of the bytecode instructions. The trace function
-    also calls `before`, the previous trace function.
+    """Returns a trace function that lets other threads run before `pauses` percent of the lines outside of this file.
+    In one call of ten, they also run before `pauses` percent of the bytecode instructions. The trace function also
+    calls `before`, the previous trace function.
     """
 
     def of_frame(inner):
@@ -801,8 +801,8 @@ class Judge:
         return f"{self.name}, {self.proof}"
 
     def judged(self, file: pathlib.Path) -> tuple[int, str]:
-        """Judges a recording. Returns the number of calls that overlapped a call that changed the same key, and the
-        judge's output (empty if some order explains the calls).
+        """Judges a recording. Returns the number of calls that overlapped a change of their key, and the judge's output
+        (empty if some order explains the calls).
         """
         text, status = self.answer(file)
         met = OVERLAPPED.match(text)
@@ -827,7 +827,7 @@ def check_node(name: str) -> None:
 
 
 def said(words: list, errors: int | None = None) -> tuple[str, int]:
-    """Runs a command. Returns its output and its exit status, which is 127 if the command cannot be run."""
+    """Runs a command. Returns its output and its exit status (127 if the command cannot be run)."""
     try:
         done = subprocess.run(words, stdin=subprocess.DEVNULL, stdout=subprocess.PIPE, stderr=errors)
     except OSError:

@@ -7,9 +7,9 @@ its own connection.
 Use `pauses=0`: pauses are meant for sets in Python. In a client of a server, pauses would hide most errors of a
 replica.
 
-If a reply does not arrive in time, or is lost because the connection breaks, the outcome is unknown: the call returns
-None, and the thread opens a new connection for its next call. `listset_servers.Redis(6379, read_at=6380)` writes to one
-address and reads from another, like a client of a replica. For other servers, write a class like `Redis`.
+If a reply is late, or lost because the connection breaks, the outcome is unknown: the call returns None. The thread
+opens a new connection for its next call. `listset_servers.Redis(6379, read_at=6380)` writes to one address and reads
+from another, like a client of a replica. For other servers, write a class like `Redis`.
 """
 
 import contextlib
@@ -68,7 +68,7 @@ class Connection:
 
 
 class Server:
-    """A server at an address, which is a port of the local machine, or a host and port."""
+    """A server at an address (a port of the local machine, or a host and port)."""
 
     def __init__(self, address, read_at=None, seconds=10):
         self.address, self.read_at, self.seconds, self.mine = address, read_at or address, seconds, threading.local()
@@ -87,7 +87,8 @@ class Server:
 
 
 class Redis(Server):
-    """A set in Redis. Each new set has a new name, so that a late call to an earlier set has no effect on it."""
+    """A set in Redis. Each new set has a new name, so that a late call to an earlier set does not affect the new set.
+    """
 
     REPLIES, made = {":1": True, ":0": False}, 0
 

@@ -1,4 +1,5 @@
-%% Records calls of four processes on public tables of ETS, as docs/YOUR-SET.md says under "By hand". Writes 5 recordings
+% %% Records calls of four processes on public tables of ETS, as described in docs/YOUR-SET.md under "By hand". Writes 5
+% recordings
 %% into this folder: `erlc ets_run.erl && erl -noshell -run ets_run main SEED`.
 -module(ets_run).
 -export([main/1]).

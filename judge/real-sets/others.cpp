@@ -19,7 +19,7 @@ struct Tbb {
 
 constexpr unsigned long hash_of(unsigned long key) { return key * 0x9E3779B97F4A7C15; }
 
-// A hash set from Concurrency Kit. Writers take a lock; readers do not.
+// A hash set from Concurrency Kit. Writers hold a lock; readers do not.
 struct Ck {
     ck_hs_t keys;
     std::mutex writers;

@@ -1,5 +1,5 @@
-// Judges the set that the variable SET names, with the options in HOW, such as "threads=4 runs=2". Judges it once, or as
-// often as TESTS states. Prints the result and its kind.
+// Judges the set that the variable SET names, with the options in HOW, such as "threads=4 runs=2". Judges the set once,
+// or TESTS times. Prints the result and its kind.
 #include "../listset_judge.hpp"
 #include <iostream>
 #include <mutex>

@@ -79,9 +79,7 @@ class Named(Right):
         return call(key) if self.name == "again" else None
 
     def stop(self):
-        """Fails during a later `remove` while the lock is held. STOPS maps the name of a set to the way in which it
-        fails.
-        """
+        """Fails during a later `remove` while the lock is held. STOPS maps the name of a set to the set's failure."""
         self.calls += 1
         if self.calls >= (10_000 if self.name == "crashes late" else 30):  # (>= because two threads can count at the same time)
             with self.lock:

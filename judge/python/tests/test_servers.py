@@ -1,5 +1,5 @@
-"""Tests servers on the loopback: `listset serve` and, if it is installed, Redis. Among the tests are a client that
-checks and then acts, a client that reads from a replica, and connections that pause or are lost.
+"""Tests servers on the loopback: `listset serve` and, if it is installed, Redis. Also tests a client that checks
+and then acts, a client that reads from a replica, and paused or lost connections.
 
 python3 -m unittest discover -s tests -t tests
 """

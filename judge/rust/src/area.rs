@@ -1,7 +1,7 @@
 //! Performs a run, and records its calls in memory that can be shared with the set's own process.
 //!
-//! A call is recorded with two moments, its start and its end. A moment is a value of the counter `Tickets`, which
-//! grows at each start and each end of a call.
+//! A call is recorded with two moments, its start and its end. A moment is a value of the counter `Tickets`. The
+//! counter grows at each start and each end of a call.
 use std::any::Any;
 use std::fs::File;
 use std::io::{self, Seek, SeekFrom, Write};
@@ -61,7 +61,7 @@ const SLOTS: usize = FILE + 1024; // offset of the calls
 const SLOT: usize = 6; // a call: end (0 until the call ends), begin (0 until the call begins), thread, word, key and reply
 const SIZE: usize = SLOTS + PART as usize * SLOT;
 
-/// The memory of a run. It contains the calls that have not been saved in the file yet.
+/// The memory of a run, with the calls that have not been saved in the file yet.
 pub struct Area {
     memory: Memory,
     pub options: Options,
@@ -94,8 +94,8 @@ impl Row {
         say(PENDING_CALL, &[&self.0[2], &self.word(), &name, &note, &self.0[1]])
     }
 
-    /// Returns the number of the call's key in the recording: the number of the set times the number of keys per set,
-    /// plus the number of the key in the set.
+    /// Returns the number of the call's key in the recording: the set's number times the keys per set, plus the key's
+    /// number in the set.
     pub fn key(&self) -> u32 {
         self.0[4]
     }
@@ -245,8 +245,8 @@ impl Area {
     }
 
     /// Waits until the run is over, its process has ended, no call has begun or ended for `seconds` seconds, or the
-    /// time `until` has come. Returns the error, if any. The time between two polls counts as at most five
-    /// milliseconds, so that a run that gets no processor for a long time is not considered hung.
+    /// time `until` has passed. Returns the error, if any. The time between two polls counts as at most five
+    /// milliseconds, so that a run without a processor does not count as hung.
     fn end(&self, until: Option<Instant>, ended: &dyn Fn() -> Option<String>) -> Option<String> {
         let (mut seen, mut last, mut waited) = (self.get(At::Tickets), Instant::now(), Duration::ZERO);
         while self.get(At::Phase) < OVER {
@@ -300,7 +300,7 @@ impl Area {
             }
         }
         let end = left.map_or_else(|| "cut\n".to_string(), |keys| keys + "end\n");
-        self.tried(|| _ = self.write(&end).expect(WRITABLE)); // (lines not marked as saved: the run can still be cut short)
+        self.tried(|| _ = self.write(&end).expect(WRITABLE)); // (these lines are not marked as saved, because the run can still be cut short)
         let _ = self.at(At::Phase).compare_exchange(GOING, OVER, SeqCst, SeqCst);
     }
 

@@ -1,5 +1,5 @@
-//! Performs runs: on Unix, in a separate process, which runs the test again up to its call to `judge`; on other
-//! systems, in the test's process.
+//! Performs runs: on Unix, in a separate process; on other systems, in the test's process. The separate process runs
+//! the test again up to its call to `judge`.
 use std::cell::RefCell;
 use std::collections::HashMap;
 use std::fs::File;

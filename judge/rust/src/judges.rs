@@ -1,4 +1,4 @@
-//! Finds and runs the judge, which is `liblistset` or a program.
+//! Finds and runs the judge: `liblistset` or a program.
 use std::fmt;
 use std::io;
 use std::path::Path;
@@ -7,7 +7,7 @@ use std::process::{Command, Stdio};
 use crate::words::*;
 use crate::{no_verdict, Failure};
 
-/// A judge. `proof` is the line in which the judge states whether it is proved.
+/// A judge. `proof` is the judge's line about its proof.
 pub struct Judge {
     name: String,
     proof: String,
@@ -17,8 +17,7 @@ pub struct Judge {
 
 /// The verdict on a recording.
 pub enum Judged {
-    /// Some order explains the calls. `overlapped` is the number of calls that overlapped a call that changed the same
-    /// key.
+    /// Some order explains the calls. `overlapped` is the number of calls that overlapped a change of their key.
     Ok { overlapped: u64 },
     /// No order explains the calls. Contains the judge's output.
     Refused(String),
@@ -108,7 +107,7 @@ fn overlapped_in(said: &str) -> Option<u64> {
     said.strip_prefix("ok ")?.lines().nth(1)?.split(" of them").next()?.parse().ok()
 }
 
-/// Returns the line of output in which the judge states whether it is proved correct.
+/// Returns the line of `version` that states whether the judge is proved.
 fn proof_in(version: &str) -> String {
     version.lines().find(|it| it.starts_with("proof ")).unwrap_or("proof unknown").to_string()
 }

@@ -12,11 +12,11 @@
 //! their replies.
 //!
 //! The judge is `liblistset` if `build.rs` finds it. Otherwise it is the program named by the environment variable
-//! `LISTSET` or, if that is not set, `listset` in `PATH`. `LISTSET` can also name a `listset.js`, which is run with
-//! node. If `LISTSET` is `skip`, nothing is judged.
+//! `LISTSET` or, if that is not set, `listset` in `PATH`. If `LISTSET` names a `listset.js`, node runs the file. If
+//! `LISTSET` is `skip`, nothing is judged.
 //!
-//! On Unix, the sets are called in a separate process, which runs the test again up to its call to `judge`. If a set
-//! crashes or hangs in the separate process, the calls made so far are judged.
+//! On Unix, the sets are called in a separate process. The process runs the test again up to its call to `judge`. If a
+//! set crashes or hangs in the process, the calls made so far are judged.
 
 mod area;
 mod child;
@@ -40,7 +40,7 @@ use recording::{Fault, Outcome, Recording};
 use words::*;
 
 /// Options of a test. All of them are checked before the first set is created. The runs of a test cycle through seven
-/// presets, which are built-in numbers of threads, calls and keys.
+/// presets (built-in numbers of threads, calls and keys).
 #[derive(Clone, Debug)]
 pub struct Options {
     /// The number of threads that call a set at the same time: 1 to 64. 0 selects the preset's number.
@@ -70,7 +70,7 @@ pub struct Options {
     pub at_least: u32,
     /// The relative frequencies of `add`, `remove` and `contains`.
     pub shares: [u32; 3],
-    /// If `false`, sets are called in the test's process, which then crashes or hangs if a set does. Useful for
+    /// If `false`, sets are called in the test's process. The process then crashes or hangs with a set. Useful for
     /// debuggers, for coverage, and for sets that need threads of the test's process.
     pub own_process: bool,
     /// If `true`, the opening keys are recorded: before all other calls, `contains` is called for each key.
@@ -175,7 +175,7 @@ impl Options {
         it
     }
 
-    /// Returns the part of the message that names the presets of the earlier runs, which all passed.
+    /// Returns the part of the message that names the presets of the earlier runs (all passed).
     fn passed_before(&self, seed: u64) -> String {
         let earlier = (u64::from(self.seed)..seed).take(PRESETS.len());
         let names: Vec<&str> = earlier.map(|it| self.shape_of(it).name).collect();
@@ -186,8 +186,8 @@ impl Options {
         }
     }
 
-    /// Returns the part of the message that states that the run's sizes were changed because few calls overlapped.
-    /// Returns an empty string if the run has the sizes of its preset.
+    /// Returns the part of the message about a run whose sizes were changed because few calls overlapped. Returns an
+    /// empty string if the run has the sizes of its preset.
     fn made_harder(&self, seed: u64, it: Shape) -> String {
         let first = self.shape_of(seed);
         let is_same = (it.threads, it.calls, it.keys) == (first.threads, first.calls, first.keys);
@@ -198,7 +198,7 @@ impl Options {
         }
     }
 
-    /// Applies the environment variables. `LISTSET_SECONDS` is the number of seconds for which runs are repeated, with
+    /// Applies the environment variables. If `LISTSET_SECONDS` is set, runs are repeated for that many seconds, with
     /// seeds that count up from the current time. `LISTSET_SEED` is the first seed.
     fn by_environment(&self) -> Result<Options, Failure> {
         let mut it = self.clone();
@@ -217,9 +217,9 @@ impl Options {
         is_set("LISTSET_SEED") || self.seed != Options::default().seed && !is_set("LISTSET_SECONDS")
     }
 
-    /// Returns the sizes of a run with more overlapping calls: more threads (possibly more than processors), fewer keys
-    /// and twice as many calls in total, unless the options set the numbers. The threads wait for each other only at
-    /// the beginning, because on a busy machine a waiting thread is not interrupted during a call.
+    /// Returns the sizes of a run with more overlapping calls: more threads (possibly more than processors), fewer
+    /// keys, and twice as many calls in total. Does not change numbers that the options set. The threads wait for each
+    /// other only at the beginning, because on a busy machine a waiting thread is not interrupted during a call.
     fn harder(&self, it: Shape) -> Shape {
         let processors = std::thread::available_parallelism().map_or(1, |it| it.get()) as u32;
         let threads = if self.threads == 0 { (2 * it.threads).max(processors + 2).min(64) } else { it.threads };
@@ -239,7 +239,7 @@ impl Options {
 #[non_exhaustive]
 pub struct Verdict {
     pub calls: u64,
-    /// The number of calls that overlapped a call that added or removed the same key, as counted by the judge.
+    /// The number of calls that overlapped a change of their key, as counted by the judge.
     pub overlapped: u64,
     /// The name of the judge, and whether the judge states that it is proved.
     pub judge: String,
@@ -289,7 +289,7 @@ pub enum Failure {
     NotLinearizable(Failed),
     /// The set crashed, hung or panicked. The run's earlier calls were judged.
     CutShort(Failed),
-    /// Fewer calls than `at_least` requires overlapped a call that changed the same key.
+    /// Fewer calls than `at_least` requires overlapped a change of their key.
     TooFew(String),
     /// Nothing is known about the set: an option is out of range, no set could be created, or no judge was found.
     NoVerdict(String),
@@ -482,8 +482,7 @@ impl<'a, S: Sync> Tester<'a, S> {
         Ok(verdict)
     }
 
-    /// Performs a run and judges its recording. Returns the number of calls that overlapped a call that changed the
-    /// same key.
+    /// Performs a run and judges its recording. Returns the number of calls that overlapped a change of their key.
     fn judged_run(&self, seed: u64, shape: Shape) -> Result<u64, Failure> {
         let harder = self.options.made_harder(seed, shape);
         match self.outcome(seed, shape, None)? {

@@ -1,7 +1,7 @@
 //! Lets two threads begin calls at the same time, for races that last only nanoseconds. On a busy machine, threads are
-//! seldom on two processors at once. So a thread polls for a partner before a call, and both threads continue when the
-//! partner polls too. Half of the calls then use two neighboring keys, which change after every `MEET` calls. Only runs
-//! with an odd seed have partners, and only if `pauses` is not 0.
+//! seldom on two processors at once. Therefore a thread polls for a partner before a call, and both threads continue
+//! when the partner polls too. Half of the calls then use two neighboring keys. The two keys change after every `MEET`
+//! calls. Only runs with an odd seed have partners, and only if `pauses` is not 0.
 use std::sync::atomic::{AtomicU32, Ordering};
 use std::time::{Duration, Instant};
 
@@ -9,7 +9,7 @@ use crate::area::{Area, At, Draws};
 use crate::words::{ALERT, LONGEST, NEAR, TRIES};
 use crate::Shape;
 
-/// What a thread needs to find partners for its calls to one set.
+/// A thread's state for finding partners for its calls to one set.
 pub struct Partners<'a> {
     area: &'a Area,
     of: Shape,
@@ -95,8 +95,8 @@ impl<'a> Partners<'a> {
         false
     }
 
-    /// Delays a call by up to some hundred nanoseconds, because of two partners the same one always continues a bit
-    /// earlier.
+    /// Delays a call by up to some hundred nanoseconds. Without the delay, the same one of two partners would always
+    /// begin first.
     pub fn delay(&self) {
         // `left` is atomic because a compiler does not remove operations on an atomic.
         let left = AtomicU32::new(self.near);

@@ -21,7 +21,7 @@ pub struct Recording<'a> {
 
 /// The outcome of a run.
 pub enum Outcome<'a> {
-    /// Some order explains the calls. Contains the number of calls that overlapped a call that changed the same key.
+    /// Some order explains the calls. Contains the number of calls that overlapped a change of their key.
     Passed(u64),
     Refused(Fault<'a>),
     CutShort(Fault<'a>),

@@ -37,11 +37,11 @@ mod timer {
     }
 
     thread_local! {
-        /// The run for which the current thread makes calls.
+        /// The current thread's run.
         static RUN: Cell<*const Area> = const { Cell::new(null()) };
         /// Whether the current thread is in a call to the set.
         static IS_IN_CALL: AtomicBool = const { AtomicBool::new(false) };
-        /// Whether the last signal came between two calls.
+        /// Whether the last signal arrived between two calls.
         static IS_MISSED: AtomicBool = const { AtomicBool::new(false) };
     }
 
@@ -73,8 +73,8 @@ mod timer {
             Some(Stops(timer))
         }
 
-        /// Returns before how many of `calls` calls the timer must be started: `STOPS` or, after a signal that arrived
-        /// between two calls, one call in `AGAIN`.
+        /// Returns how often the timer is started during `calls` calls: `STOPS` times or, after a signal between two
+        /// calls, once per `AGAIN` calls if that is more.
         pub fn starts(&self, calls: u32) -> u32 {
             if IS_MISSED.with(|it| it.load(Relaxed)) {
                 STOPS.max(calls / AGAIN)
@@ -83,7 +83,7 @@ mod timer {
             }
         }
 
-        /// Starts the timer, which sends a signal to the current thread after `nanoseconds` nanoseconds.
+        /// Starts the timer: the current thread receives a signal after `nanoseconds` nanoseconds.
         pub fn after(&self, nanoseconds: u32) {
             IS_MISSED.with(|it| it.store(false, Relaxed));
             let once = [0i64, 0, 0, i64::from(nanoseconds)];

@@ -59,9 +59,9 @@ impl Set {
         Set { is, keys: Right(Mutex::new(keys)), calls: AtomicU32::new(0), parts: Mutex::default() }
     }
 
-    /// Makes a call. With "first use", each key has its own set, which the first call with the key creates. The bug:
-    /// two overlapping calls can both create a set for the key. With "collides", keys with the same remainder modulo 64
-    /// are treated as one key.
+    /// Makes a call. With "first use", each key has its own set, created by the first call with the key. The bug: two
+    /// overlapping calls can both create a set for the key. With "collides", keys with the same remainder modulo 64 are
+    /// treated as one key.
     fn call(&self, call: fn(&Right<u32>, &u32) -> bool, key: u32) -> bool {
         if self.is != "first use" {
             return call(&self.keys, &if self.is == "collides" { key % 64 } else { key });
