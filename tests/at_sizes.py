@@ -116,7 +116,7 @@ def recording_of(opening, calls, left, threads, at_once):
 
 
 def draft_of(kind, opening, calls, threads):
-    """Returns a draft (a schedule whose lines say where a thread stops) of `calls`. The calls do not overlap."""
+    """Returns a draft (a schedule that states where threads stop) of `calls`. The calls do not overlap."""
     lines = [f"begin {number % threads} {word} {key}\ngo {number % threads} out\n" for number, (word, key, _) in enumerate(calls)]
     return "".join([head("draft 2", kind, threads, MOST_QUOTA, opening), *lines])
 

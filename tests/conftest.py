@@ -47,7 +47,7 @@ def pytest_configure(config):
 
 @pytest.hookimpl(tryfirst=True)
 def pytest_runtest_logreport(report):
-    report.nodeid = re.sub(r"@\w+$", "", report.nodeid)  # (xdist appends the group, which would hide the test from --lf)
+    report.nodeid = re.sub(r"@\w+$", "", report.nodeid)  # (xdist appends the group, and --lf would not find the test)
 
 
 def built_program(config):
@@ -88,8 +88,8 @@ def print_missing(items):
 
 @pytest.fixture(scope="session")
 def lacking(pytestconfig):
-    """Returns a function that ends a test because a tool or program is missing: the function fails the test if the test
-    was selected by name, and otherwise skips the test.
+    """Returns a function for tests whose tool or program is missing: the function fails a test that was selected by
+    name, and skips any other.
     """
     is_named = pytestconfig.option.keyword or any("::" in it for it in pytestconfig.args)
     return pytest.fail if is_named else pytest.skip

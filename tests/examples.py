@@ -1,5 +1,5 @@
-"""Tests that the program turns the schedules in examples/schedules into the reports in that folder, and that
-docs/CLASSIC.md shows the program's output.
+"""Tests that the program turns the schedules in examples/schedules into the reports in the same folder. docs/CLASSIC.md
+must show the program's output.
 
 For each NAME.schedule, `replay` must print NAME.report. For each report, `check` must print `ok`. For a file in
 refused-files.txt, `replay` must print the error listed in that file and no report. `example NAME` must print the

@@ -161,8 +161,8 @@ WRITTEN = re.compile(r"(?<!>)> *((?:'[^']*'|\\'|[^\s;'>)])+)")
 
 
 def files_written(program, room, file, text, size=0):
-    """Runs `explain` on a file with the text `text`, extended to `size` bytes. Returns the files to which the commands
-    in the explanation write.
+    """Runs `explain` on a file with the text `text`, extended to `size` bytes. Returns the files that the commands in
+    the explanation write.
     """
     (room / file).write_bytes(text if isinstance(text, bytes) else text.encode())
     os.truncate(room / file, max(size, (room / file).stat().st_size))

@@ -1,13 +1,12 @@
 """Tests programs with a failed allocation: in each run one allocation fails, and each allocation fails in some run.
 
 `tests/harness/fail_allocation.c` refuses the allocation with a given number, and overwrites freed memory so that
-reading it has a visible effect. The program must print `out of memory` and nothing else (except for `trace`, which
-prints each event as soon as it is executed). If std can continue with less memory than it requested, the program may
-instead print its usual output. If not even the error line can be allocated, the exit status must still be the one for
-`out of memory`.
+reading it has a visible effect. The program must print `out of memory` and nothing else. (`trace` also prints the
+events before the failure.) If std can continue with less memory than it requested, the program may instead print its
+usual output. If not even the error line can be allocated, the exit status must still be the one for `out of memory`.
 
-CALLS is the program in crates/memory_calls, which calls the functions of the libraries one by one. The input of CALLS
-is the number of blocks to allocate before the first call. Each call must either return the right result, or report a
+CALLS is the program in crates/memory_calls: it calls the functions of the libraries one by one. The input of CALLS is
+the number of blocks to allocate before the first call. Each call must either return the right result, or report a
 failed allocation or a thread that could not be started. A call that is repeated must return the right result.
 """
 
@@ -26,9 +25,9 @@ REFUSED = 1000  # an allocation number that the calls never reach
 PROCESSOR_SECONDS = 5  # the limit for one run
 CALLS = TOP / "crates/memory_calls/out/unproved/memory_calls"
 
-# The commands to test. They run on files in examples/; on a random schedule (DRAWN); on schedules with many opening
-# keys (keys at the start), with steps after the end of a call (OPENING) or without (ENDED); on a schedule with many
-# attempts to acquire a lock (TRIES); and on a schedule with long chains of nodes (CHAIN).
+# The commands to test. The inputs are files in examples/, and schedules: a random one (DRAWN); two with many opening
+# keys (keys at the start), with steps after the end of a call (OPENING) and without (ENDED); one with many attempts to
+# acquire a lock (TRIES); and one with long chains of nodes (CHAIN).
 ASKED = """
 replay opens-with-keys.schedule | replay ceiling-left-in-chain.schedule | replay DRAWN | replay OPENING | replay refused.schedule |
 judge ../../tests/transcripts/data/recorded/seen.calls | judge ../../tests/transcripts/data/recorded/lost.calls |
@@ -58,7 +57,7 @@ def refuser(folder):
 
 
 def ran_where(refuse, number, *words, **how):
-    """Runs a program in which allocation number `number` fails. Returns the exit status, the output, and the line on
+    """Runs a program whose allocation number `number` fails. Returns the exit status, the output, and the line on
     standard error.
     """
     room = {**os.environ, "LD_PRELOAD": refuse, "REFUSE": str(number), "MALLOC_PERTURB_": "165"}
@@ -69,8 +68,8 @@ def ran_where(refuse, number, *words, **how):
 
 def answers(program, refuse):
     """Runs the program CALLS repeatedly. In each run, a different allocation fails, and the program prints the name of
-    the call that made the allocation. Returns the names. Stops at the first run in which all calls end without a failed
-    allocation. No name is returned for that run.
+    the call that made the allocation. Returns the names. Stops at the first run without a failed allocation, and
+    returns no name for this run.
     """
     told = []
     for number in range(1, REFUSED):

@@ -34,7 +34,7 @@ class InstalledLibraries:
         self.include = f"-I{PREFIX / 'include'}"
 
     def proof(self):
-        """Returns the line of output in which the library states whether it is proved correct."""
+        """Returns the library's line about its proof."""
         return "proof missing" if "without a proof" in (self.library / "pkgconfig" / "listset.pc").read_text() else "proof checked"
 
     def works(self, sanitizer):
@@ -204,8 +204,8 @@ def test_programs_in_cpp_use_sets_and_judge(installed):
 
 @needs("g++", "gcc", "pkg-config")
 def test_calls_of_a_renewed_set_are_linearizable(installed):
-    """Tests eight threads that add and remove the same keys while their set is renewed, that is, replaced by a new set with
-    the same keys.
+    """Tests eight threads that add and remove the same keys while their set is renewed (replaced by a new set with the
+    same keys).
     """
     made, flags = installed.room / "made", ["-std=c++17", *WARN, "-pthread", TESTS / "renewed.cpp", *installed.flags()]
     for how, calls in (([], 50_000), (["-O0", MEMORY], 2_000), (["-O0", RACES], 500)):
@@ -246,9 +246,7 @@ def test_programs_in_go_use_sets_and_judge(installed):
 
 
 def in_room(installed):
-    """Returns the environment variables with which recordings of refused sets are written to the tests' temporary
-    folder.
-    """
+    """Returns environment variables that put the recordings of refused sets into the tests' temporary folder."""
     return {**os.environ, "TMPDIR": str(installed.room)}
 
 

@@ -13,8 +13,8 @@ import pytest
 from explained import ADD, CALLS, RIGHT, RIGHT_CALLS, RIGHT_REPORT, SCHEDULE
 from harness.programs import SECONDS, TOP, ran, wants, well
 
-# Maps the arguments of a command to the error line, which terminals and pipes receive alike, and to the lines below the
-# error line that only a terminal receives.
+# Maps the arguments of a command to the error line (the same at a terminal and in a pipe), and to the lines below it
+# that only a terminal receives.
 AT_TERMINAL = {
     "replay no-such": ["listset: cannot read\n", "no-such: there is no such file"],
     "judge .": ["listset: cannot read\n", ".: this is a folder"],
@@ -265,8 +265,8 @@ def test_a_long_line_of_a_long_recording_is_shown(script):
     assert "listset: line 1: NotEnded\nLine 1 is 'call 0 add 5 1 4 true call " in said and "Write the title and each call in a line of its own, which ends with LF." in said, said[:600]
 
 
-# Matches arguments that the engine in Node cannot handle: commands that only a built program has, errors to which clap
-# (the parser of the command line) adds a tip, and a wrong command line with a hint.
+# Matches arguments that the engine in Node cannot handle: commands that only a built program has, errors with a tip of
+# clap (the parser of the command line), and a wrong command line with a hint.
 NOT_OF_NODE = re.compile(r"(run|serve) |shwo|--prov|show --from (-5|5 --from)|trace --chain=")
 
 
@@ -322,7 +322,7 @@ def test_the_size_of_a_long_recording_is_shown(script):
     assert ran("./listset", "judge", "long.calls", cwd=script).stderr == "listset: line 1: Header\n"
 
 
-def test_a_note_comes_once_and_after_a_result(script):
+def test_a_note_is_printed_once_and_after_a_result(script):
     out = script / "crates/listset/out"
     (out / "unproved").mkdir()
     (out / "listset").rename(out / "unproved/listset")

@@ -2,8 +2,8 @@
 judge/LANGUAGE/tests, judges the set named by SET with the options in HOW, and prints the result and its kind.
 
 With the default options, the result must be `ok` for correct sets and a refusal for wrong sets. If a set hangs or
-crashes, the calls made so far are judged. A long run is one recording, which the program judges again. Some tests use a
-script in place of a judge, to check that each language passes a refusal on. All waits are bounded.
+crashes, the calls made so far are judged. The program also judges the single recording of a long run. Some tests use a
+script in place of a judge, to check that each language passes on the judge's refusal. All waits are bounded.
 """
 
 import os
@@ -197,7 +197,7 @@ def test_times_and_seeds_come_from_the_options_and_the_environment(form, program
         assert kind == "ok", said
         made[name] = {int(it.stem.removeprefix("seed-")) for it in (form.room / name).iterdir()}
     assert 1 in made["within"] and 1 < len(made["within"]) < 100_000
-    assert len(made["seconds"]) > 1 and min(made["seconds"]) > 1_700_000_000  # (seeds after the first are taken from the clock)
+    assert len(made["seconds"]) > 1 and min(made["seconds"]) > 1_700_000_000  # (seeds after the first are read from the clock)
     assert min(made["seed"]) == 7
 
 
@@ -251,7 +251,7 @@ def test_a_process_that_ends_when_a_set_is_deleted_is_cut_short(form, program):
 
 
 @each(LANGUAGES)
-def test_a_key_whose_last_outcome_stays_unknown_can_be_there_or_not(form, program):
+def test_a_key_whose_last_outcome_stays_unknown_can_be_present_or_absent(form, program):
     kind, said = form.told(program, "loses contains", f"{FEW} runs=1 record={form.room / 'kept'}")
     assert kind == "ok", said
     for recorded in (form.room / "kept").iterdir():
@@ -262,8 +262,8 @@ def test_a_key_whose_last_outcome_stays_unknown_can_be_there_or_not(form, progra
 
 @each(LANGUAGES)
 def test_a_correct_set_that_throws_repeatedly_is_not_refused(form, program):
-    """Tests a correct set that throws repeatedly. Each run is cut short, and the run's recording is linearizable,
-    although in Java and Go other threads can make calls while the recording is written.
+    """Tests a correct set that throws repeatedly. Each run is cut short. The run's recording is linearizable, although
+    in Java and Go other threads can make calls while the recording is written.
     """
     tests = 5 if form.language == "Python" else 25
     for how in ("pauses=0", "pauses=20"):
@@ -272,7 +272,7 @@ def test_a_correct_set_that_throws_repeatedly_is_not_refused(form, program):
 
 
 @each(LANGUAGES)
-def test_keys_of_a_run_are_the_keys_that_the_set_got(form, program):
+def test_keys_of_a_run_are_the_keys_that_the_set_received(form, program):
     """Tests the preset (named options) with multiples of 64 as keys: the recording and the message contain the keys 0,
     64 .. 448.
     """
@@ -312,8 +312,8 @@ def test_an_exception_has_its_place(form, program):
 
 @each(LANGUAGES)
 def test_a_set_that_continues_after_a_hang_does_not_change_the_recording(form, program):
-    """Tests a `remove` that takes 1.2 s. A run counts as hung after 1 s. The judge takes one second, so the set
-    continues while the run is judged.
+    """Tests a `remove` of 1.2 s. A run counts as hung after 1 s. The judge runs for one second, so the set continues
+    while the run is judged.
     """
     judge = form.script("judge", f"#!/bin/sh\n[ $1 = --version ] || sleep 1\n'{program}' \"$@\"\n")
     kind, said = form.told(judge, "naps", "threads=4 calls=1000 keys=4 seconds=1")

@@ -180,14 +180,14 @@ def call_in(line, form, of_key):
 
 
 def may_be_made(of_key, word, since, until):
-    """Returns whether some call of the operation `word` can have changed the key between `since` and `until`, that is,
-    whether some call overlaps the interval and either returned true or is pending.
+    """Returns whether some call of the operation `word` can have changed the key between `since` and `until`: the call
+    overlaps the interval, and returned true or is pending.
     """
     return any(it.word == word and changes(it) and it.begin < until and since < (it.end or LAST + 1) for it in of_key)
 
 
 def is_true(lines, key, judged):
-    """Returns whether every statement in `lines`, which describe a contradiction, is true for the calls in `of_key`."""
+    """Returns whether every statement in `lines` (about a contradiction) is true for the calls in `of_key`."""
     of_key, word = judged.of_key.get(key, []), {True: "add", False: "remove"}
     first, states = call_in(lines[0], f"contradiction in both orders: {CALL}, needs key {key} {STATE} and leaves it {STATE},", of_key)
     if first:
@@ -218,8 +218,7 @@ def is_true(lines, key, judged):
 
 
 def ends_after(line, moment):
-    """Returns whether the second call of a contradiction, which `line` describes, ends after `moment` (a time in the
-    recording).
+    """Returns whether the second call in `line` (about a contradiction) ends after `moment` (a time in the recording).
     """
     return any(int(end) > moment for end in re.findall(r", \d+ to (\d+), needs", line))
 

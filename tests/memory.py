@@ -1,4 +1,4 @@
-"""Tests that the program does not keep data in memory that it no longer needs. (No contract covers the use of memory.)
+"""Tests that the program keeps no data that it no longer needs. (No contract covers the use of memory.)
 
 Each command runs in a limited address space and uses about two thirds of the limit. A command would need twice the
 limit if it kept one of these kinds of data: the calls of a recording (`judge`), the printed text (`trace`), each event
@@ -34,7 +34,7 @@ CALLS, KEYS = 800_000, 120
 @pytest.mark.parametrize("threads, at_once", [(4, True), (CALLS // 4, False)])
 def test_judge_keeps_no_completed_call(program, room, threads, at_once):
     """Tests that `judge` keeps nothing about a completed call or its thread, except the state of the call's key. The
-    recording comes from a file or from standard input.
+    recording is read from a file or from standard input.
     """
     of_key = ("add", "true"), ("contains", "true"), ("add", "false"), ("remove", "true"), ("remove", "false")
     calls = [(word, number % KEYS, reply) for number in range(CALLS // len(of_key)) for word, reply in of_key]
@@ -68,8 +68,8 @@ def events_of(schedule):
 @pytest.mark.parametrize("words", ["draft", "trace", "replay", "show --from 400000", "show --svg --from 400000", "replay --lacks mark-in-contains",
                                    "show --lacks mark-in-contains --from 400000"])
 def test_no_command_keeps_its_events(program, words):
-    """Tests that the commands need little memory for a schedule with hundreds of thousands of events (for which `trace`
-    prints tens of megabytes), even on a broken list (a list without one of its checks).
+    """Tests that the commands need little memory for hundreds of thousands of events, even on a broken list (a list
+    without one of its checks). `trace` prints tens of megabytes.
     """
     schedule = well(program, "draft", text=long_walks())
     many = events_of(schedule)

@@ -1,6 +1,6 @@
-"""Tests the recorder in examples/recorders, which docs/YOUR-SET.md shows, and a script in examples/recordings that
-judges the keys of a recording in separate parts. For any number of parts, the script must print the same verdict as
-`listset judge`.
+"""Tests the recorder in examples/recorders (shown in docs/YOUR-SET.md), and a script in examples/recordings that judges
+the keys of a recording in separate parts. For any number of parts, the script must print the same verdict as `listset
+judge`.
 """
 
 import os

@@ -1,4 +1,4 @@
-"""Tests, for texts of each kind, that the program names the first error in the text. The texts come from a table, or
+"""Tests, for texts of each kind, that the program names the first error in the text. The texts are from a table, or
 are prefixes of a valid text. The program must print an error message of exactly one line, and exit with status 1.
 """
 
@@ -18,8 +18,8 @@ READERS = {
     "recording": ("judge", "listset-calls 1\n"),
     "keys": ("serve lazy 1 4 0 0 -", ""),
 }
-# Each line of the table has a kind of text, an error (a line number and a cause), and texts in which the first error is
-# the one named. The lines of a text end with \n.
+# Each line of the table has a kind of text, an error (a line number and a cause), and texts with this first error. The
+# lines of a text end with \n.
 TABLE = r"""
 schedule: line 5: Event | take 0 5\n | go  0 1\n | begin 0 add\n | opening 5\n
 schedule: line 5: Number | begin 0 add 05\n | begin 0 add 4294967296\n | go 0 0\n | go 0 10001\n

@@ -71,7 +71,7 @@ def made_packages(folder, program):
 
 
 class Release:
-    """The packages of a trial release, which all tests share."""
+    """The packages of a trial release, shared by all tests."""
 
     def __init__(self, folder, room):
         self.folder, self.room = folder, room
@@ -104,7 +104,7 @@ def replays(program, enter, **how):
 
 def told_of_broken(program):
     """Returns the version, the verdict on the report of a broken list (a list without one of its checks), and the exit
-    status, in the format that the test programs print.
+    status, in the format of the test programs.
     """
     done = ran(program, "check", SCHEDULES / "snip.broken.report")
     return f"{version_stamp.told(proof_of(program))}{(done.stdout + done.stderr).strip()} {done.returncode}\n"

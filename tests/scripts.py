@@ -1,6 +1,6 @@
 """Tests ./listset as a user would use it: without a program, with only Node, after an edit, and with an interrupted
-command. Also tests `build/take`. The tests use small clones of the repository, in which a program that adds numbers
-takes the place of listset.
+command. Also tests `build/take`. The tests use small clones of the repository, with a program that adds numbers in
+place of listset.
 """
 
 import importlib.machinery
@@ -107,7 +107,7 @@ def shown(command):
     return re.sub("^    ", "", block, flags=re.M).rstrip("\n") + "\n"
 
 
-def test_without_anything_the_script_says_what_to_install(room):
+def test_without_any_tool_the_script_names_what_to_install(room):
     clone = Clone(room)
     for words in ("skip", "help skip", "replay a", "judge /a --help", "--unproved example"):
         wants(clone.ran("./listset", *words.split()), status=127, output="", tells=[NO_NODE])

@@ -1,7 +1,7 @@
-"""Checks every sentence that `check` and `show` print about a report. Each kind of sentence has a property that
-decides, by a search through all orders, whether the sentence is true. The reports have 3 to 9 random calls, and are
-correct or wrong. A line that no property covers fails the test. `trace` and `show` must also show the same calls as the
-report that `replay` prints. (tests/judging.py checks sentences about recordings.)
+"""Checks every sentence that `check` and `show` print about a report. For each kind of sentence, a property decides by
+a search through all orders whether the sentence is true. The reports have 3 to 9 random calls, and are correct or
+wrong. A line that no property covers fails the test. `trace` and `show` must also show the same calls as the report
+that `replay` prints. (tests/judging.py checks sentences about recordings.)
 
 The environment variable CASES is the number of random cases of each test per seed. `--few` tests a tenth of them.
 """
@@ -170,8 +170,8 @@ class Reported:
         return (self.calls[number].reply or reply) != reply or self.answer_at(place) != reply
 
     def explains(self):
-        """Returns whether the report's order explains the calls: the order has each completed call once, keeps the
-        order of calls that do not overlap, has only correct replies, and ends with the report's final keys.
+        """Returns whether the report's order explains the calls. The order must have each completed call once, keep the
+        order of calls that do not overlap, have only correct replies, and end with the report's final keys.
         """
         numbers = [number for number, _ in self.order]
         completed = {number for number, it in enumerate(self.calls) if it.end}
@@ -408,8 +408,8 @@ def the_key_has_this_state_at_the_end(case, key, state):
 
 
 def may_be_made(case, word, key, since, until):
-    """Returns whether some call of the operation `word` could have changed `key` between `since` and `until`. (A call
-    can have changed the key if it overlaps the interval and either returned true or is pending.)
+    """Returns whether some call of the operation `word` can have changed `key` between `since` and `until`: the call
+    overlaps the interval, and returned true or is pending.
     """
     return any((it.word, it.key) == (word, key) and changes(it) and it.begin <= until and since <= (it.end or LAST) for it in case.calls)
 

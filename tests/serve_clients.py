@@ -35,7 +35,7 @@ LATE = 3
 
 
 class Sharing:
-    """A client, which sends its requests in pieces of random size, byte by byte, or all at once before it reads an
+    """A client that sends its requests in pieces of random size, byte by byte, or all at once before it reads an
     answer. The client ends with QUIT, in the middle of a line, or with random bytes. `told` contains the answers to the
     client's calls on shared keys, and `own` contains the keys that only the client uses.
 
@@ -139,7 +139,7 @@ def test_more_clients_than_seats_are_served(program):
         server.ends(sessions, 6 * len(served) + faulty, 6 * len(served) + 3 * faulty, served)
 
 
-# ---- Tests of a server with one seat, which serves one client at a time
+# ---- Tests of a server with one seat (a seat serves one client at a time)
 
 
 def test_many_connections_one_after_another_are_served(program):
@@ -172,9 +172,9 @@ def drips(connection, end):
 
 
 def test_clients_of_one_seat_are_served_in_turn(program):
-    """Tests clients that use one seat (one thread's access to the set) one after another. The seat can add 2 keys. The
-    system refuses a connection to an address of the machine on which the server does not listen. A client that connects
-    after the last session receives no answer.
+    """Tests clients that use one seat (one thread's access to the set) one after another. The seat can add 2 keys. A
+    connection to another address of the machine is refused. A client that connects after the last session receives no
+    answer.
     """
     with serving(program, ONE_LIST, 1, 2, 6) as server:
         with pytest.raises(ConnectionRefusedError):
@@ -277,8 +277,8 @@ def sends_until_stuck(connection):
 
 
 def test_a_client_that_reads_no_answer_holds_only_its_seat(program):
-    """Tests that other clients are served while one client reads no answer, and that the server ends after this client has
-    disconnected.
+    """Tests that other clients are served while one client reads no answer. The server must end after the silent client
+    has disconnected.
     """
     key = 4_294_967_295
     with serving(program, ONE_LIST, 2, ROOM, 5) as server:

@@ -1,8 +1,8 @@
 """Tests how `run` and `serve` end if not all of their threads can be started.
 
 A thread's stack needs address space, so under a limit on the program's address space (`ulimit -v`), the system refuses
-to start some or all threads. Under each limit, `run` and `serve` must print either their result or that a thread or an
-allocation was refused, and `serve` must serve its client completely or not at all.
+to start some or all threads. Under each limit, `run` and `serve` must print their result, or that a thread or an
+allocation was refused. `serve` must serve its client completely or not at all.
 """
 
 import collections
@@ -64,8 +64,8 @@ def ended_serve(program, limit):
 
 @pytest.fixture
 def limits(program):
-    """Returns limits on the address space, in KiB, under which the program still starts. (The program's loader needs
-    address space too.) Successive limits differ by half the size of a stack, and the first limits by less.
+    """Returns limits on the address space, in KiB, that let the program start. Successive limits differ by half the
+    size of a stack, and the first limits by less.
     """
     limits = [*range(2_000, 12_000, 128), *range(12_000, 4 * (THREADS + 2) * STACK, STACK // 2)]
     return [it for it in limits if ran(*limited(it, program, "example", "full")).returncode == 0]
@@ -81,15 +81,14 @@ def test_run_and_serve_end_in_a_documented_way_under_each_limit(program, way, li
 
 
 def test_serve_without_memory_for_the_set_does_not_listen(program):
-    """Tests the largest set under a limit of 40 MB, which is too little for the set. The server must not print the line
-    that states that it is ready.
+    """Tests the largest set under a limit of 40 MB, too little for the set: the server must not report that it listens.
     """
     made = ran(*limited(40_000, program, "serve", "lock-free", 64, 16384, 0, 1))
     assert (made.returncode, made.stdout, made.stderr) == (3, "", "listset: out of memory\n")
 
 
 def test_serve_without_files_refuses_the_first_connection(program):
-    """Tests a limit of 4 files, which the standard streams and the listener use up, so the system refuses the first
+    """Tests a limit of 4 files. The standard streams and the listener use up the limit, so the system refuses the first
     connection.
     """
     made = ran(*limited(4, program, "serve", "lazy", 2, 4, 0, 1, of="-n"))

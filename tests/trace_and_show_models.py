@@ -47,8 +47,8 @@ def drawn_schedule(kind, seed, lacks=None, overruns=False):
 
 
 class Compared:
-    """Compares what the program and the models print for the same input. `words` are the options that name a broken
-    list (a list without one of its checks), if any.
+    """Compares the outputs of the program and the models for the same input. `words` are the options that name a
+    broken list (a list without one of its checks), if any.
     """
 
     def __init__(self, program, name, text, *words):

@@ -154,7 +154,7 @@ def java(room):
 
 def python(room):
     shutil.copy(FORMS / "python" / "listset_judge.py", room)
-    fewer = 'listset_judge.judge.__kwdefaults__["runs"] = 2'  # (the page's line, which precedes these lines, performs 20 runs)
+    fewer = 'listset_judge.judge.__kwdefaults__["runs"] = 2'  # (the page's line is before these lines, and performs 20 runs)
     (room / "own.py").write_text("\n".join([PYTHON, line_of("Python")[0], fewer, options_of("Python")]))
     return [sys.executable, "-B", "own.py"]
 

@@ -1,4 +1,4 @@
-"""A model of the five lists. It executes the step tables of docs/TABLES.md literally, one step of a thread at a time. A
+"""A model of the five lists: executes the step tables of docs/TABLES.md literally, one step of a thread at a time. A
 step uses the words of the nodes (key, link, lock) and the registers of the thread (pred, curr, ..). A broken list (a
 list without one of its checks) has a table that differs in some rows.
 """
@@ -75,8 +75,8 @@ LACKING = {
     "new-slot": ("lock-free", ""),  # (each add uses the first slot)
 }
 # The broken list second-lock: a remove locks only pred. The remove first reads the key of a node, and locks the node
-# only to move past the node. ROWS_OF_ONE_LOCK maps a row to which the intact table sends a remove to the row at which
-# the remove of second-lock continues.
+# only to move past the node. ROWS_OF_ONE_LOCK maps the next row of a remove in the intact table to the next row in
+# second-lock.
 ROWS_OF_ONE_LOCK = {3: 4, 4: 5, 5: 3, 12: 13}
 
 # The conditions in the step tables, as functions of a thread, the value s that the thread's step loaded, the key word

@@ -1,5 +1,5 @@
-"""Tests that each command in tests/transcripts/*.md prints exactly the output below the command, and that the commands
-in README and other pages print the output that the pages show.
+"""Tests that each command in tests/transcripts/*.md prints exactly the output below the command. The commands in README
+and other pages must print the output that the pages show.
 
 A heading `## NAME` begins a test. Lines with an indent of four spaces are commands and their output:
 
@@ -98,7 +98,7 @@ def lines_as_shown(run):
 
 
 def repository_in(work, program):
-    """Creates a folder with the files of the repository, in which ./listset is the program under test."""
+    """Creates a folder with the files of the repository and, as ./listset, the program under test."""
     work.mkdir()
     for it in TOP.iterdir():
         (work / it.name).symlink_to(program if it.name == "listset" else it)

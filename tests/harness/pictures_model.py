@@ -32,7 +32,7 @@ def keys_text(keys, separator=","):
 
 class Drawn:
     """A picture limited to the moments (positions in the history) from `first` to `last`. The picture has at most 64
-    columns, one for each moment at which a call begins, takes effect or ends.
+    columns, one for each moment when a call begins, takes effect or ends.
     """
 
     def __init__(self, picture, first, last):
