@@ -29,7 +29,7 @@ const counted = (count, word) => inPage("counted")(count, word);
 const say = (line) => process.stdout.write(`${printable(line)}\n`);
 const tell = (line) => process.stderr.write(`lessons: ${printable(line)}\n`);
 
-// Calls `deed`, which uses a file, and returns the result. Throws `Trouble` if the file cannot be read.
+// Calls `deed` (a function that uses a file) and returns the result. Throws `Trouble` if the file cannot be read.
 function withFile(file, deed) {
   try {
     return deed(file);
@@ -71,8 +71,7 @@ async function toldCourses(courses, isLink) {
   return 0;
 }
 
-// Prints which tasks a student has solved, which are missing, and the table's notes about the student. Returns whether every task is solved and every line is
-// readable.
+// Prints a student's solved tasks, missing tasks, and notes in the table. Returns whether every task is solved and every line is readable.
 function toldRow(row, columns) {
   const who = row.number === "" ? row.name : `${row.name} (${row.number})`;
   const open = columns.filter(({ id }) => !row.solved.has(id)).map(({ title }) => title);

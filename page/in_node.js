@@ -35,7 +35,7 @@ function inPage(words) {
   return new Function(...Object.keys(names), `return (${words});`)(...Object.values(names));
 }
 
-// Starts the engine, which calls `read` to read its inputs. Returns null if node cannot run the engine.
+// Starts the engine. The engine calls `read` to read its inputs. Returns null if node cannot run the engine.
 async function startedEngine(read) {
   const bytes = fs.readFileSync(path.join(__dirname, "listset.wasm"));
   if (!WebAssembly.validate(bytes)) return null;

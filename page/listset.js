@@ -2,10 +2,10 @@
 //
 //     node page/listset.js COMMAND ..               node page/listset.js --help
 //
-// The commands, arguments and options are those in the program's help texts (help.json, made from crates/lset_command/src/table.rt).
-// FILE can be -, which means standard input. The output, the error message and the exit status are those of the program (docs/TEXTS.md). At a terminal, a hint
-// follows an error message. If node cannot run the module, or if the command is `run` or `serve`, the script reads nothing, prints an error and exits with
-// status 70. With LISTSET_ENGINE=other, the script exits with status 70 and prints no error whenever it would need the module.
+// The commands, arguments and options are those in the program's help texts (help.json, made from crates/lset_command/src/table.rt). FILE can be - (standard
+// input). The output, the error message and the exit status are those of the program (docs/TEXTS.md). At a terminal, a hint follows an error message. If node
+// cannot run the module, or if the command is `run` or `serve`, the script reads nothing, prints an error and exits with status 70. With LISTSET_ENGINE=other,
+// the script exits with status 70 and prints no error whenever it would need the module.
 "use strict";
 
 const fs = require("fs");
@@ -22,8 +22,8 @@ const HELP = require("./help.json");
 
 const ORIGIN = `commit ${"0".repeat(40)}\nproof unknown\n`; // the lines of a program without a known commit and proof
 
-// The commands that are not answered by the engine's function `listset_COMMAND`. A command is answered instead by two other functions (without and with the
-// command's flag), by a function that reads the input in pieces, by a function of this script, or only by a built program.
+// The commands without a function `listset_COMMAND` of the engine. Such a command uses two other functions (without and with its flag), a function that reads
+// the input in pieces, a function of this script, or only a built program.
 const ANSWERS = {
   judge: { isJudge: true },
   stats: { inPieces: "listset_stats_from" },
@@ -85,8 +85,8 @@ function parts() {
   }
 }
 
-// Parses the arguments. Returns the command, whether the command's flag is set, the options (keyed by name, without hyphens), and the other arguments, which
-// can follow a `--`.
+// Parses the arguments. Returns the command, whether the command's flag is set, the options (keyed by name, without hyphens), and the other arguments (perhaps
+// after a `--`).
 function asked([name = "replay", ...words]) {
   answerFirst(name, words);
   if (!Object.hasOwn(COMMANDS, name)) throw unknownCommand(name);
@@ -168,7 +168,7 @@ function takeFlag(found, word, behind) {
   found.isOn = true;
 }
 
-// Returns the value of an option and removes the value from `words`. As in clap, an error in the next argument takes precedence over a missing value.
+// Returns the value of an option and removes the value from `words`. As in clap, an error in the next argument precedes a missing value.
 function textBehind(shown, words, found) {
   const [word = "--"] = words;
   if (isValue(word)) return words.shift();
@@ -208,7 +208,7 @@ function readSome(input, piece) {
   }
 }
 
-// Reads bytes for the engine. Returns -1 after an error, which the engine then reports.
+// Reads bytes for the engine. Returns -1 after an error; the engine reports the error.
 function readForEngine(input, piece) {
   try {
     return readSome(input, piece);
@@ -281,7 +281,7 @@ function answerTo(engine, { name, functions, inPieces, isJudge, isExplain, isOn,
   return tried.status === WRONG ? tried : ask(bytesOf(opened(values[0])));
 }
 
-// Returns the output of `explain` for a file, or a line that says why the file cannot be read. `name` is what the output calls the file.
+// Returns the output of `explain` for a file, or a line with the reason why the file cannot be read. `name` is the file's name in the output.
 function explained(engine, file = "-", name = file === "-" ? "FILE" : file) {
   try {
     return engine.askBytes("listset_explain", Buffer.from(name), bytesOf(opened(file)));
@@ -343,8 +343,8 @@ function tellError(text, hint = noHint) {
 
 const noHint = () => "";
 
-// Returns a function that computes a hint, which can be empty, for a failed command with the arguments `words`. The hint is about the error message `said` or,
-// if `said` is empty, about the refused recording for which the command printed `bytes`.
+// Returns a function that computes a hint (or an empty one) for a failed command with the arguments `words`. The hint is about the error message `said` or, if
+// `said` is empty, about the refused recording with the output `bytes`.
 function hintOn(engine, words) {
   return (said, bytes) => {
     const hint = asCalled(said === "" ? keysHint(words, bytes) : hintOf(engine, words, said));
@@ -427,7 +427,7 @@ function lineOf(file, number) {
   return line.slice(0, 100).replace(/[^ -~]/g, (byte) => `\\x${byte.charCodeAt(0).toString(16).padStart(2, "0")}`);
 }
 
-// Returns a hint for an error in a file. The hint says what is wrong and what to do.
+// Returns a hint for an error in a file. The hint names the error and a remedy.
 function fileHint(engine, { name, texts, file, number, cause }) {
   const isLong = fs.existsSync(file) && fs.statSync(file).size > LONGEST;
   if (isLong && READS[name] === "recorded calls" && cause) return longHint(engine, file, number, cause);
@@ -440,7 +440,7 @@ function fileHint(engine, { name, texts, file, number, cause }) {
   return last.includes(": there is no such file") ? `${last}\n${meant(engine, name, file)}`.trimEnd() : last;
 }
 
-// Returns a hint for a file whose first line is wrong for a command: what the file is, and what the command reads. `first` and `last` are lines of
+// Returns a hint for a file whose first line is wrong for a command: the kind of the file, and the kind that the command reads. `first` and `last` are lines of
 // the file's explanation.
 function headerHint(name, file, first, last) {
   const reads = `${name} reads ${READS[name]}: line 1 must be ${TITLES[READS[name]]}`;
@@ -568,8 +568,8 @@ function brokenExamples(engine) {
   return namesOfExamples(engine).filter((it) => engine.ask("listset_broken_example", it).status === 0).sort();
 }
 
-// Returns a sentence about a misspelled value, to follow the sentence about the value's range. The sentence says how numbers are written, or which kind of list
-// is probably meant.
+// Returns a sentence about a misspelled value, to follow the sentence about the value's range. The sentence states how numbers are written, or which kind of
+// list is probably meant.
 function spelling(range, value) {
   if (/[0-9] to |: the first/.test(range)) return /^(0|[1-9][0-9]*)$/.test(value) ? "" : ". A number has decimal digits alone, and no leading zero";
   const plain = value.toLowerCase().replace(/[^a-z]/g, "").replace(/list$/, "");
@@ -623,7 +623,7 @@ function ofThisFile(engine, { texts, values: [file = "-"] }, value) {
   return all || drawn ? `; of this file, 1 to ${all ?? drawn}` : "";
 }
 
-// Returns a hint in which each command begins with the command that started this script, instead of with `listset`.
+// Returns a hint whose commands begin with the command that started this script, instead of with `listset`.
 function asCalled(hint) {
   const [from, whole] = [path.relative("", process.argv[1]), process.argv[1]];
   const called = `node ${quoted(from.length < whole.length ? from : whole)}`;
@@ -633,7 +633,7 @@ function asCalled(hint) {
 // Matches the program's name before a command.
 const NAMED = new RegExp(`\\blistset (?=((${Object.keys(COMMANDS).join("|")}|help)\\b|--version|--help))`, "g");
 
-// Returns a hint for wrong arguments about which the program printed the error `said`. Returns an empty string if there is no hint.
+// Returns a hint for wrong arguments with the error message `said`. Returns an empty string if there is no hint.
 function wordsHint(given, said) {
   const [name = ""] = given;
   const [, word] = /unexpected argument '([^' ]*)/.exec(said) ?? [];
@@ -696,7 +696,7 @@ function optionHint(given, word) {
   return name.startsWith("-") ? "listset --help lists the commands" : `listset help ${name} lists its arguments and options`;
 }
 
-// Returns a hint for a negative number: the range of the option or argument for which the number was given.
+// Returns a hint for a negative number: the range of the number's option or argument.
 function negativeHint([name, ...words], word) {
   const at = words.findIndex((it) => it.startsWith(word));
   const option = Object.hasOwn(COMMANDS[name]?.options ?? {}, words[at - 1]) && words[at - 1];
@@ -708,8 +708,8 @@ function negativeHint([name, ...words], word) {
   return range ? `${value} '${word}' is wrong. ${range}` : `listset help ${name} lists its arguments and options`;
 }
 
-// If the command reads from a terminal, prints what the command reads and how to end the input. (If ./listset has started this script, ./listset has printed
-// that message.)
+// If the command reads from a terminal, prints the kind of text that the command reads, and how to end the input. (If ./listset has started this script,
+// ./listset has printed that message.)
 function tellWhatIsRead({ name, isOfFile, values: [file = "-"] }) {
   if (!isOfFile || file !== "-" || process.env.LISTSET_ENGINE !== undefined || !isatty(0) || !isatty(2)) return;
   process.stderr.write(`listset: ${asCalled(`reading ${READS[name]} from the terminal, up to Ctrl-D (see listset help ${name})`)}\n`);

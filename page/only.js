@@ -1,7 +1,7 @@
 // `judge --only KEY`: prints the recording of one key's calls. If no order explains them, prints the few calls that show why.
 "use strict";
 
-const ENOUGH = 16; // the number of last calls in which the beginning of a part is searched first
+const ENOUGH = 16; // the number of last calls that are searched first for the beginning of a part
 const MOST_TRIED = 64; // the maximum number of calls that are tried as the first call of a part
 
 // A part of a key's calls: those with the indices from `first` to `behind - 1`. `opening` and `left` state whether the set has the key before and after
@@ -31,8 +31,8 @@ function textOf(calls, key, { first, behind, opening, left }) {
   return ["listset-calls 1", ...(opening ? [`opening ${key}`] : []), ...made, ...ends, ""].join("\n");
 }
 
-// Returns a part of the calls that shows why the calls up to a moment, or all calls, are refused. The part begins with a call at which no other call is
-// pending and the state of the key is known: the first such call among the last ENOUGH calls or, if there is none, the last one before them.
+// Returns a part of the calls that shows why the calls up to a moment, or all calls, are refused. The part begins with a call when no other call is pending and
+// the state of the key is known. It is the first such call among the last ENOUGH calls or, if none exists, the last one before them.
 function partOf(calls, all, moment, refusal) {
   const behind = moment === undefined ? all.behind : calls.filter(({ begin }) => begin <= BigInt(moment)).length;
   const part = moment === undefined ? all : { ...all, behind, left: null };

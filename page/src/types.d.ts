@@ -1,4 +1,4 @@
-// Declares what the type checker does not know: newer parts of browsers, and the engine's module in a page that is opened as a file.
+// Declares names unknown to the type checker: newer parts of browsers, and the engine's module in a page that is opened as a file.
 declare const ENGINE: string;
 declare const MORE: any;
 declare class CompressionStream extends TransformStream {

@@ -23,7 +23,7 @@ const startOf = inPage("startOfLacking");
 const LOST = /^(\d+) was added once and never removed, and at the end the set does not have it$/; // as docs/CLASSIC.md summarizes it
 const isTask = (name) => name !== inPage("NO_TASK");
 
-// Checks that the schedule breaks the list as docs/CLASSIC.md says. For the list `NO_TASK`, checks instead that the order of the linearization points is
+// Checks that the schedule breaks the list as docs/CLASSIC.md claims. For the list `NO_TASK`, checks instead that the order of the linearization points is
 // refused and another order explains the calls. The schedule must not break the list before its last call.
 function checkBroken(ask, name) {
   const schedule = scheduleOf(name);
@@ -43,8 +43,8 @@ function checkBroken(ask, name) {
   check(`${name} is a list of one kind`, verdictOnLacking(ask, name, ofOther).kind === "refused");
 }
 
-// Checks that each event in the run of a broken list has a sentence and a picture, and that a run of the correct list has the same events up to the first event
-// that differs.
+// Checks that each event in the run of a broken list has a sentence and a picture. The events before the first difference (`departureOf`) must be a run of the
+// correct list.
 function checkDeparture(ask, name) {
   const trace = new Trace(ask("listset_lacking", name, scheduleOf(name), "trace").text, 2);
   check(`${name} stands in its trace`, trace.lacks === name && trace.kind === LACKING[name]);
@@ -61,8 +61,8 @@ function checkDeparture(ask, name) {
   check(`${name}: up to event ${event} they agree`, agree === event - 1 && common.total === event - 1);
 }
 
-// Checks the row "set" of the history. Its label must state that the row shows the keys that follow from the linearization points. (The chain of a broken
-// list can have other keys.)
+// Checks the row "set" of the history. The row's label must name the keys that follow from the linearization points. (The chain of a broken list can have other
+// keys.)
 function checkContents(trace) {
   for (let count = 0; count <= trace.total; count++) {
     const drawn = inPage("drawContents")(trace, inPage("scaleOf")(trace, count, 860, true));
@@ -72,8 +72,8 @@ function checkContents(trace) {
   }
 }
 
-// Checks how the page reads a broken list's trace from a file. If the trace does not name the broken list, the page compares the trace with that of the correct
-// list for the same schedule, and names the first event that differs.
+// Checks how the page reads a broken list's trace from a file. If the trace does not name the broken list, the page names the first event that differs from the
+// correct list's trace of the same schedule.
 function checkFile(ask, name) {
   const { text } = ask("listset_lacking", name, scheduleOf(name), "trace");
   check(`${name}: its trace is one`, inPage("traceIn")(text)?.lacks === name);

@@ -12,8 +12,8 @@ const GROUNDS_OF = {
   paper: ["ink"],
 };
 const THREADS = [0, 1, 2, 3, 4, 5, 6, 7];
-// The bars of the history. `share` matches the opacity with which the thread's colour fills a bar, and `texts` are the colours of the text on the bar. The
-// first entry is for calls that have begun, and the second for calls that begin later.
+// The bars of the history. `share` matches the opacity of the thread's colour in a bar, and `texts` are the colours of the text on the bar. The first entry is
+// for calls that have begun, and the second for calls that begin later.
 const BARS = [
   { share: /\.bar rect \{[^}]*fill-opacity: ([.0-9]+)/, texts: ["ink", "soft"] },
   { share: /\.bar\.later rect \{[^}]*fill-opacity: ([.0-9]+)/, texts: ["pale"] },

@@ -18,8 +18,8 @@ function check(result, name, isGood) {
   else result.failed.push(name);
 }
 
-// Checks that the page can read each trace, that the trace contains the given schedule, and that the page can step to the end of the trace and back. Some trace
-// must contain a `ceiling` that returns a key, and some trace a `ceiling` that returns nothing.
+// Checks that the page can read each trace, and step to its end and back. The trace must contain the given schedule. Some trace must contain a `ceiling` that
+// returns a key, and some trace a `ceiling` that returns nothing.
 function checkTraces(result, engine, cases) {
   const replies = new Set();
   for (const { texts } of cases.filter((wanted) => wanted.function === "listset_trace")) {

@@ -116,8 +116,8 @@ function checkTeacher(course, folder) {
   check(`two of one name: ${named.lines}`, named.status === 1 && named.lines.filter((line) => line.startsWith("Max: 2 rows with this name")).length === 2);
 }
 
-// Checks the tool's options and inputs: with an assignment's link, only the tasks of this assignment count; hand-ins can be in a folder and in
-// UTF-16; results can be written as CSV; a wrong link is refused.
+// Checks the tool's options and inputs: hand-ins in a folder and in UTF-16, results as CSV, and a wrong link. With an assignment's link, only the tasks of this
+// assignment count.
 function checkAssignment(course, folder) {
   const link = "https://lists.example/page/#assignment=Week+3&learn=one-lock";
   const [answer, other] = course.lessons.map(({ name, solution }) => ({ name, schedule: solution }));

@@ -201,7 +201,7 @@ function checkRecords(ask, reports) {
   }
 }
 
-// Checks that a refusal names two calls that contradict each other, and that only these two calls are drawn.
+// Checks that a refusal names two contradicting calls, and that only these two are drawn.
 function checkRefusals(ask) {
   const both = saidOf(ask, inPage("RECORDED_EXAMPLE"));
   const reasons = [
@@ -263,7 +263,7 @@ function checkFaultsOfCalls(ask) {
   check(`a fault: ${says}`, kind === "fault" && says === `listset: line 3: History: ${why}.`);
 }
 
-// Checks that the page shows an answer of the engine that is not a verdict, and does not take such an answer for a verdict.
+// Checks that the page shows an answer of the engine that is not a verdict, and does not treat such an answer as a verdict.
 function checkTroubles(ask) {
   const answer = answerOfWord(exerciseOf(ask("listset_replay", ask("listset_example", "snip").text).text, "points"), "2-true,0-true,1-true");
   const stopped = () => ({ status: 1, text: "the engine stopped: unreachable" });
@@ -271,7 +271,7 @@ function checkTroubles(ask) {
   check(`no answer: ${none.says}`, none.isRight === null && none.says === "This order is not judged: the engine stopped: unreachable.");
 }
 
-// Checks two lists side by side. In each turn, the thread executes a step in both lists, except in a list in which its call has already returned.
+// Checks two lists side by side. In each turn, the thread executes a step in both lists, except in a list whose call has already returned.
 function checkSides(ask) {
   const [Sides, readProgram, programText] = ["Sides", "readProgram", "programText"].map(inPage);
   const program = readProgram("0: add 5, remove 5\n t1 : contains 5\n");

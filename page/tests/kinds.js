@@ -1,7 +1,7 @@
 // Kinds of random recordings for verdicts.js. Some have special calls: many overlapping calls on one key, three keys, a single operation, many keys with a few
 // calls each, other keys that change all the time, long gaps and large moments, or opening and final keys that no call uses. The others imitate sets with bugs:
-// several bugs at once, calls that give up, keys inserted twice, two calls in the critical section at once, changes lost while the set grows, nodes that stay
-// linked, buckets created twice, keys never found, or a set that is permanently corrupted.
+// several bugs at once, calls that fail wrongly, keys inserted twice, two calls in the critical section at once, changes lost while the set grows, nodes that
+// stay linked, buckets created twice, keys never found, or a set that is permanently corrupted.
 "use strict";
 
 // Returns the kinds of recordings, each as a function that generates a random recording. The arguments are functions of verdicts.js that draw random numbers or
@@ -100,8 +100,8 @@ module.exports = ({ draw, pick, replyOf, keysAfter, paddingAfter }) => {
     return recordingOf(calls, [], left);
   }
 
-  // Generates calls of several threads on some keys. `replyTo` returns the reply to a call, given the call, the set and the pending calls. It can also return a
-  // function that is called when the call ends.
+  // Generates calls of several threads on some keys. `replyTo` returns the reply to a call, given the call, the set and the pending calls. `replyTo` can also
+  // return a function that is called when the call ends.
   function madeBy(keys, count, replyTo, threads = 3, starts = 2, operations = ["add", "remove", "add", "remove", "contains"]) {
     const [calls, open, present] = [[], [], new Set()];
     const set = {
@@ -225,7 +225,7 @@ module.exports = ({ draw, pick, replyOf, keysAfter, paddingAfter }) => {
       for (const call of calls) delete call.taken;
       return recordingOf(calls, opening, draw(4) === 0 ? null : [...set]);
     },
-    function refusing() { // adds and removes, or only one of them, give up while another call of the set runs, and return false
+    function refusing() { // adds and removes, or only one of them, return false without effect while another call of the set runs
       const [keys, operations] = [[1, 2, 5, 6, 9, 12, 14].slice(draw(2)), pick([["add", "remove"], ["add", "remove"], ["add", "remove"], ["add"], ["remove"]])];
       const [isBeside, rate] = [draw(3) > 0, 50 + draw(50)];
       return madeBy(keys, 13, ({ call, set, open }) => {
@@ -234,7 +234,7 @@ module.exports = ({ draw, pick, replyOf, keysAfter, paddingAfter }) => {
         return set.take(call);
       }, 2, 1);
     },
-    function doubled() { // overlapping adds both insert the key, and a remove takes one of the two
+    function doubled() { // overlapping adds both insert the key, and a remove deletes one of the two
       const counts = new Map();
       return madeBy([1, 2, 5, 6].slice(draw(2)), 22, ({ call, set, open }) => {
         const count = counts.get(call.key) ?? 0;
@@ -246,7 +246,7 @@ module.exports = ({ draw, pick, replyOf, keysAfter, paddingAfter }) => {
         return String(reply);
       });
     },
-    function inside() { // a call that overlaps a change of its key writes back what it saw at its start, once or twice in many calls
+    function inside() { // a call that overlaps a change of its key restores the state at the call's start, once or twice in many calls
       let left = 2;
       return madeBy([1, 2], 350, ({ call, set }) => {
         const saw = set.has(call.key);
@@ -289,7 +289,7 @@ module.exports = ({ draw, pick, replyOf, keysAfter, paddingAfter }) => {
         return reply;
       });
     },
-    function outlasted() { // an add that another call outlasts gives up
+    function outlasted() { // an add that another call outlasts can return false without effect
       return madeBy([1, 2, 5, 6, 9], 55, ({ call, set, open }) => {
         const isOutlasted = !open.includes(call) && open.some((one) => one.begun < call.begun); // (the call ends now)
         return call.operation === "add" && isOutlasted && draw(10) > 0 ? "false" : set.take(call);

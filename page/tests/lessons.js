@@ -68,8 +68,8 @@ const LIKELY = {
   "ceiling-in-anothers-step": { lines: ["go 0 out"], deadEnd: "This ceiling has answered 7" },
 };
 
-// Checks the sentences about an attempt that misses a lesson's goal. They must state the first condition that is not met and, if the goal can no longer be
-// reached, the reason.
+// Checks the sentences about an attempt that misses a lesson's goal. The sentences must state the first condition that is not met and, if the goal can no
+// longer be reached, the reason.
 function checkTries(ask, { lessons }) {
   const lesson = lessons.find(({ name }) => name === "in-anothers-step");
   const tries = [
@@ -156,7 +156,7 @@ function checkFaults() {
   }
 }
 
-// Checks that the start and the answer of a lesson can be drafts, which the engine expands into schedules.
+// Checks that the start and the answer of a lesson can be drafts (the engine expands drafts into schedules).
 function checkDrafts(ask, { lessons }) {
   const drafted = TEXT.replace("  go 1 7\n  begin 0 contains 5\n  go 0 3\n", "  go 1 to 12\n  begin 0 contains 5\n  go 0 out\n");
   const course = triedCourse(ask, drafted);
@@ -187,7 +187,7 @@ function checkTrials(ask) {
   check("CRLF, a mark of order and tabs are no fault", triedCourse(ask, other).faults.length === 0);
 }
 
-// Checks that the course on the teachers' page is valid, even if its text is indented, and that the goal accepts exactly the runs that the question asks for.
+// Checks that the course on the teachers' page is valid, even if its text is indented. The goal must accept exactly the runs that the question describes.
 function checkOwnCourse(ask) {
   const [, text] = /<pre [^>]*>(listset-course 1\n[^<]*)<\/pre>/.exec(fs.readFileSync(path.join(__dirname, "..", "index.html"), "utf8"));
   const indented = text.replace(/^(?=.)/gm, "    ");

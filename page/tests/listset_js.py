@@ -18,7 +18,7 @@ FLAGS = "--chain --svg --broken -- - -x --svg=yes --no-such".split()
 OPTIONS = ["--from 3", "--from", "--from=9", "--from --", "--to 9", "--to=x", "--to=", "--from -5", "--from==3", "--width 40", "--width 0", "--from 4294967295",
            "--lacks lock", "--lacks luck", "--lacks=", "--lacks"]
 VALUES = "no-such-file . ./- Snip snip full lazy 2 4 9 00 -1 18446744073709551616".split()
-LONG_CALLS = 1_800_000  # of a recording of more than 64 MiB, a size that other texts must not have
+LONG_CALLS = 1_800_000  # in a recording of more than 64 MiB (the limit for other texts)
 REFUSED = "listset-schedule 1\nlist lazy\nthreads 2\nquota 4\nbegin 0 add 5\ngo 0 3\nbegin 0 add 7\n"
 
 
@@ -64,8 +64,7 @@ def drawn_words(dice):
 
 
 def asked(program, names):
-    """Yields the arguments to compare, together with a text for standard input, which is read if the arguments name no file.
-    """
+    """Yields the arguments to compare, each with a text for standard input (read if the arguments name no file)."""
     dice, schedule = random.Random(1), said([*program, "example", names[0]])[0]
     report = said([*program, "replay"], schedule)[0]
     texts = [schedule, report, REFUSED.encode(), b""]

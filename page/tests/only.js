@@ -1,6 +1,6 @@
-// Checks `judge --only KEY` on random recordings. If some order explains the calls on the key, the command must print the recording of this key.
-// Otherwise the command must print some of these calls, for which the judge's refusal has the same two lines. In the printed recording, the key must start in
-// the only state in which the earlier calls can leave it.
+// Checks `judge --only KEY` on random recordings. If some order explains the calls on the key, the command must print the recording of this key. Otherwise the
+// command must print some of these calls, and the judge's refusal of them must have the same two lines. In the printed recording, the key must start in the
+// only state that the earlier calls can leave.
 "use strict";
 
 const { startedEngine } = require("../in_node.js");
@@ -50,7 +50,7 @@ function textOf({ calls, opening, keys, isCut }) {
 const callsIn = (text) => text.split("\n").filter((line) => line.startsWith("call "));
 const head = (text) => text.split("\n").slice(0, 2).join("\n");
 
-// Returns what is wrong with the result `made` for a key, or "".
+// Returns the error in the result `made` for a key, or "".
 function faultOf(made, key, judge) {
   const of = (list) => list.filter((it) => it === key);
   const own = { ...made, calls: made.calls.filter((call) => call.key === key), opening: of(made.opening), keys: of(made.keys) };

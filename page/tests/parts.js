@@ -90,8 +90,8 @@ function checkRead() {
   }
 }
 
-// Checks that the number of a numbered run always selects the same run, which is small enough to judge. The numbered run in README.md must not change. Also
-// checks a large run, and the errors for addresses without a run.
+// Checks that the number of a numbered run always selects the same run, and that this run is small enough to judge. The numbered run in README.md must not
+// change. Also checks a large run, and the errors for addresses without a run.
 function checkSeeds(engine) {
   const ask = (name, ...texts) => engine.ask(name, ...texts);
   for (const kind of Object.keys(inPage("LISTS"))) {
@@ -178,7 +178,7 @@ function checkAddresses(engine, texts) {
   check("two things", refusalOf("#example=snip&list=lazy") === 'the address names an example, and has "list" too');
 }
 
-// Checks that an address can name a broken list by its number or its name, and that the broken list must be of the kind that the address names.
+// Checks that an address can name a broken list by its number or its name. The broken list must be of the kind in the address.
 function checkLacking(readAddress) {
   for (const [at, [name, kind]] of Object.entries(inPage("LACKING")).entries()) {
     const named = [name, at + 1].map((which) => readAddress(`#list=${kind}&threads=2&quota=4&lacks=${which}`).lacks);
@@ -224,8 +224,8 @@ function checkTraces(engine, names) {
 const areApart = (one, other) => one.x + one.wide <= other.x + 1 || other.x + other.wide <= one.x + 1 || one.y + one.high <= other.y + 1 || other.y + other.high <= one.y + 1;
 const ROOMS = [{ wide: 1280, high: 300 }, { wide: 900, high: 240 }, { wide: 351, high: 320 }];
 
-// Checks, at each event of the examples and of a run with many nodes, that everything is drawn within the edges of the stage, that no node covers another node,
-// and that no hand (the label of a thread) covers another hand.
+// Checks the drawing at each event of the examples and of a run with many nodes. Everything must be within the edges of the stage. No node may cover another
+// node, and no hand (the label of a thread) another hand.
 function checkStage(engine, texts) {
   let hands = 0;
   for (const [text, size] of texts.flatMap((text) => ROOMS.map((size) => [text, size]))) {

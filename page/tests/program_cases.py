@@ -50,8 +50,8 @@ class Program:
 
 
 def generated(program, dice):
-    """Generates schedules of each list: a long one, and others with few or many threads and small or large quotas. In some
-    of these, each `contains` is replaced by a ceiling. The `ceiling` can take a different number of steps than the
+    """Generates schedules of each list: a long one, and others with few or many threads and small or large quotas. In
+    some of these, each `contains` is replaced by a ceiling. The `ceiling` can have another number of steps than the
     `contains`, so that a later event is refused.
     """
     for kind in LISTS:

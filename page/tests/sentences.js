@@ -185,8 +185,8 @@ function tracedOf(engine, lacks, text) {
   return made.text.startsWith("listset-trace") ? new (inPage("Trace"))(made.text, inPage("versionOf")(text)) : null;
 }
 
-// Returns the events at which a ring is drawn wrongly, in a run of a correct list. For a call that changes nothing, the ring must be at the earliest moment
-// at which its reply is correct.
+// Returns the events with a wrong ring in a run of a correct list. For a call that changes nothing, the ring must be at the earliest moment when its reply is
+// correct.
 function ringsWrong(trace) {
   const keysAt = [new Set(trace.opening)];
   for (const { put, took } of trace.events()) {

@@ -18,7 +18,7 @@ function check(name, isGood) {
 
 const traceOf = (text) => ({ refused: null, total: text.split("\n").length - 5, kind: "lock-free" });
 
-// Returns a state of the page in which `text` is the schedule of `task`.
+// Returns a state of the page with `text` as the schedule of `task`.
 function shown(task, text, count = 1) {
   const actions = [["task", { task }], ["run", { text }], ["trace", { trace: traceOf(text), state: {}, count }]];
   return actions.reduce((state, [type, given]) => reduce(state, { type, ...given }), stateAtFirst());

@@ -19,7 +19,7 @@ const LONG = ["inside", "growing", "unlinked", "outlasted", "ownCopies", "broken
 const MOST_LONG = 60; // the most cases of a kind with long recordings: a case takes up to a second, so 4,000 of each kind would take hours
 const OF_FACTS = ["inside", "unlinked", "outlasted", "ownCopies", "broken", "borrowed", "manyFirsts"]; // only the facts of these kinds are checked
 
-// ---- Random numbers. They depend only on the seed.
+// ---- Random numbers that depend only on the seed.
 
 function draw(most) {
   seed = (seed + 0x6d2b79f5) | 0;
@@ -78,9 +78,9 @@ function asLook(call) {
   return { ...call, operation: "contains", key: Number(found ?? call.key), reply: String(found !== undefined) };
 }
 
-// Returns the states (present or absent) in which the calls on a key can leave the key if the key starts in a given state. The search keeps a set of nodes. A
-// node is a number. The lowest bit of the number is the state of the key, and each pending call has a bit that is set if the call has taken effect. A call that
-// changes nothing takes effect as soon as it can.
+// Returns the states (present or absent) that the calls on a key can leave if the key starts in a given state. The search keeps a set of nodes. A node is a
+// number: the lowest bit is the state of the key, and each pending call has a bit that is set if the call has taken effect. A call that changes nothing takes
+// effect as soon as it can.
 function waysLeft(calls, key, isThere) {
   const ofKey = calls.map(asLook).filter((call) => call.key === key && (call.ended !== null || mayChange(call)));
   const events = ofKey.flatMap((call) => [[call.begun, call], ...(call.ended === null ? [] : [[call.ended, call]])]).sort(([one], [other]) => one - other);
@@ -183,7 +183,7 @@ const OF_RECORDING = [
 const leaves = ({ operation, reply }) => operation === "add" || (operation === "contains" && reply === "true");
 const needs = (call) => leaves(call) !== (call.operation !== "contains" && call.reply === "true");
 
-// Returns whether `text` is true as the second part of a contradiction. The text names a later call or the final state of the key, which contradicts the first
+// Returns whether `text` is true as the second part of a contradiction. The text names a later call, or the final state of the key, that contradicts the first
 // call.
 function isSecond(it, said, text) {
   const [, end] = /^it is (present|absent) at the end$/.exec(text) ?? [];
@@ -313,8 +313,8 @@ function guiltyIn(why, says) {
   return known.length === 1 && isMet(known[0]) && why.guilty.every((call) => call === known[0]) ? sentence : `${says} (not in the picture)`;
 }
 
-// Decides whether the suspected change `guilty` has no rival. A rival is a change of another key by the same operation that overlaps the first of the two
-// contradicting calls and ends after that call, but not after the second call. (The diagnosis suspects no change if several changes fit equally well.)
+// Decides whether the suspected change `guilty` has no rival. A rival is a change of another key by the same operation. A rival overlaps the first of the two
+// contradicting calls, and ends after the first call but not after the second. (The diagnosis suspects no change if several changes fit equally well.)
 function isOnlySuspect(it, why, guilty) {
   const first = why.shown.find(({ mark }) => mark.startsWith("leaves "))?.call;
   const second = why.shown.find(({ call, mark }) => first !== undefined && call.begun > first.ended && needsKey(call) !== leaves(first) && mark !== "-")?.call;
@@ -385,8 +385,8 @@ const knownBy = (calls, moment) => calls.flatMap((call) => {
   return isChange(call) ? [{ ...call, ended: null, reply: null }] : [];
 });
 
-// Returns the moments from which the later calls on a key can be judged without the earlier calls, each with the state of the key at the moment. These are
-// moment 0, and each moment when no change is pending and the earlier calls (or the earlier changes alone) can leave the key in only one state.
+// Returns the moments after which the calls on a key can be judged without the earlier calls, each with the state of the key. Such a moment is 0, or a moment
+// when no change is pending and the earlier calls (or the earlier changes alone) can leave the key in only one state.
 function startsOf(calls, key, isThere) {
   const changes = calls.filter(isChange);
   const found = [[0, isThere]];
@@ -420,16 +420,16 @@ function* around(it, key, call) {
   }
 }
 
-// Returns whether an earlier change contradicts `call`: the change leaves the key in the opposite of the state that `call` finds, and no change back could have
-// taken effect between the start of the earlier change and the end of `call`.
+// Returns whether an earlier change contradicts `call`: the change leaves the opposite of the state that `call` finds. No change back can have taken effect
+// between the start of the earlier change and the end of `call`.
 function isKnownOtherwise(it, call) {
   const wanted = needs(call) ? "add" : "remove";
   const isLast = (one) => one.ended !== null && one.ended < call.begun && leaves(one) !== needs(call) && isNoneBetween(it, call.key, wanted, one.begun, call.ended);
   return !isChange(call) && ofKey(it, call.key).filter(isChange).some(isLast);
 }
 
-// Returns whether the opposite reply of `call` was the expected one: the changes of the key, or the calls on the key around `call`, are linearizable with the
-// opposite reply, but not with the recorded reply. Also returns true if an earlier change contradicts `call`.
+// Returns whether the opposite reply of `call` was expected: the changes of the key, or the calls on the key around `call`, are linearizable only with the
+// opposite reply. Also returns true if an earlier change contradicts `call`.
 function isExpected(it, call) {
   const changes = knownBy(ofKey(it, call.key).filter((one) => isChange(one) && one !== call), call.ended);
   const fits = (one, others, isThere, left) => hasOrder([...others, one], call.key, isThere, left);
@@ -470,7 +470,7 @@ const keysOf = (it) => [...new Set([...it.calls.map(({ key }) => key), ...it.ope
 const inTime = (call, since, until) => call.begun <= until && since <= (call.ended ?? LAST);
 const runsBeside = (it, call, operation) => it.calls.some((one) => one !== call && one.key === call.key && one.operation === operation && isChange(one) && inTime(one, call.begun, call.ended));
 
-// Returns whether a call was overlapped by another add or remove for which `holds` returns true.
+// Returns whether some other add or remove that satisfies `holds` overlaps a call.
 const runsDuring = (it, call, holds) => it.calls.some((one) => one !== call && one.operation !== "contains" && holds(one) && inTime(one, call.begun, call.ended));
 
 const isSame = (it, call) => runsDuring(it, call, (one) => one.key === call.key);
@@ -506,9 +506,9 @@ function isTold(it, { wrong, count: answers, isAll }, [operation, atLeast, count
   return Number(found) === someFound && Number(missed) === someMissed;
 }
 
-// Decides whether some key has a contradiction without overlapping calls: one call leaves the key in a state, a later call needs the opposite state, and no two
-// calls overlap between the start of the first call and the end of the second. The key's opening state can take the place of the first call, and its final
-// state the place of the second.
+// Decides whether some key has a contradiction without overlapping calls: one call leaves the key in a state, and a later call needs the opposite state. No two
+// calls overlap between the start of the first call and the end of the second. The key's opening state can replace the first call, and its final state the
+// second.
 function isWrongAlone(it) {
   return keysOf(it).some((key) => {
     const ended = ofKey(it, key).filter(holdsReply);
@@ -533,7 +533,7 @@ function isAlone(it, answer) {
   });
 }
 
-// Decides whether a contains or remove that returned false contradicts an earlier call that left the key present and for which `isOfKind` returns true.
+// Decides whether a contains or remove that returned false contradicts an earlier call that left the key present and satisfies `isOfKind`.
 const isMissed = (it, isOfKind) => it.calls.some((call) => call.operation !== "add" && call.reply === "false"
   && ofKey(it, call.key).some((first) => first.ended !== null && first.ended < call.begun && leaves(first) && isOfKind(first) && isNoneBetween(it, call.key, "remove", first.begun, call.ended)));
 
@@ -750,7 +750,7 @@ const OF_WHY = [
     return why.shown.every(({ call }) => call.key === Number(key)) && isFirst(Number(moment)) && !isFirst(Number(moment) - 1) && isLater;
   }],
   [/^fact \(the picture shows another contradiction that is easier to see\)$/, (it, found, why) => {
-    // The first moment at which no order explains the earlier calls on some key.
+    // The first moment when no order explains the earlier calls on some key.
     const moments = keysOf(it).flatMap((key) => ofKey(it, key).flatMap(({ ended }) => ended ?? [])).sort((one, other) => one - other);
     const first = moments.find((moment) => keysOf(it).some((key) => !hasOrder(knownBy(ofKey(it, key), moment), key, opens(it, key)))) ?? LAST;
     const isOfFirst = ({ call }) => hasOrder(knownBy(ofKey(it, call.key), first), call.key, opens(it, call.key));
@@ -917,9 +917,9 @@ const OF_WHY = [
       two.key === one.key && two.begun > one.ended && two.operation === "remove" && two.reply === "true" && (isTwice(it, two, "remove") || isFoundAgain(it))))],
 ];
 
-// ---- A key on which calls disagree for a long time: adds find the key present and removes find it absent, although no call changes the key.
+// ---- A key whose calls disagree for a long time: adds find the key present and removes find the key absent, although no call changes the key.
 
-// Returns a recording of one key in which many answers disagree about the state of the key. Before and after these answers, the recording can contain changes
+// Returns a recording of one key with many answers that disagree about the state of the key. Before and after these answers, the recording can contain changes
 // of the key.
 function drawnSplit() {
   const [calls, opening] = [[], draw(2) === 0 ? [5] : []];
@@ -984,8 +984,7 @@ const OF_LACKING = [
   [/^Broken: (.*), which leaves (\d+) (present|absent), and (.*)\.$/, (it, [first, key, state, second]) => isToldSo(it, Number(key), [first, state === "present"], second)],
 ];
 
-// Returns whether the judge can decide a report, which is the case if each call returned true or false or is pending, and no thread can exceed its quota of
-// adds.
+// Returns whether the judge can decide a report: each call returned true or false or is pending, and no thread can exceed its quota of adds.
 function isDecided({ calls, quota }) {
   const adds = [0, 1, 2].map((thread) => calls.filter((call) => call.thread === thread && call.operation === "add" && mayChange(call)).length);
   return calls.every(({ reply }) => reply === null || /^(true|false)$/.test(reply)) && Math.max(...adds) <= quota;
@@ -996,8 +995,8 @@ function isLost({ calls, opening, keys }, key) {
   return made("add") === 1 && made("remove") === 0 && !opening.includes(key) && !keys.includes(key);
 }
 
-// Returns whether `first` and `second` contradict each other, that is, no call could have changed the key between them. Both describe calls, but `first` can
-// also be the key's opening state (null), and `second` the key's final state.
+// Returns whether `first` and `second` contradict each other: no call can have changed the key between them. Both describe calls, but `first` can also be the
+// key's opening state (null), and `second` the key's final state.
 function isToldSo(it, key, first, second) {
   const looks = it.calls.map((call) => ({ ...asLook(call), told: `${nameIn(call)} ${call.ended === null ? "is pending" : `returns ${call.reply}`}` }));
   const named = (told) => looks.filter((call) => call.key === key && call.told === told);
@@ -1037,7 +1036,7 @@ function checkLacking(ask, name) {
   return checkSentences(OF_LACKING, it, [...says.split(/(?<=\.) /), ...(kind === "broken" ? [inPage("TO_BREAK")] : [])]);
 }
 
-// ---- The order of a run's calls that a reader has chosen.
+// ---- A reader's order of a run's calls.
 
 const OF_OWN = [
   [/^Still missing: (.*)\.$/, (it, [told]) => {
@@ -1088,7 +1087,7 @@ function stepsOf(it) {
 
 const faultsOf = (it) => stepsOf(it).slice(1).filter(({ call, answer, said }) => answer !== said || (call.reply ?? "true") !== said);
 
-// Returns a reader's answer in which calls are placed at random moments of their bars.
+// Returns a reader's answer with calls at random moments of their bars.
 function placedAnswer(exercise) {
   const answer = new OwnAnswer(exercise);
   for (const call of exercise.calls.filter(({ ended }) => draw(ended === null ? 2 : 30) > 0)) {
@@ -1098,7 +1097,7 @@ function placedAnswer(exercise) {
   return answer;
 }
 
-// Returns a reader's answer that is read from a hand-in: the order of the run, in which a call can be moved and pending calls can be missing.
+// Returns a reader's answer that is read from a hand-in: the order of the run, perhaps with a moved call and without some pending calls.
 function writtenAnswer(exercise) {
   const pieces = exercise.places.map(({ call, reply }) => `${call}-${reply}`);
   if (draw(2) === 0) pieces.splice(draw(pieces.length), 0, ...pieces.splice(draw(pieces.length), 1));

@@ -1,6 +1,6 @@
 """Makes made/classics.js from docs/CLASSIC.md. For each example, the file contains the question, the answer, the
-deciding events, what goes wrong without the check, and the broken lists that lack the check. The file also contains the
-kind of each broken list.
+deciding events, the error without the check, and the broken lists that lack the check. The file also contains the kind
+of each broken list.
 """
 import json
 import re

@@ -1,6 +1,6 @@
 """Makes made/code.js from the proved crates. The made file contains the functions that execute the steps of calls, with
 the rows of the step table that each line executes. (Comments such as '// row 3' or '// rows 5, 6, 7' name the rows of a
-line.) The page uses the rows to show at which line each thread is. On lists with marks, `ceiling` has no loop of its
+line.) The page uses the rows to show the current line of each thread. On lists with marks, `ceiling` has no loop of its
 own: the interpreter of the step tables executes it.
 """
 
@@ -51,8 +51,8 @@ def steps_of(found, lines):
 
 
 def code_of(file):
-    """Returns the functions of a file that execute steps: each with its lines, its steps, and the lines at which it calls
-    other functions of the file.
+    """Returns the functions of a file that execute steps: each with its lines, its steps, and the lines that call other
+    functions of the file.
     """
     source = rattle_sources.Source((TOP / "crates" / file).read_text(encoding="utf-8"))
     lines = source.lines

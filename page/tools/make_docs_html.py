@@ -19,7 +19,7 @@ KINDS = {it.type: it.word for it in lists()}
 PICTURE = re.compile(r"[a-z-]+ list, \d+ threads?, quota \d+: \d+ calls? in (\d+) events?$")
 TRACE_LINE = re.compile(r"event \d+ line \d+ thread (\d+) (begin )?.*? pc (\d+)(?: |$)")
 FILE = re.compile(r"<code>examples/schedules/([a-z-]+)\.schedule</code>")
-LACKING = re.compile(r"<li>(<code>([a-z-]+)</code>)(?= \([a-z-]+\): )")  # how an item of CLASSIC.md begins that is of a broken list
+LACKING = re.compile(r"<li>(<code>([a-z-]+)</code>)(?= \([a-z-]+\): )")  # the beginning of an item of CLASSIC.md about a broken list
 LEFT_OUT = re.compile(r"^<!-- terminal -->$.*?^<!-- end -->$|^<!--.*?-->\n|^    \$ [^\n]*\n", re.M | re.S)
 PART = re.compile(r"<h\d.*?</h\d>|<p>.*?</p>|<pre>.*?</pre>|<table>.*?</table>", re.S)
 PAGE = """<!doctype html>

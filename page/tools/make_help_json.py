@@ -1,4 +1,4 @@
-"""Generates page/help.json, which contains the program's help texts, for page/listset.js."""
+"""Generates page/help.json: the program's help texts, for page/listset.js."""
 
 import json
 import re

@@ -1,5 +1,5 @@
 """Makes made/rows.js from docs/TABLES.md, the step tables of the lists. The made file contains the text that the page
-shows for each row of a step table, and the properties of rows on which the page's sentences depend.
+shows for each row of a step table, and the properties of rows that the page's sentences depend on.
 """
 import json
 import re
@@ -10,7 +10,7 @@ REGISTERS = ["pred", "curr", "succ", "node", "pkey", "ckey"]
 CALLS = ["add", "remove", "contains", "ceiling"]
 # Patterns for the column "Then" of a step table, keyed by the reason for the jump to another row.
 LEADS = {
-    "below": r"below K: (?:[^;]*, )?(\d+)",  # on with the walk
+    "below": r"below K: (?:[^;]*, )?(\d+)",  # the walk continues
     "invalid": r"reply none, (\d+)",  # the validation failed
     "again": r"^success: .*; else (\d+)$|without a reply: (\d+)|curr = head, (\d+)",  # the walk begins again
 }
@@ -22,7 +22,9 @@ def plain(text):
 
 
 def leads_of(then):
-    """Returns the rows to which a row can jump, keyed by the reason for the jump. `then` is the text of the row in the column "Then"."""
+    """Returns the targets of a row's jumps, keyed by the reason for the jump. `then` is the text of the row in the
+    column "Then".
+    """
     found = {name: re.search(pattern, then) for name, pattern in LEADS.items()}
     return {name: int(next(filter(None, match.groups()))) for name, match in found.items() if match}
 
@@ -38,9 +40,8 @@ def rows_of(section):
 
 
 def deciding_rows(section):
-    """Returns the row at which a call adds its key, the row at which a call removes its key, and the row at which a
-    call leaves. If the section names no row for leaving, the third number is one more than the number of the table's
-    last row.
+    """Returns three rows: a call adds its key at the first, removes its key at the second, and leaves at the third. If
+    the section names no row for leaving, the third number is one more than the number of the table's last row.
     """
     def row_of(pattern):
         found = re.search(pattern, section)
@@ -49,7 +50,7 @@ def deciding_rows(section):
 
 
 def reads_of(section):
-    """Returns the rows of the step table that `contains` and `ceiling` execute, if the list takes no lock in these calls."""
+    """Returns the rows of the step table that `contains` and `ceiling` execute, if these calls acquire no lock."""
     rows = rows_of(section)
     ceiling = int(re.search(r"`ceiling` at row (\d+)", section)[1])
     return {"contains": {number: row for number, row in rows.items() if number < ceiling},

@@ -1,5 +1,5 @@
-// Usage: `node page/tools/make_traces.js`. Writes made/traces.js, which contains the names of the classic examples and the engine's trace of each example. The
-// pages made from docs/ use the traces for links to events.
+// Usage: `node page/tools/make_traces.js`. Writes made/traces.js: the names of the classic examples, and the engine's trace of each example. The pages made
+// from docs/ use the traces for links to events.
 "use strict";
 
 const fs = require("fs");

@@ -1,11 +1,12 @@
 #!/usr/bin/python3
-"""Measures the page in a browser: how many bytes the path (the guided tour) loads, how long it takes to show the first
-picture, and how long it takes to show a step that is chosen on the slider.
+"""Measures the page in a browser: the bytes that the path (the guided tour) loads, and the times until the first
+picture and until a step chosen on the slider is shown.
 
     page/tools/measure.py [--browser chromium] [--calls 12]
 
-The step is chosen in a generated run of `--calls` calls. (A run of 12 calls has about 280 events.) Times depend on the
-machine's load average, which is printed too."""
+The step is chosen in a generated run of `--calls` calls. (A run of 12 calls has about 280 events.) Times depend on
+the machine's load; the load average is printed too.
+"""
 
 import argparse
 import functools

@@ -1,9 +1,9 @@
 // The heap of the module: the three heap functions of a Rattle program, for WebAssembly with 64-bit addresses, and two functions
 // for the page. No proof covers this file.
 //
-// A block has 2^k bytes, with k from 5 to 32. Its first 16 bytes contain k; the allocation is after them. Freed blocks are in a
-// list for each size. A new block is taken from the end of the memory, which grows by whole pages. If the memory cannot grow, the
-// allocation fails. The memory has at most 4 GiB minus 16 MiB (../build).
+// A block has 2^k bytes, with k from 5 to 32. The first 16 bytes of a block contain k, and the allocation follows. Freed blocks are in a list for each size. A
+// new block is allocated at the end of the memory. The memory grows by whole pages. If the memory cannot grow, the allocation fails. The memory has at most 4
+// GiB minus 16 MiB (../build).
 typedef unsigned long long u64;
 typedef struct { u64 ok; char *block; } Tried;
 
@@ -55,7 +55,7 @@ static char *take(int k) {
 }
 
 Tried rattle_alloc(u64 count, u64 alignment) {
-    (void)alignment; // every block stands at a multiple of 32
+    (void)alignment; // every block begins at a multiple of 32
     if (count > MOST) return (Tried){0, 0};
     char *block = take(class_of(count));
     return (Tried){block != 0, block};

@@ -1,5 +1,5 @@
-// Multiplies two 128-bit numbers. On WebAssembly, clang calls this function for the hash maps of std, which multiply two 64-bit numbers into 128 bits. No
-// proof covers this file.
+// Multiplies two 128-bit numbers. On WebAssembly, clang calls this function for the hash maps of std, to multiply two 64-bit numbers into 128 bits. No proof
+// covers this file.
 typedef unsigned long long u64;
 typedef unsigned __int128 u128;
 

@@ -1,4 +1,4 @@
-// Opens the activity or the run that an address names, and chooses what the page shows first in a visit.
+// Opens the activity or the run that an address names, and chooses the first place of a visit.
 import { LECTURE } from "../data/lecture.js";
 import { numberOfLevel } from "../data/levels.js";
 import { byId } from "../page/dom.js";
@@ -101,7 +101,7 @@ export function openCourseFile(text) {
   showCourseText(text);
 }
 
-// Opens the address in the address bar after this address was changed by a link, by typing, or by a move in the browser's history.
+// Opens the address in the address bar after a link, typing, or a move in the browser's history has changed the address.
 export async function followAddress(event) {
   clearTimeout(visit.timer);
   const kept = event.state;

@@ -38,7 +38,7 @@ class CourseReader {
     this.faults = [];
     this.name = "";
     this.lessons = [];
-    this.block = null; // the part of the text to which the following indented lines belong
+    this.block = null; // the part of the text that continues in the following indented lines
     const lines = withoutIndent(text).map((line, index) => ({ line, number: index + 1 }));
     const [title, ...rest] = lines.filter(({ line }) => line !== "" && !line.startsWith("#"));
     if (title?.line !== COURSE_TITLE) this.fault(title?.number ?? 1, `expected "${COURSE_TITLE}" here`);

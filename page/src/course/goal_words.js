@@ -15,8 +15,8 @@ const endOf = (found) => (found.event ? found.event.number : (found.ended ?? Inf
 const answeredKey = (call) => Number(call.reply?.slice("at-".length));
 const hasSmaller = (call, { keys }) => [...keys].some((key) => call.key <= key && key < answeredKey(call));
 
-// The clauses that a line of a goal can contain. Each clause has a pattern, which can contain the name of an earlier line or a number, and a test of a call or
-// an event.
+// The clauses that a line of a goal can contain. Each clause has a pattern and a test of a call or an event. The pattern can contain the name of an earlier
+// line or a number.
 const CALL_CLAUSES = [
   [/^(add|remove|contains|ceiling)$/, (call, [operation]) => call.operation === operation],
   [/^key (\d+)$/, (call, [key]) => call.key === Number(key)],

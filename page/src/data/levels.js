@@ -1,6 +1,6 @@
 // The levels of the Break activity, one for each list that lacks a check. A level contains the missing check, wrong guesses at this check with a reply to each
-// guess, the first calls, the numbers of events and calls in the shortest known run that breaks the list, and the code to strike out. A link to a level
-// contains the position of the level, so new levels must be added at the end.
+// guess, the first calls, the numbers of events and calls in the shortest known run that breaks the list, and the code to strike out. Links contain the
+// position of a level, so add new levels at the end.
 
 export const BREAK_LEVELS = {
   lock: {

@@ -26,7 +26,7 @@ function glideArrow(part, before) {
   }
 }
 
-const SLOW = 1200; // milliseconds in which a lost node falls out of the chain
+const SLOW = 1200; // milliseconds until a lost node has fallen out of the chain
 export const fallTime = () => (wantsStill() || document.hidden ? 0 : SLOW);
 
 function fall(box, before, fallen) {

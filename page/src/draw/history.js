@@ -152,7 +152,7 @@ export function drawCalls(trace, scale) {
 const LETTER = 7.1; // pixels of a letter of a label
 const BOLD = 8; // pixels of a letter of a reply
 const BETWEEN = 8; // pixels between two labels of a row
-export const [GROWN, WIDE_GROWN, SMALL_GROWN] = [1.25, 1.34, 1.09]; // factors by which labels are larger: on a slide, in a window, on a phone
+export const [GROWN, WIDE_GROWN, SMALL_GROWN] = [1.25, 1.34, 1.09]; // factors of larger labels: on a slide, in a window, on a phone
 export const ROW_HEIGHT = 15;
 export const widthOf = (text, reply = "") => LETTER * text.length + (reply === "" ? 0 : LETTER + BOLD * reply.length);
 

@@ -10,7 +10,7 @@ const JUDGE_RIGHT = 20;
 const JUDGE_BAR = 30;
 const JUDGE_BELOW = 8; // pixels between a bar and the labels of the next thread's bars
 const MOST_ROWS = 3; // rows of labels
-const SLOT_WIDTH = 72; // pixels for the label of the point at which a call takes effect
+const SLOT_WIDTH = 72; // pixels for the label of a call's point
 const leftOf = ({ begun }, { x, step }) => x(begun) - step / 2;
 const rightOf = (call, { x, step, last }) => x(call.ended ?? last) + step / 2;
 
@@ -64,7 +64,7 @@ function drawJudgedBar(call, reply, scale, y) {
   return tag("rect", rect) + tag("text", above, words);
 }
 
-// Draws recorded calls as bars. The moments at which calls begin or end are drawn at equal distances.
+// Draws recorded calls as bars. The starts and ends of calls are drawn at equal distances.
 export function drawRecorded(calls, width, zoom) {
   const inOrder = (numbers) => [...new Set(numbers)].sort((one, other) => (one < other ? -1 : 1));
   const threads = inOrder(calls.map(({ thread }) => thread));

@@ -13,8 +13,8 @@ const NARROWEST = 60; // smallest width of a node
 const BESIDE_HANDS = 2; // distance of two hands in a row, so that their edges meet
 const MOST_POINTING = 6; // maximum number of threads with hands
 
-// The measures of a drawing, in units. `least` is the smallest number of pixels per unit at which labels can be read. `key` and `lock` are the heights of
-// a node's two parts. `slot` is the width of a node together with the gap beside the node, and `gap` is the gap's share of this width. `below` lists how far
+// The measures of a drawing, in units. `least` is the smallest number of pixels per unit that keeps labels readable. `key` and `lock` are the heights of a
+// node's two parts. `slot` is the width of a node together with the gap beside the node, and `gap` is the gap's share of this width. `below` lists how far
 // below the chain the nodes outside of the chain can be drawn, the largest distance first. (0 draws these nodes in the gaps of the chain, and -14 draws them
 // higher in the gaps.)
 const HANDS = { height: 26, over: -2, left: 28, letter: 10.4, right: 12 };
@@ -64,8 +64,8 @@ function foldedChain(chain, important, most) {
   return items.map((item) => (item.names.length === 1 ? { name: item.names[0], names: item.names } : item));
 }
 
-// Returns the largest scale (pixels per unit) at which the drawing fits on the stage, and the heights of the drawing's parts. Scale and heights depend on the
-// run and not on the current step, so that nothing moves between steps.
+// Returns the largest scale (pixels per unit) of a drawing that fits on the stage, and the heights of the drawing's parts. Scale and heights depend on the run
+// and not on the current step, so that nothing moves between steps.
 function unitsOf(state, room, slots, isFlat) {
   const form = formOf(room);
   const least = Math.max(form.least, room.least ?? 0);
@@ -79,7 +79,7 @@ function unitsOf(state, room, slots, isFlat) {
   const fits = (at) => heightsOf(form.below[at], lanesAt(least)).height * least <= room.high;
   const first = form.below.findIndex((_, at) => at >= (room.tight ?? 0) && fits(at));
   const tight = first === -1 ? form.below.length - 1 : first;
-  // In larger units, fewer hands (the threads' labels) fit side by side. Chooses the number of rows of hands with which the units can be largest.
+  // Chooses the number of rows of hands (the threads' labels) that allows the largest units: in larger units, fewer hands fit side by side.
   const sizeWith = (lanes) => {
     const high = room.high / heightsOf(form.below[tight], lanes).height;
     const own = form === SMALL ? Math.min(1, high, room.wide / (slots * form.slot)) : Math.min(room.wide / 880, high, room.wide / (slots * 128));
@@ -130,8 +130,8 @@ function nodesAside(state, chain, important, most) {
   return { shown, more: aside.length - shown.length };
 }
 
-// Places each node that is outside of the chain below the gap in which a node with its key would be. Nodes below the same gap are drawn side by side, and are
-// narrow enough for the gap.
+// Places each node outside of the chain below the gap of the chain for the node's key. Nodes below the same gap are drawn side by side, and are narrow enough
+// for the gap.
 function placeAside(state, chain, shown, places, { width, down, spare, isLow }) {
   const { width: widest, gap, row, key, y } = places.head;
   const groups = new Map();
@@ -153,7 +153,7 @@ function placeAside(state, chain, shown, places, { width, down, spare, isLow }) 
   }
 }
 
-// Arranges the hands (the threads' labels) at a node in rows. Each hand goes into the lowest row that has room for it.
+// Arranges the hands (the threads' labels) at a node in rows. Each hand is put into the lowest row with room.
 function rowsOf(hands, most) {
   const rows = [];
   for (const own of hands) {
@@ -186,7 +186,7 @@ function handsOn(pointers, places, { form: { hand }, width }, hides) {
   return all.reduce((placed, own) => [...placed, freeHand(own, placed, places[own.name], hand, width)], []);
 }
 
-// If a hand (a thread's label at a node) would cover another hand, moves it to the nearest free place at which it still touches the node.
+// If a hand (a thread's label at a node) would cover another hand, moves the hand to the nearest free place that touches the node.
 function freeHand(own, placed, { x, y, width: node }, { height, over }, width) {
   const isFree = (at) => placed.every((other) => at.x + own.wide <= other.x || other.x + other.wide <= at.x || Math.abs(at.y - other.y) >= height);
   const [least, most] = [Math.max(2, x - own.wide), Math.min(width - 2 - own.wide, x + node)];
@@ -201,9 +201,9 @@ function freeHand(own, placed, { x, y, width: node }, { height, over }, width) {
 }
 
 /**
- * The space for a drawing, and what to draw: the size of the stage in pixels (`wide`, `high`) and the smallest number of pixels per unit (`least`); the maximum
- * number of nodes in the chain (`slots`); where a lock is shown (`lock` is "list", "nodes" or ""); whether every node stays in the chain (`flat`); how tight
- * the previous drawing was (`tight`); how many pixels stay free at each end (`ends`); and the registers for which no hand is drawn (`hides`).
+ * The space and the contents of a drawing. `wide` and `high` are the size of the stage in pixels, and `least` is the smallest number of pixels per unit.
+ * `slots` is the maximum number of nodes in the chain; if `flat`, every node stays in the chain. `lock` is the place of locks: "list", "nodes" or "" (not
+ * shown). `tight` is the tightness of the previous drawing, `ends` the free pixels at each end, and `hides` the registers without a hand.
  * @typedef {{ wide: number, high: number, least?: number, slots: number, lock: string, flat?: boolean, tight?: number, ends?: number[], hides: string[], names?: boolean, isWhole?: boolean, isSlide?: boolean }} Room
  */
 export function arranged(state, event, room) {

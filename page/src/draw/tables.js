@@ -96,8 +96,8 @@ function drawWindow(scale, total, x) {
   return label({ class: "note", y: 42, ...place }, `events ${scale.first} to ${scale.last} of ${total}`);
 }
 
-// Returns the label of the row that shows the contents of the set. The label differs for a broken list, which can contain other keys than those that follow
-// from the linearization points.
+// Returns the label of the row that shows the contents of the set. The label differs for a broken list: its keys can differ from those that follow from the
+// linearization points.
 function nameOfContents({ lacks }, grown) {
   if (lacks === null) return label({ class: "name", x: 6, y: 17 }, "set");
   const lines = ["should", "have"].map((words, line) => label({ class: "name", x: 0, y: 9 + grown + 12 * line, style: `font-size:${Math.min(14, Math.round(12 * grown))}px;letter-spacing:-.6px` }, words));

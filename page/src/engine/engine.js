@@ -1,4 +1,4 @@
-// The engine: the proved replayer as the WebAssembly module listset.wasm. The functions of the module take texts as arguments and return a text.
+// The engine: the proved replayer as the WebAssembly module listset.wasm. The functions of the module have texts as arguments and return a text.
 
 const FIRST_ROOM = 1 << 22; // bytes of the first buffer for an answer of the engine
 const LARGE_MEMORY = 1 << 28; // bytes; an instance with a larger memory is not used again
@@ -93,7 +93,7 @@ export async function passed(bytes, stream) {
 
 export const bytesOf = (base64) => Uint8Array.from(atob(base64), (letter) => letter.charCodeAt(0));
 
-// Compiles the WebAssembly module. Its compressed bytes are in the file engine.js.
+// Compiles the WebAssembly module from the compressed bytes in the file engine.js.
 async function engineModule() {
   if (typeof ENGINE === "undefined") {
     if (document.readyState !== "complete") await new Promise((done) => window.addEventListener("load", done, { once: true })); // first the page is loaded, then the engine

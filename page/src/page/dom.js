@@ -15,7 +15,7 @@ export function redraw(box, html) {
   (same ?? box.querySelector("button:not([data-undo], [data-again]), a") ?? box).focus();
 }
 
-// Tells screen readers whether a button is disabled. A button that is disabled in this way can keep the focus.
+// Marks a button as enabled or disabled for screen readers. Unlike a button with the attribute `disabled`, the button can keep the focus.
 export const setAble = (id, isAble) => byId(id).setAttribute("aria-disabled", String(!isAble));
 
 // Hides or shows a part. If the hidden part had the focus, `other` gets the focus.

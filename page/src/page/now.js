@@ -1,4 +1,4 @@
-// The current state of the page. Each change of the state is an action of reducer.js, after which the whole page is drawn again.
+// The current state of the page. Each change of the state is an action of reducer.js; then the whole page is drawn again.
 import { readFault, sentenceOn } from "../engine/answers.js";
 import { LEVELS } from "../run/judged.js";
 import { State } from "../run/state.js";

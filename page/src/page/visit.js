@@ -60,7 +60,7 @@ export async function copyLink() {
 
 export const copied = async (text) => navigator.clipboard?.writeText(text).then(() => true, () => false) ?? false;
 
-const SCENES = ["assignment", "story", "ask", "code", "teachers", "notes", "handout"]; // run/address.js reads the addresses of the other activities, which can contain schedules
+const SCENES = ["assignment", "story", "ask", "code", "teachers", "notes", "handout"]; // run/address.js reads the addresses of the other activities, since they can contain schedules
 const SCENE_VIEWS = ["lecture", "embed"];
 
 export function sceneOfHash(hash) {
@@ -76,7 +76,7 @@ export const START_OF_CODE = [3, 7];
 export const linesOfCode = (s) => s.split(",").filter((line) => /^(b\d+\.[a-z]+\.\d+|g\d+\.\d+)$/.test(line)).map(longLine);
 export const SET_OF_CODE = { threads: 2, quota: 9 };
 
-// Returns the address of the activity "Step by the code" for a list with initial keys, the lines of a run, and the number of threads and the quota in `set`.
+// Returns the address of "Step by the code" for a list, its initial keys, the lines of a run, and the threads and the quota in `set`.
 export function addressOfCode(list, opening, lines, set = SET_OF_CODE) {
   const ofOpening = opening.join() === START_OF_CODE.join() && lines.length === 0 ? "" : `&opening=${opening.join(".")}`;
   const ofSet = ["threads", "quota"].map((name) => (set[name] === SET_OF_CODE[name] ? "" : `&${name}=${set[name]}`)).join("");

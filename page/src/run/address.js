@@ -115,7 +115,7 @@ export const warningOf = (link) =>
 // ---- Numbered runs: the engine generates a schedule from a number. All readers get the same run for the same number.
 const TRIES = 200;
 const MOST_TRIED_CALLS = 8; // of a seed; for more calls, the first generated schedule is used
-const MOST_SEEN = 60; // events; in a longer run, a reader cannot tell the events apart
+const MOST_SEEN = 60; // events; in a longer run, a reader cannot distinguish the events
 
 // Returns the seed of a numbered run that is small enough to judge by eye: five calls of two threads on two keys.
 export const seedOf = (kind, number) => `${kind}.2.5.2.${number}`;

@@ -23,8 +23,8 @@ export const askList = (ask, name, lacks, text) =>
 
 export const startOfLacking = (name) => scheduleText({ list: LACKING[name], threads: 2, quota: 2, opening: [3, 7] });
 
-// Judges the run of a schedule. The verdict is `explained` if the order of the linearization points explains the calls, `points` if that order is refused
-// and another order explains the calls or could explain them, `broken` if no order explains the calls, and `refused` if the schedule cannot be run.
+// Judges the run of a schedule. The verdict is `explained` (the order of the linearization points explains the calls), `points` (only another order explains
+// the calls, or could), `broken` (no order explains the calls) or `refused` (the schedule cannot be run).
 export function verdictOnLacking(ask, lacks, schedule) {
   const { status, text } = askList(ask, "listset_replay", lacks, schedule);
   if (status !== 0) return { kind: "refused", says: `The schedule is refused: ${text.trim()}`, report: null };

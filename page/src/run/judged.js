@@ -35,7 +35,7 @@ export function repliesOf(exercise, { operation }) {
 export class OwnAnswer {
   constructor(exercise) {
     this.exercise = exercise;
-    this.points = new Map(); // for each placed call, by number: its moment `at`, and in which turn the reader placed it (from 0)
+    this.points = new Map(); // for each placed call, by number: its moment `at`, and the turn of its placement (from 0)
     this.replies = new Map();
     this.turn = 0;
   }
@@ -66,7 +66,7 @@ export class OwnAnswer {
     return placed.map(({ call, at }) => ({ call, at, reply: this.replyOf(call) }));
   }
 
-  // Returns what is still missing in the reader's answer. Two calls with the same name are distinguished by the events at which they began.
+  // Returns the calls whose moment or reply is missing in the reader's answer. Calls with the same name are distinguished by their first events.
   unsaid() {
     const { calls } = this.exercise;
     const nameIn = (call) => nameOfCall(call) + (calls.filter((other) => nameOfCall(other) === nameOfCall(call)).length > 1 ? ` from event ${call.begun}` : "");

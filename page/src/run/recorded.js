@@ -81,10 +81,9 @@ export function verdictOnCalls(ask, answer, text) {
   return { kind: "fault", says: troubleInWords(ask, judged.fault), reasons: [], calls: [] };
 }
 
-// ---- The diagnosis of a refused recording, which the engine returns as a record.
+// ---- The diagnosis of a refused recording: a record of the engine.
 /**
- * A call that the diagnosis shows. `mark` is a note about the call: the expected answer, the state of the key after the call, or that either answer was
- * allowed.
+ * A call that the diagnosis shows. `mark` is a note about the call: the expected answer, the key's state after the call, or that both answers were allowed.
  * @typedef {ReturnType<typeof callOfRecording> & { mark: string }} CallOfBug
  * @typedef {{ headline: string, calls: CallOfBug[], also: CallOfBug[], facts: string[], likely: string | null, because: string | null }} Diagnosis
  */

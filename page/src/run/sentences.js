@@ -23,7 +23,7 @@ function lockText(event) {
   return isFailed(event) ? `tries to lock ${name}, but ${holderOf(event.saw)} holds it. It will try again.` : `locks ${name}.`;
 }
 
-// Writes the reply of a call, and the event at which the call took effect. `hidden` names the parts that a reader who judges the run must not see.
+// Writes the reply of a call, and the event of the call's effect. `hidden` names the parts that a reader who judges the run must not see.
 function effectText({ trace, event }, hidden) {
   const { call } = event;
   if (event.answer === undefined) return "";

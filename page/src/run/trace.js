@@ -1,4 +1,4 @@
-// A trace: the text that `listset trace` prints. Its events are parsed on demand.
+// A trace (the text that `listset trace` prints), with events that are parsed on demand.
 
 export const HEADER_LINES = 4;
 export const NODE_REGISTERS = ["pred", "curr", "succ", "node"];

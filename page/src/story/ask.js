@@ -1,5 +1,5 @@
-// Eleven questions about runs. The schedule's `lines` are run before the reader answers, and its `rest` is run after that. `lacks` names the broken list that
-// lacks the check in question.
+// Eleven questions about runs. The schedule's `lines` run before the reader's answer, and its `rest` after the answer. `lacks` names the broken list without
+// the check in question.
 export const QUESTIONS = [
   {
     name: "failed-tries", list: "coarse", title: "Two adds of one number", opening: [3, 8],

@@ -1,4 +1,4 @@
-// The figure that is shown with a question: the run that the question is about, a branch of that run, or a run of a list that lacks a check.
+// The figure of a question: the question's run, a branch of the run, or a run of a list without a check.
 import { BREAK_LEVELS } from "../data/levels.js";
 import { tag } from "../run/markup.js";
 import { isLecture, now } from "../page/now.js";

@@ -12,7 +12,7 @@ import { runOfText } from "./live_run.js";
 import { backLink, drawHintAndOn, drawLedger, onStage, foot, head, hintAndOn, isOddRun, LACKS_ONE, LIST_WORDS, numberOfKey, optionButtons, pressThread, scene, setScene, takeFreeFigure, showPrompt } from "./scene.js";
 
 const HINTS = 3;
-const LATE = 1000; // milliseconds: a click soon after the verdict was meant for a thread's button, which was at the place of the answers
+const LATE = 1000; // milliseconds after the verdict: an earlier click was meant for the thread's button that was at the place of the answers
 const levelOf = ({ id }) => levelOfNumber(id);
 const nameNow = () => levelOf(now.place);
 
@@ -37,7 +37,7 @@ function begin(place) {
   if (place.given.text !== undefined) looked();
 }
 
-// Returns whether the run that breaks the list came with the link, which means that the reader did not find it.
+// Returns whether the run came with the link, and the reader has never broken the list.
 const isShown = (run) => now.place.given.text !== undefined && run.lines.join() === run.first.join() && !isBrokenOnce(nameNow());
 
 function looked() {
@@ -82,8 +82,8 @@ function taskHtml({ hints, note }) {
   return `<p class="ask">${ask}</p>${note === "" ? "" : `<p class="again">${note}</p>`}${list}`;
 }
 
-// Returns the answers offered in a won level. They are sorted by the part of their text after the ninth letter, so that the right answer is first, second or
-// third about equally often.
+// Returns the answers offered in a won level, sorted by their text after the ninth letter, so that the right answer is first, second or third about equally
+// often.
 const optionsOf = (name) => [BREAK_LEVELS[name].lacks, ...Object.keys(BREAK_LEVELS[name].others)].sort((one, other) => (one.slice(9) < other.slice(9) ? -1 : 1));
 
 function wonHtml({ note, wrong }) {

@@ -1,4 +1,4 @@
-// A live figure: the list, a sentence, the code, and a button for each thread, which executes the thread's next steps.
+// A live figure: the list, a sentence, the code, and for each thread a button that executes the thread's next steps.
 import { fallTime, wantsStill } from "../draw/glide.js";
 import { momentAt } from "../run/sentences.js";
 import { drawFigure, frameOf, markLostNodes } from "./figure_parts.js";

@@ -54,7 +54,7 @@ export async function checkAll(files, assignment, sayProgress = (_at, _of) => {}
   return { rows, columns, empty, common: common.map(({ task, rows: same }) => ({ title: titleOf(task, courses), rows: same })) };
 }
 
-// Adds a hand-in to the row of the student, who is identified by number and name. A hand-in without a student's number gets a row of its own.
+// Adds a hand-in to the row of the student with its number and name. A hand-in without a student's number gets its own row.
 function takeText(students, text, courses, assignment) {
   const read = readHandIn(text);
   const who = studentOf(read.student, text.file);
@@ -124,7 +124,7 @@ function notesOnNames(row, rows) {
 // Returns a schedule with one step on each line, so that schedules with the same steps are equal as texts.
 const oneByOne = (schedule) => schedule.replace(/^go (\d+) (\d+)$/gm, (_, thread, count) => Array(Number(count)).fill(`go ${thread}`).join("\n"));
 
-// Notes in each row which students handed in the same schedules. Returns the schedules that many students handed in, which are no sign of copying. (One common
+// Notes in each row which students handed in the same schedules. Returns the schedules that many students handed in: they are no sign of copying. (One common
 // schedule can be chance.)
 function noteCopies(rows) {
   const byText = new Map();

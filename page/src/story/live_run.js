@@ -95,7 +95,7 @@ export class LiveRun extends ShownRun {
     this.state.moveTo(this.count);
   }
 
-  // Returns what a thread's next press does: the steps, their phase, and the holder of a lock that the thread has tried to acquire without success.
+  // Returns the effect of a thread's next press: the steps, their phase, and the holder of a lock that the thread has failed to acquire.
   nextOf(thread, call = null) {
     return (this.nexts[[this.count, thread, call].join()] ??= this.newNextOf(thread, call));
   }
@@ -144,7 +144,7 @@ export class LiveRun extends ShownRun {
   }
 
   // Returns how many steps a thread executes until `isThere` returns true, the thread's call returns, or the thread waits for a lock. Returns 1 if that would
-  // take too many steps.
+  // need too many steps.
   stepsUntil(thread, isThere) {
     const { total } = this.trace;
     const trace = this.traceOf([...this.lines, `go ${thread} ${MOST_STEPS}`]);

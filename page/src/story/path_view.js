@@ -11,7 +11,7 @@ import { Placing } from "./placing.js";
 import { drawLedger, head, numberOfKey, onStage, openScene, part, pressThread, scene, setScene, takeFigure, showPrompt } from "./scene.js";
 import { toSlide } from "./slide.js";
 
-// The address names a screen and a part of it: #story=4 is the first part of screen 4, #story=4.2 the second.
+// Returns the screen and the part that an address names: #story=4 is the first part of screen 4, #story=4.2 the second.
 const placeIn = ({ id }) => {
   const [number, at = "1"] = id.split(".");
   return { number: Math.max(1, Math.min(LAST, Number(number) || 1)), at };

@@ -22,8 +22,7 @@ export function saidOf(moment, { plain = false, isPath = false } = {}) {
   return `${chipOf(event.thread)} ${said}${answer}`;
 }
 
-// Returns the sentence which says that a remove does not lock its node. Only the path shows the sentence. (In the Break activity, it would name the missing
-// check.)
+// Returns the sentence that a remove does not lock its node. Only the path shows the sentence. (In the Break activity, it would name the missing check.)
 function lockLeftOut({ trace, event: { call, word, saw } }) {
   const isFound = trace.lacks === "second-lock" && call.operation === "remove" && word?.endsWith(".key") && Number(saw) === call.key;
   return isFound ? ` It does not lock ${saw}.` : "";
@@ -121,7 +120,7 @@ function linkSaid(moment, owner, who, phase) {
   return owner === "head" ? `starts at the head: curr is at ${to}.` : `moves on: curr is at ${to}.`;
 }
 
-// Describes the last read of a contains or ceiling. Only in a broken list can the reply be true at a marked node, or a removed node be unmarked.
+// Describes the last read of a contains or ceiling. On a broken list, the reply can be true at a marked node, and a removed node can be unmarked.
 function lookSaid(state, { answer }, owner, who, isMarked) {
   if (isMarked && /^(true|at-)/.test(answer ?? "")) return `takes ${who} to be in the set: ${bold("it does not look at the mark.")}`;
   if (isMarked) return `sees the mark: ${bold(`this ${who} has been removed.`)}`;

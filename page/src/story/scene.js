@@ -66,7 +66,7 @@ export function renderScene({ place, scene: state }) {
   scene.isFirst = false; // from now on, the focus moves to the title of each opened place
 }
 
-// Decides whether a click on the button at the right was meant for the previous screen, which had a button at the same position.
+// Decides whether a click on the button at the right was meant for the previous screen's button at the same position.
 const isSecondClick = (target) => performance.now() - scene.begun < JUST_OPENED && target.closest("#go-on:not(.ready)") !== null;
 const JUST_OPENED = 700; // milliseconds
 
@@ -125,7 +125,7 @@ export const optionButtons = (texts, wrong = []) => {
 
 const lowered = (text) => text[0].toLowerCase() + text.slice(1);
 
-// Returns the reply to a guess. While the answer is still to come (`isToCome`), the reply does not reveal whether the guess is right.
+// Returns the reply to a guess. If the answer is shown later (`isToCome`), the reply does not reveal whether the guess is right.
 export function replyTo(options, chosen, isToCome) {
   const option = options?.[chosen];
   if (option === undefined) return "";

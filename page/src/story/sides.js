@@ -1,4 +1,4 @@
-// Two lists run the same calls side by side. Each turn executes the next step of one thread in both lists, except in a list in which the thread's call has
+// Two lists run the same calls side by side. Each turn executes the next step of one thread in both lists, except in a list whose call of the thread has
 // already returned.
 import { letterOf } from "../run/markup.js";
 import { MOST_NUMBER } from "../run/trace.js";

@@ -1,4 +1,4 @@
-// Handles a presenter's keys, which move through the steps of a slide and then to the next slide. A key pressed during an animation waits.
+// Handles a presenter's keys: they move through the steps of a slide, and then to the next slide. A key pressed during an animation waits.
 import { LECTURE, slideAddress } from "../data/lecture.js";
 import { isLecture, now } from "../page/now.js";
 import { goByHand, goToTurn } from "../page/play.js";
@@ -30,8 +30,8 @@ export function toSlide(by) {
   return isThere;
 }
 
-// The slides that show Compare or Judge have no panel for the answer. At the end of such a slide, a press of the next key shows the answer from the lecturer's
-// notes, and a press of the key back hides the answer.
+// Shows or hides the answer from the lecturer's notes on a slide with Compare or Judge (such a slide has no panel for the answer). A press forward at the end
+// of the slide shows the answer, and a press back hides the answer. Returns whether the answer was shown or hidden.
 function goesOverAnswer(by) {
   const isShown = now.scene.note !== "";
   if (now.place.slide === 0 || !["judge", "compare"].includes(now.place.activity) || isShown === (by > 0)) return false;

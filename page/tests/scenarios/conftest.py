@@ -1,4 +1,5 @@
-"""Fixtures for the scenarios, in which a person uses the page with keys, clicks and touches, and sees the results. The scenarios run in each installed browser.
+"""Fixtures for the scenarios: a person uses the page with keys, clicks and touches, and sees the results. The
+scenarios run in each installed browser.
 
 pytest page/tests/scenarios [--browser chromium] [--shots FOLDER]
 """

@@ -8,7 +8,9 @@ SCHEDULES = pathlib.Path(__file__).resolve().parents[3] / "examples/schedules/la
 
 
 def won(visitor):
-    """Wins level 1 as the hints say: both threads walk, B completes its add, and then A completes its own add."""
+    """Wins level 1 with the help of its hints: both threads walk, B completes its add, and then A completes its own
+    add.
+    """
     step_until_broken(visitor)
     time.sleep(1)  # a click soon after the verdict is ignored
 
@@ -40,14 +42,14 @@ def test_a_hint_names_the_call_that_has_to_return(visitor):
     assert "5 is not in the list. Now let add(5) return." in visitor.text("#prompt")
 
 
-def test_a_won_level_does_not_give_away_its_answer(visitor):
+def test_a_won_level_does_not_reveal_its_answer(visitor):
     won(visitor)
     assert visitor.text(".reveal .why").startswith("Broken.") and visitor.is_seen("[data-option]")
     assert "break lock" not in visitor.text("main")
     assert visitor.inside("return JSON.parse(localStorage.getItem('listset-broken')).lock").startswith("break lock #list=coarse")
 
 
-def test_the_position_of_an_answer_does_not_give_it_away(visitor):
+def test_the_position_of_an_answer_does_not_reveal_it(visitor):
     visitor.open("#break")
     levels = visitor.inside("return Object.keys(listsets.BREAK_LEVELS).filter((name) => name !== 'mark-in-contains')")
     places = []

@@ -62,7 +62,7 @@ def test_the_judge_button_is_visible(visitor):
     assert visitor.in_window("#judge-ask")
 
 
-def test_a_run_to_judge_says_what_to_do_and_shows_the_bars_and_replies(visitor):
+def test_a_run_to_judge_has_instructions_bars_and_replies(visitor):
     for size, least in (((1366, 640), 16), ((1280, 720), 16), ((390, 844), 13)):
         fit(visitor, *size)
         visitor.open("#example=snip&judge")
@@ -199,7 +199,7 @@ def test_a_wrong_address_is_reported(visitor):
     assert "quota" in visitor.text("#said")
 
 
-def test_without_webassembly_the_page_says_what_it_needs(visitor):
+def test_without_webassembly_the_page_names_what_it_needs(visitor):
     visitor.open("#example=snip", file="tests/less.html")
     assert "WebAssembly" in visitor.text("#scene") and "undefined" not in visitor.text("#scene")
     assert visitor.is_seen("#scene a[href='how-it-works.html']") and not visitor.is_seen("#bench")

@@ -1,5 +1,5 @@
-"""Tests the stage (the drawing of the list) in windows of the sizes of laptops, a large screen and a phone: labels are
-readable, and nothing is cut off or covered.
+"""Tests the stage (the drawing of the list) in windows of laptops, a large screen and a phone: labels are readable,
+and nothing is cut off or covered.
 """
 
 import pathlib

@@ -1,4 +1,5 @@
-"""Tests the page for teachers: the lecture, a link to an assignment, and the hand-ins of a class. Also tests what a student who opens the link sees.
+"""Tests the page for teachers: the lecture, a link to an assignment, and the hand-ins of a class.
+Also tests the view of a student who opens the link.
 """
 
 import json

@@ -54,7 +54,7 @@ def test_reload_shows_the_same_run(visitor):
     assert (visitor.text("#where"), visitor.text(".said")) == (where, said)
 
 
-def test_a_direct_link_says_who_ran_it(visitor):
+def test_a_direct_link_names_who_ran_it(visitor):
     visitor.open("#example=snip&event=3")
     assert "proved replayer" in visitor.text("#source")
 

@@ -1,7 +1,7 @@
-"""Drives the installed browsers with a person's keys, clicks and touches, and reads what is visible.
+"""Drives the installed browsers with a person's keys, clicks and touches, and reads the visible parts of a page.
 
-Chromium and WebKit use WebDriver over HTTP (chromedriver, WebKitWebDriver). Firefox uses Marionette, which has the same
-commands over its own socket, so geckodriver is not needed.
+Chromium and WebKit use WebDriver over HTTP (chromedriver, WebKitWebDriver). Firefox uses Marionette (the same commands
+over its own socket), so geckodriver is not needed.
 """
 
 import base64
