@@ -79,7 +79,7 @@ module.exports = ({ draw, pick, replyOf, keysAfter, paddingAfter }) => {
   const leftWith = (set) => (draw(6) === 0 ? null : draw(8) === 0 ? (set.includes(5) ? set.filter((key) => key !== 5) : [5, ...set]) : set);
   const short = () => 1 + draw(3);
 
-  // Returns a recording in which the first two adds of each key overlap. Both return true if `areBothTrue` returns true. Then `later` correct calls of the key
+  // Returns a recording in which the first two adds of each key overlap. Both return true if `areBothTrue` returns true. Then `later()` correct calls of the key
   // follow one another.
   function firstCalls(keys, later, areBothTrue) {
     const [calls, left] = [[], []];
@@ -89,7 +89,7 @@ module.exports = ({ draw, pick, replyOf, keysAfter, paddingAfter }) => {
       calls.push({ thread: 0, operation: "add", key, begun: moment + 1, ended: moment + 4, reply: String(both) }, { thread: 1, operation: "add", key, begun: moment + 2, ended: moment + 3, reply: "true" });
       moment += 4;
       let isPresent = true;
-      for (let count = later; count > 0; count--) {
+      for (let count = later(); count > 0; count--) {
         const operation = pick(["add", "remove", "contains"]);
         const reply = replyOf({ operation, key }, present[Number(isPresent)], true);
         if (reply === "true" && operation !== "contains") isPresent = !isPresent;
@@ -316,10 +316,10 @@ module.exports = ({ draw, pick, replyOf, keysAfter, paddingAfter }) => {
       }, 4, 2, ["add", "remove", "contains", "contains"]);
     },
     function firsts() { // the first two adds of a key overlap, and some of these pairs both return true
-      return firstCalls(6, 15, () => draw(3) > 0);
+      return firstCalls(6, () => 15, () => draw(3) > 0);
     },
     function manyFirsts() { // more than 400 contradictions: the first two adds of each of many keys overlap, and both return true
-      return firstCalls(405 + draw(30), 5, () => true);
+      return firstCalls(405 + draw(30), () => 4 + draw(5), () => true);
     },
     function neverFound() { // a key that is added is never found
       return madeBy([1, 2, 5, 6].slice(draw(2)), 20, ({ call, set }) => {

@@ -617,7 +617,7 @@ function isOfUndone(it, { tally }, what, [some, all, usual], isChecked, isSample
     sample.push(call);
     next = at + Math.floor(calls.length / 400);
   }
-  const isUsual = Math.floor((100 * sample.filter((call) => isMet(it, call)).length) / sample.length) === Number(usual) && isSampled === sample.length < changes.length;
+  const isUsual = usual === null || Math.floor((100 * sample.filter((call) => isMet(it, call)).length) / sample.length) === Number(usual) && isSampled === sample.length < changes.length; // (null: no percentage is told)
   // How often a change can be counted: once for each later call, or final state, that needs the opposite state, and once if it was reported twice.
   const refused = new Set(keysOf(it).filter((key) => !hasOrderOf(it, key)));
   const times = (call) => ofKey(it, call.key).filter((one) => one.ended !== null && one.begun > call.begun && needsKey(one) !== leaves(call)).length
@@ -850,6 +850,8 @@ const OF_WHY = [
     const soon = added.filter((add) => lastRemove(add) !== undefined && add.begun <= lastRemove(add).ended + 20).length;
     return Number(some) <= soon && Number(some) <= Number(all) && Number(all) <= tally.lost && Number(usual) === soon && Number(adds) === added.length;
   }],
+  [/^because (\d+) of (\d+) contradictions are a single reply that missed a present key, (\d+) are one that found an absent key$/, (it, [missed, all, found], { tally }) =>
+    Number(missed) + Number(found) === tally["one wrong answer"] && Number(all) === Object.values(tally).reduce((sum, one) => sum + one, 0)],
   [/^because (\d+) of (\d+) wrong answers, of more than one operation, overlapped a change of another key$/, (it, [some, all], { tally }) => Number(some) <= Number(all) && Number(all) <= tally["one wrong answer"]],
   [/^because another key was lost at (\d+) or more of the (\d+) removes after which their key came back$/, (it, [some, all], { tally }) => Number(some) <= Number(all) && Number(all) <= tally["came back"]],
   [/^because (\d+) keys are affected, each once$/, (it, [count]) => keysOf(it).filter((key) => !hasOrderOf(it, key)).length === Number(count)],
@@ -881,6 +883,8 @@ const OF_WHY = [
   }],
   [/^because they disagree as long as nothing changes the key$/, () => true],
   [new RegExp(`^fact (?:calls of one key|changes of different keys|the first calls of a key) seem to disturb each other: ${UNDONE}`), (it, found, why) => ofUndone(it, found, why) && why.because.length === 0 && Number(found[0]) * 2 >= Number(found[1])],
+  [/^because of (\d+) (checked )?times that a change was undone or reported twice, only (\d+) times another add or remove of the key overlapped the change, and only (\d+) times a change of another key$/, (it, [all, checked, own, others], why) =>
+    isOfUndone(it, why, "own", [own, all, null], checked !== undefined, null) && isOfUndone(it, why, "others", [others, all, null], checked !== undefined, null) && (Number(own) + Number(others)) * 5 < Number(all)],
   [new RegExp(`^because ${UNDONE}`), ofUndone],
   [/^because after (\d+) of (\d+) successful adds the next call found the key absent$/, (it, [lost, adds]) => {
     const seen = keysOf(it).filter((key) => !hasOrderOf(it, key)).flatMap((key) => nextCallsSee(ofKey(it, key), "add"));

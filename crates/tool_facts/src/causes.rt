@@ -12,6 +12,8 @@ pub enum Cause {
     MovedKeys,
     /// Calls of several operations miss a key that a change of another key moves at that time.
     MovedForAll,
+    /// Calls read several parts of the set at different moments, while a change moves keys between the parts.
+    ReadsParts,
     /// `contains` is wrong while another add or remove of its key is only half done.
     HalfDone,
     /// The set contains a key twice, and a remove deletes only one of the two copies.

@@ -5,11 +5,13 @@
 //! calls except its answers (its calls that changed nothing). Their fields are explained in `tool_facts`; `likely_odd` and
 //! `likely_races` list those that matter here.
 
+use crate::likely::is_undone_later;
 use crate::likely_odd::is_outlasted_each;
 use crate::likely_races::is_rarely_together;
-use crate::met::Met;
+use crate::met::{Met, put_neither};
 use crate::patterns::Pattern;
 use crate::rates::put_ran;
+use crate::shares::is_least;
 use std::alloc::{AllocError, Global};
 use tool_calls::{Made, NEVER};
 use tool_facts::{Cause, Evidence, Further, Growth, Odd, Tally};
@@ -148,6 +150,8 @@ fn put_because_of_odd(out: &mut String, odd: &Odd, cause: Cause) -> Result<(), A
             out,
             "a successful add of another key ran during {adding} of the {missed} wrong answers"
         ),
+        Cause::MovedOrShortcut if !is_least(odd.beside, odd.wrong, odd.usual.saturating_add(10)) =>
+            { put_because_of_missed(out, odd, cause) }
         Cause::MovedKeys | Cause::MovedOrShortcut => put_ran(
             out,
             odd,
@@ -159,7 +163,7 @@ fn put_because_of_odd(out: &mut String, odd: &Odd, cause: Cause) -> Result<(), A
             let what = "another add or remove of the key";
             put_ran(out, odd, what, odd.same, odd.usually_same)
         }
-        Cause::AddGivesUp | Cause::ContainsGivesUp => put_active(out, odd),
+        Cause::AddGivesUp | Cause::ContainsGivesUp | Cause::ReadsParts => put_active(out, odd),
         Cause::RemoveGivesUp => put_given_up(out, odd),
         Cause::EndsEarly => writeln!(
             out,
@@ -329,6 +333,13 @@ fn put_because_of_mixed(out: &mut String, tally: &Tally, cause: Cause) -> Result
             writeln!(
                 out,
                 "{beside} of {missed} wrong answers, of more than one operation, overlapped a change of another key"
+            )
+        }
+        Cause::ReadsParts => {
+            let (missed, found, places) = (tally.missed, tally.found, tally.places);
+            writeln!(
+                out,
+                "{missed} of {places} contradictions are a single reply that missed a present key, {found} are one that found an absent key"
             )
         }
         Cause::OtherReply | Cause::MixedCalls => writeln!(
@@ -565,13 +576,15 @@ fn put_because(
         Cause::Displaced | Cause::Batch | Cause::Evicted => {
             put_because_of_lost(out, &evidence.tally, cause)
         }
+        Cause::ReplacedAtOnce if is_undone_later(evidence) => put_neither(out, &evidence.meets),
         Cause::OldCopyAtOnce if !is_rarely_together(&evidence.tally) => {
             put_because_of_adds(out, &evidence.tally, Cause::SharedPlace)
         }
         Cause::AddLost | Cause::SharedPlace | Cause::BehindUnlinked => {
             put_because_of_adds(out, &evidence.tally, cause)
         }
-        Cause::OtherReply
+        Cause::ReadsParts
+        | Cause::OtherReply
         | Cause::OtherCall
         | Cause::MixedCalls
         | Cause::Cancelled

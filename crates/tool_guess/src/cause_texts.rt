@@ -89,6 +89,8 @@ pub fn cause_text(cause: Cause) -> &'static str {
             "changes of different keys at the same time write over each other (a link that is not checked again, two locks for one bucket, a copy written back)",
         Cause::NeverFound =>
             "keys are added, but never found again (a comparison by identity, a hash that changes, a key cut short)",
+        Cause::ReadsParts =>
+            "calls read parts of the set at different moments, while a change moves keys between the parts (a buffer and a table read in the wrong order, a merge, a rotation)",
         Cause::MovedForAll =>
             "a search misses a key while a change of another key moves it or cuts the way to it (an unlinked node, a rotation or split, a table that grows)",
         Cause::Outgrown =>
@@ -113,16 +115,18 @@ pub fn cause_text(cause: Cause) -> &'static str {
             "a change is carried out twice (by a helper, or repeated), and the second time undoes a later change",
         Cause::NoLock =>
             "calls of one key do not exclude each other (two locks, a lock that fails, a load and then a store)",
-        Cause::OldCopy | Cause::OldCopyAtOnce =>
+        Cause::OldCopy =>
+            "an older state is written over newer changes of other keys (copy on write, a link that is not checked again, a shared word)",
+        Cause::OldCopyAtOnce =>
             "an older copy is written over newer changes of other keys (copy on write, a whole table, a shared word)",
         Cause::SharedPlace =>
             "two adds at the same time take the same place: one overwrites the other, or the order of keys breaks (a place not checked again after the search, a slot taken twice)",
         Cause::AddLost =>
             "two adds at the same time both write, and one is lost, yet returns true (a failed compare-and-swap that is not checked)",
         Cause::OldCopyByAdd =>
-            "add, but not remove, writes back what it read before, over newer changes (no compare-and-swap, or a lock released too early)",
+            "add, but not remove, writes what it read before over newer changes (a place not checked again, no compare-and-swap, a lock released too early)",
         Cause::OldCopyByRemove =>
-            "remove, but not add, writes back what it read before, over newer changes (no compare-and-swap, or a lock released too early)",
+            "remove, but not add, writes what it read before over newer changes (a link not checked again, no compare-and-swap, a lock released too early)",
         Cause::SharedWord =>
             "some keys share a word or bucket, and a change of one writes back an older state of the other (load, then store)",
         Cause::OtherReply =>

@@ -58,16 +58,30 @@ fn is_at_once(tally: &Tally) -> bool {
         && is_least(tally.together, tally.timed(), least.max(65))
 }
 
-/// Returns whether at least half of a few losses and returns of keys share time with one of another key, which is rare
+/// Returns whether at least three quarters of a few losses and returns of keys share time with one of another key, which is rare
 /// by chance, and most contradictions are such losses and returns.
 fn is_at_once_of_few(evidence: &Evidence) -> bool {
     let tally = &evidence.tally;
     tally.timed() >= LEAST_FEW_AT_ONCE
         && tally.usually_together <= 10
-        && is_least(tally.together, tally.timed(), 50)
+        && is_least(tally.together, tally.timed(), 75)
         && is_least(tally.gone(), tally.places, 60)
         && tally.keys >= 2
         && !is_first_use(evidence)
+}
+
+/// Returns whether changes seem to be undone by a later write of an older state: keys are lost and come back, and other
+/// adds and removes overlapped at most one in five of the undone changes. (If two changes that overlap undo each other,
+/// nearly all undone changes overlap another change.)
+pub(crate) fn is_undone_later(evidence: &Evidence) -> bool {
+    let (tally, meets) = (&evidence.tally, &evidence.meets);
+    let met = meets.own.count.saturating_add(meets.others.count);
+    meets.own.of >= 4 * ENOUGH
+        && !is_least(met, meets.own.of, 20)
+        && is_least(tally.gone(), tally.places, 60)
+        && is_least(tally.lost.min(tally.came_back), tally.gone(), 25)
+        && !is_least(tally.both(), tally.places, 5)
+        && !is_least(tally.apart, tally.places, 30)
 }
 
 /// The minimum number of losses and returns of keys for the guess that a copy replaces newer changes of several keys.
@@ -338,12 +352,12 @@ fn cause_of_meets(evidence: &Evidence) -> Option<Cause> {
     let is_enough = own.of.saturating_mul(2) >= tally.places;
     if is_of_one_key && own.of > 0 && first.count == own.of && tally.came_back == 0 {
         Some(Cause::FirstCalls)
-    } else if is_of_one_key && both > 0 && both >= tally.gone() {
+    } else if is_of_one_key && own.of >= 3 && both > 0 && both >= tally.gone() {
         Some(Cause::SameKey)
-    } else if is_enough && is_usual(own, 150_000) && others.count < own.count.max(1) {
+    } else if is_enough && is_usual(own, 50_000) && others.count < own.count.max(1) {
         Some(Cause::SameKey)
     } else if is_enough
-        && (is_usual(others, 100_000)
+        && (is_usual(others, 50_000)
             || (!is_least(tally.turned, tally.gone(), 90) && is_with_change(tally)))
     {
         Some(Cause::OtherKeys)
@@ -421,7 +435,9 @@ pub fn likely_cause(evidence: &Evidence, further: &Further) -> Option<Cause> {
     match cause {
         None if further.swap.is_some() => Some(Cause::OtherReply),
         None if is_old_copy_at_once(evidence) => Some(Cause::OldCopyAtOnce),
-        None if is_at_once_of_few(evidence) => Some(Cause::ReplacedAtOnce),
+        None if is_at_once_of_few(evidence) || is_undone_later(evidence) => Some(
+            Cause::ReplacedAtOnce,
+        ),
         None => cause_of_meets(evidence),
         cause => cause,
     }
@@ -445,8 +461,21 @@ fn cause_of_replies(evidence: &Evidence) -> Option<Cause> {
     } else if is_missed_beside(tally) {
         Some(Cause::MovedForAll)
     } else {
-        cause_of_refusals(tally)
+        match cause_of_refusals(tally) {
+            None if is_read_in_parts(tally) => Some(Cause::ReadsParts),
+            cause => cause,
+        }
     }
+}
+
+/// Returns whether calls of several operations seem to read the set at different moments: nearly half of the
+/// contradictions are single wrong replies, of both kinds, and one opposite reply repairs most losses and returns of keys.
+fn is_read_in_parts(tally: &Tally) -> bool {
+    let replies = tally.missed.saturating_add(tally.found);
+    tally.missed.min(tally.found) >= 3
+        && is_least(replies, tally.places, 45)
+        && is_least(tally.turned, tally.gone(), 75)
+        && !is_least(tally.others, tally.places, 25)
 }
 
 /// Returns the likely cause if changes undo each other, or if a single thread is enough for a contradiction.

@@ -181,7 +181,7 @@ fn cause_of_contains(odd: &Odd) -> Option<Cause> {
             Some(if is_half_done(odd) {
                 Cause::HalfDone
             } else {
-                Cause::MovedKeys
+                Cause::ReadsParts
             })
         } else if is_passing(odd) && odd.active == odd.wrong {
             // (a copy that is updated late is wrong also while no change runs)

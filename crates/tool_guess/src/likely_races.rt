@@ -124,6 +124,15 @@ pub(crate) fn is_with_change(tally: &Tally) -> bool {
         || is_with(tally.with_remove, tally.placed, tally.usually_with_remove)
 }
 
+/// Returns whether adds seem to be lost: no key comes back, no key is removed twice, and at least one in ten
+/// contradictions is a pair of adds that both returned true.
+fn is_add_lost(tally: &Tally) -> bool {
+    tally.came_back == 0
+        && tally.both_removes == 0
+        && tally.both_adds >= LEAST_BOTH
+        && is_share(tally.both_adds, tally.places, 10)
+}
+
 /// Returns the likely cause if keys are lost and hardly ever return. Returns `None` if few keys were lost, or if the
 /// keys have few calls: such keys can also be lost because a table or a bucket is created twice.
 fn cause_of_lost_adds(evidence: &Evidence) -> Option<Cause> {
@@ -131,11 +140,9 @@ fn cause_of_lost_adds(evidence: &Evidence) -> Option<Cause> {
     let calls = evidence.calls.checked_div(evidence.keys).unwrap_or(0);
     let is_add = is_with(tally.with_add, tally.placed, tally.usually_with_add);
     let is_remove = is_with(tally.with_remove, tally.placed, tally.usually_with_remove);
-    let is_only_adds = tally.came_back == 0 && tally.both_removes == 0;
-    let is_often_twice = is_share(tally.both_adds, tally.places, 10);
     if tally.placed < 4 * ENOUGH || calls < MANY_CALLS {
         None
-    } else if is_only_adds && tally.both_adds >= LEAST_BOTH && is_often_twice {
+    } else if is_add_lost(tally) {
         Some(Cause::AddLost)
     } else if is_add && !is_remove {
         Some(Cause::SharedPlace)
@@ -310,7 +317,7 @@ pub(crate) fn is_earlier_look(tally: &Tally) -> bool {
     let (both, gone) = (tally.both(), tally.gone());
     let is_enough = gone >= 2 * ENOUGH && both >= 3 && is_share(both, tally.places, 5);
     let is_each = gone >= 4 * ENOUGH && is_share(tally.turned, gone, 97);
-    let is_all = gone >= ENOUGH && both >= 2 && tally.turned == gone;
+    let is_all = gone >= 2 * ENOUGH && both >= 2 && tally.turned == gone;
     is_each || is_all || (is_enough && is_share(tally.turned, gone, 95))
 }
 
@@ -320,6 +327,9 @@ pub(crate) const MANY_CALLS: u64 = 30;
 /// Returns the likely cause if several operations are wrong while calls overlap.
 pub(crate) fn cause_of_races(evidence: &Evidence) -> Option<Cause> {
     let tally = &evidence.tally;
+    if is_add_lost(tally) && is_least(tally.lost, tally.places, 60) {
+        return Some(Cause::AddLost);
+    }
     let is_mostly_lost = tally.came_back.saturating_mul(4) <= tally.lost;
     let has_few_twice = tally.both().saturating_mul(5) <= tally.places;
     if has_few_twice && is_mostly_lost && is_share(tally.crossed, tally.lost, 60) {

@@ -65,3 +65,17 @@ impl Met {
         })
     }
 }
+
+/// Writes how few of the changes that were undone or reported twice overlapped other adds and removes.
+pub(crate) fn put_neither(out: &mut String, meets: &Meets) -> Result<(), AllocError> {
+    let (own, others, of) = (meets.own.count, meets.others.count, meets.own.of);
+    let checked = if meets.has_more_contradictions {
+        "checked times"
+    } else {
+        "times"
+    };
+    writeln!(
+        out,
+        "of {of} {checked} that a change was undone or reported twice, only {own} times another add or remove of the key overlapped the change, and only {others} times a change of another key"
+    )
+}

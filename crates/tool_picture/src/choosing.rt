@@ -208,6 +208,7 @@ fn shows(place: &Place, cause: Option<Cause>, is_odd: bool, neighbours: &Neighbo
         },
         Some(
             Cause::MovedKeys
+            | Cause::ReadsParts
             | Cause::MovedForAll
             | Cause::AddGivesUp
             | Cause::RemoveShortcut

@@ -177,7 +177,7 @@ impl Diagnosis {
             until: place.clash.until,
         };
         match self.cause? {
-            Cause::MovedKeys | Cause::MovedForAll | Cause::GivesUpBeside => {
+            Cause::MovedKeys | Cause::ReadsParts | Cause::MovedForAll | Cause::GivesUpBeside => {
                 self.beside_during(wrong?, sought.during(wrong?))
             }
             Cause::RemoveShortcut => {
