@@ -604,11 +604,12 @@ function isListed(it, told) {
 function isOfUndone(it, { tally }, what, [some, all, usual], isChecked, isSampled) {
   const calls = [...it.calls, ...it.padding].sort((one, other) => one.begun - other.begun);
   const changes = calls.filter((call) => isChange(call) && call.ended !== null);
-  const firstEnds = new Map(keysOf(it).map((key) => {
-    const first = Math.min(...ofKey(it, key).filter((call) => call.operation !== "contains").map((call) => call.ended ?? LAST));
-    return [key, Math.max(0, ...ofKey(it, key).filter((call) => call.begun <= first && call.ended !== null).map(({ ended }) => ended))];
+  const firstEnds = new Map([...new Set(calls.map(({ key }) => key))].map((key) => {
+    const itsCalls = calls.filter((call) => call.key === key);
+    const first = Math.min(...itsCalls.filter((call) => call.operation !== "contains").map((call) => call.ended ?? LAST));
+    return [key, Math.max(0, ...itsCalls.filter((call) => call.begun <= first && call.ended !== null).map(({ ended }) => ended))];
   }));
-  const isMet = { own: isSame, others: isBeside, first: (_, call) => call.begun <= (firstEnds.get(call.key) ?? call.begun) }[what];
+  const isMet = { own: isSame, others: isBeside, first: (_, call) => call.begun <= firstEnds.get(call.key) }[what];
   // The percentage of the changes or, of many calls, of a sample of the changes.
   const sample = [];
   let next = 0;

@@ -350,7 +350,7 @@ fn cause_of_meets(evidence: &Evidence) -> Option<Cause> {
     let both = tally.both();
     let is_of_one_key = own.of == tally.places && own.count == own.of;
     let is_enough = own.of.saturating_mul(2) >= tally.places;
-    if is_of_one_key && own.of > 0 && first.count == own.of && tally.came_back == 0 {
+    if is_of_one_key && own.of >= 2 && first.count == own.of && tally.came_back == 0 {
         Some(Cause::FirstCalls)
     } else if is_of_one_key && own.of >= 3 && both > 0 && both >= tally.gone() {
         Some(Cause::SameKey)
