@@ -354,7 +354,7 @@ fn cause_of_meets(evidence: &Evidence) -> Option<Cause> {
         Some(Cause::FirstCalls)
     } else if is_of_one_key && own.of >= 3 && both > 0 && both >= tally.gone() {
         Some(Cause::SameKey)
-    } else if is_enough && is_usual(own, 50_000) && others.count < own.count.max(1) {
+    } else if is_enough && is_usual(own, 80_000) && others.count < own.count.max(1) {
         Some(Cause::SameKey)
     } else if is_enough
         && (is_usual(others, 50_000)
