@@ -545,7 +545,8 @@ const isTwice = (it, call, operation) => call.operation === operation && call.re
 const isFoundAgain = (it) => it.calls.some((call) => call.ended !== null && !isChange(call) && needsKey(call)
   && ofKey(it, call.key).some((first) => first.operation === "remove" && first.reply === "true" && first.ended < call.begun && isNoneBetween(it, call.key, "add", first.begun, call.ended)));
 
-const IN_LIST = { "two adds true": "added twice", "two removes true": "removed twice" }; // the words of a short list
+// The words of a short list for the kinds of contradictions that it names otherwise.
+const IN_LIST = { "two adds true": ["added twice"], "two removes true": ["removed twice"], "one wrong answer": ["missed", "found, though absent,"], "none of these": ["inconsistent"] };
 const TALLIED = ["lost", "came back", "two adds true", "two removes true", "one wrong answer", "none of these"];
 // Maps the phrases in the sentence that counts contradictions to the kinds of contradictions.
 const KINDS = {
@@ -703,7 +704,7 @@ const OF_WHY = [
     Number(some) <= Number(all) && keysOf(it).filter((key) => !hasOrderOf(it, key)).length >= 2 && Number(some) * 100 >= Number(all) * (Number(usual) + 25)],
   [/^fact (?:before moment \d+ the calls had an order; from then on )?(at least )?(\d+) contradictions?: (.*)$/, (it, [atLeast, count, listed], why) => {
     const told = listed.split("; ");
-    why.tally = Object.fromEntries(TALLIED.map((kind) => [kind, told.filter((one) => one.includes(` ${IN_LIST[kind] ?? kind} `)).length]));
+    why.tally = Object.fromEntries(TALLIED.map((kind) => [kind, told.filter((one) => (IN_LIST[kind] ?? [kind]).some((words) => one.includes(` ${words} `))).length]));
     const isOfEach = keysOf(it).every((key) => hasOrderOf(it, key) || told.some((one) => one.startsWith(`key ${key} `)));
     return told.length === Number(count) && told.every((one) => isListed(it, one)) && (atLeast !== undefined || isOfEach);
   }],
