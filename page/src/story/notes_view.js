@@ -12,7 +12,7 @@ import { tag } from "../run/markup.js";
 import { QUESTIONS } from "./ask.js";
 import { lockShown } from "./figure_parts.js";
 import { LiveRun } from "./live_run.js";
-import { SCREENS } from "./path.js";
+import { screenAt } from "./path.js";
 import { foot, head, part, partsOfQuestion, setScene } from "./scene.js";
 
 const TICK = 1000; // milliseconds
@@ -107,7 +107,7 @@ function sheetOfSeed(seed) {
 /** @param {any[]} slide */
 function sheetOf([, title, address], at) {
   const { story, ask: name, seed } = Object.fromEntries(new URLSearchParams(address.slice(1)));
-  const sheet = story ? sheetOfScreen(SCREENS[Number(story) - 1]) : name ? sheetOfItem(QUESTIONS.find((item) => item.name === name)) : seed ? sheetOfSeed(seed) : sheetOfSides();
+  const sheet = story ? sheetOfScreen(screenAt(story)) : name ? sheetOfItem(QUESTIONS.find((item) => item.name === name)) : seed ? sheetOfSeed(seed) : sheetOfSides();
   const { prose, drawn, ask, options = [] } = sheet;
   const choices = options.length === 0 ? "" : tag("ol", { class: "choices" }, ...options.map(({ text }) => tag("li", {}, text)));
   return `<section class="sheet"><h2>${at + 1}. ${title}</h2><p>${prose}</p><div class="list">${drawn}</div>

@@ -29,12 +29,17 @@ export function welcome(done) {
 
 const asked = (text, note = "") => `<p class="ask">${text}</p>${note === "" ? "" : `<p class="again">${note}</p>`}`;
 
+// Returns the note below a task: why the reader has to start over, and the help that the reader has had: none, the nudge, or the solution in words.
+const noteOf = ({ note, hints }, { hint, way = hint }) => [note, ["", hint, way][Math.min(hints, 2)] ?? ""].filter((text) => text !== "").join(" ");
+
 function askedBefore({ ask }, reply) {
   if (ask === undefined) return "";
   return (reply || '<p class="you"></p>').replace(">", `><span class="was">${partsOfQuestion(ask)[1]}</span> `);
 }
 
-export function promptOf(screen, { stage, chosen, note }, figure) {
+export function promptOf(screen, state, figure) {
+  const { stage, chosen } = state;
+  const note = noteOf(state, screen);
   const reply = replyTo(screen.options, chosen, stage !== "done");
   if (stage === "guess") return asked(screen.ask) + optionButtons(screen.options.map(({ text }) => text));
   const ledger = screen.ledger ? drawLedger(figure.run) : "";
@@ -48,13 +53,13 @@ export function promptOf(screen, { stage, chosen, note }, figure) {
 const NONE = '<button class="option" data-do="none">No moments fit</button>';
 const SHOW = { guess: "Show me", again: "Start over", moment: "Show me", task: "Show a step", playing: "Show me" };
 
-export function drawBar(stage, number, words = number === SCREENS.length ? "And now? →" : "Continue →") {
+export function drawBar(stage, number, words = number === SCREENS.length ? "And now? →" : "Continue →", isNudge = false) {
   const [show, on] = [part("#show-me"), part("#go-on")];
   const isDone = stage === "done";
   if (isDone && document.activeElement === show) on.focus({ preventScroll: true });
   show.hidden = isDone;
   show.className = isLecture() && stage === "playing" ? "primary" : "quiet";
-  show.textContent = (isLecture() && { guess: "Reveal", playing: "Next step →" }[stage]) || SHOW[stage];
+  show.textContent = (isLecture() && { guess: "Reveal", playing: "Next step →" }[stage]) || (isNudge ? "Hint" : SHOW[stage]);
   drawOn(isDone, isLecture() ? "Next slide →" : words); // (the slides do not have all screens of the path)
 }
 

@@ -5,40 +5,26 @@ import { showStrip } from "./dock.js";
 import { Figure } from "./figure.js";
 import { keepStory, keptStory, startAfresh } from "./progress.js";
 import { waysOn } from "./live_run.js";
-import { SCREENS } from "./path.js";
+import { partName, partsOf, placeIn, screenAt } from "./path.js";
 import { barHtml, dots, drawBar, endHtml, GONE, LAST, promptOf, welcome } from "./path_parts.js";
 import { Placing } from "./placing.js";
 import { drawLedger, head, numberOfKey, onStage, openScene, part, pressThread, scene, setScene, takeFigure, showPrompt } from "./scene.js";
 import { toSlide } from "./slide.js";
 
-// Returns the screen and the part that an address names: #story=4 is the first part of screen 4, #story=4.2 the second.
-const placeIn = ({ id }) => {
-  const [number, at = "1"] = id.split(".");
-  return { number: Math.max(1, Math.min(LAST, Number(number) || 1)), at };
-};
-const partsOf = (number) => {
-  const screen = SCREENS[number - 1];
-  return screen === undefined ? [null] : [screen, ...(screen.parts ?? []).map((one) => ({ id: screen.id, ...one }))];
-};
-const partName = (screen) => screen?.at ?? "1";
-const screenOf = (place) => {
-  const { number, at } = placeIn(place);
-  return partsOf(number).find((screen) => partName(screen) === at);
-};
-const here = () => screenOf(now.place);
+const here = () => screenAt(now.place.id);
 const PLACES = Array.from({ length: LAST }, (_, index) => partsOf(index + 1).map((screen) => `${index + 1}.${partName(screen)}`.replace(/[.]1$/, ""))).flat();
 
 function goBy(by) {
-  if (now.place.slide > 0) return toSlide(by); // a slide shows only the first part of a screen
+  if (now.place.slide > 0) return toSlide(by); // a slide shows one part of a screen
   let to = PLACES.indexOf(now.place.id) + by;
-  if (!here()?.isExtra) while (screenOf({ id: PLACES[to] })?.isExtra) to += by;
+  if (!here()?.isExtra) while (screenAt(PLACES[to])?.isExtra) to += by;
   location.hash = `#story=${PLACES[to]}`;
 }
 
 function html(place) {
-  const { number } = placeIn(place);
+  const { number } = placeIn(place.id);
   const { done } = keptStory();
-  const screen = screenOf(place);
+  const screen = screenAt(place.id);
   const path = dots(number, done) + (place.given.gone === "yes" ? GONE : place.given.back === "yes" ? welcome(done) : "");
   if (screen === null) return path + endHtml(done);
   const question = head("", screen.question, `<p class="prose">${screen.prose}</p>`);
@@ -47,8 +33,8 @@ function html(place) {
 }
 
 function begin(place) {
-  keepStory({ at: placeIn(place).number });
-  const screen = screenOf(place);
+  keepStory({ at: placeIn(place.id).number });
+  const screen = screenAt(place.id);
   if (screen === null) return;
   const isGuess = screen.ask !== undefined;
   const figure = takeFigure(new Figure(part("#figure"), { ...screen.figure, isPath: true, restart: screen.play && (() => openScene(now.place)) }));
@@ -62,7 +48,7 @@ function draw(state) {
   const screen = here();
   if (screen === null || state.stage === "") return;
   if (state.stage !== "done" || part(".reveal") === null) showPrompt(promptOf(screen, state, scene.figure)); // after the reveal, the reader can make more steps
-  drawBar(state.stage, placeIn(now.place).number, screen.onWords);
+  drawBar(state.stage, placeIn(now.place.id).number, screen.onWords, isNudge(state, screen));
   if (scene.figure.placing !== null) showStrip(scene.figure);
   byId("scene").dataset.stage = state.stage;
 }
@@ -92,7 +78,15 @@ function looked() {
 const isToBreak = ({ ledger, figure }) => ledger === true && figure.lacks !== undefined;
 const FEW = 30; // states that are searched after each press, to report early that nothing can go wrong any more
 const HOPELESS = "From here nothing can go wrong any more.";
-const startOver = (why) => setScene({ stage: "again", note: `${why} Start over. ${here().hint}` });
+
+// Reports why the run cannot reach the goal any more. The first report of a screen adds the nudge, the second the solution.
+function startOver(why) {
+  const { stage, hints } = now.scene;
+  setScene({ stage: "again", note: `${why} Start over.`, hints: stage === "again" ? hints : hints + 1 });
+}
+
+// Returns whether the next press of the button for help shows the nudge. A presenter's key makes a step at once.
+const isNudge = ({ stage, hints }, { hint }) => ["task", "moment"].includes(stage) && hint !== undefined && hints === 0 && !isLecture();
 const waysFrom = ({ spec, run }, most) => waysOn(spec, run.lines, spec.calls, most);
 
 async function guessed(index) {
@@ -128,7 +122,7 @@ function placed(moments) {
 function done() {
   const { figure } = scene;
   if (here().ledger) figure.set({ isLost: true });
-  keepPart(placeIn(now.place), here());
+  keepPart(placeIn(now.place.id), here());
   setScene({ stage: "done" });
   focusOn();
 }
@@ -160,7 +154,8 @@ async function showMe() {
     if (now.scene.stage !== "task") return;
   }
   const { stage } = now.scene;
-  if (stage === "guess") return guessed(-1);
+  if (isNudge(now.scene, here())) setScene({ hints: 1 });
+  else if (stage === "guess") return guessed(-1);
   else if (stage === "playing" && isLecture()) return playOn();
   else if (stage === "moment") {
     setScene({ moments: figure.run.trace.order.map(({ id, at }) => [id, at]) });
@@ -174,7 +169,7 @@ async function showMe() {
 }
 
 function press(event) {
-  const { number } = placeIn(now.place);
+  const { number } = placeIn(now.place.id);
   const { stage } = now.scene;
   if (event.key === "ArrowLeft" && number > 1) return goBy(-1);
   if (["ArrowRight", "PageDown"].includes(event.key) && number < LAST) return stage === "done" && goBy(1);
@@ -204,7 +199,7 @@ function takeBack() {
 export const pathView = {
   kind: "path",
   fault: ({ id }) => (id === "" || PLACES.includes(id) ? null : `the path has no screen "${id}"`),
-  title: (place) => `${screenOf(place)?.question ?? "So, why not just one lock?"} · Why not just one lock?`,
+  title: ({ id }) => `${screenAt(id)?.question ?? "So, why not just one lock?"} · Why not just one lock?`,
   html, begin, draw, press, goes,
-  deeds: { none: () => (here().hasNone ? done() : setScene({ note: here().again })), answer: ({ dataset }) => guessed(Number(dataset.option)), show: showMe, on: () => goBy(1), back: () => goBy(-1), afresh: startAfresh },
+  deeds: { none: () => (here().hasNone ? done() : setScene({ hints: 1, note: "" })), answer: ({ dataset }) => guessed(Number(dataset.option)), show: showMe, on: () => goBy(1), back: () => goBy(-1), afresh: startAfresh },
 };
