@@ -86,7 +86,7 @@ function taskHtml({ hints, note }) {
 // often.
 const optionsOf = (name) => [BREAK_LEVELS[name].lacks, ...Object.keys(BREAK_LEVELS[name].others)].sort((one, other) => (one.slice(9) < other.slice(9) ? -1 : 1));
 
-function wonHtml({ note, wrong }) {
+function wonHtml({ note, wrong, at }) {
   const name = nameNow();
   const { run } = scene.figure;
   const isDone = isNamed(name);
@@ -95,7 +95,8 @@ function wonHtml({ note, wrong }) {
   const asked = `<p class="ask">What does this list do wrong?</p>${optionButtons(optionsOf(name), wrong)}<p role="status">${reply}</p>`;
   const { total } = run.trace;
   const known = total > shortest[0] ? ` A run with ${shortest[0]} steps is known.` : "";
-  const named = `<p><b class="yes">✓ ${lacks}</b> In the code, the missing part is struck out. <span class="small">Your run has ${total} steps (one press can make several).${known}</span></p>
+  const steps = at > 0 ? shownOf(departure()) : `Your run has ${total} steps (one press can make several).${known}`;
+  const named = `<p><b class="yes">✓ ${lacks}</b> In the code, the missing part is struck out. <span class="small">${steps}</span></p>
     <p class="line"><button data-do="replay">See where your run goes wrong</button> <button data-do="afresh" class="quiet">Break it in another way</button></p>`;
   const ledger = isOddRun(run) ? drawLedger(run) : "";
   return `<div class="reveal won">${ledger}<div><p class="why"><b>Broken.</b> ${note}</p>${isDone ? named : asked}</div></div>`;
@@ -128,14 +129,19 @@ function answer(index) {
   setScene({ wrong: [] });
 }
 
-// Replays the winning run, from two steps before the first step that the correct list would not execute.
+// Returns the first event of the run that the correct list would not execute, or null.
+const departure = () => departureOf(askNow, scene.figure.run.trace);
+const shownOf = (event) => `The picture shows your run again${event === null ? "." : `, from just before step ${event}: the first step that the correct list would not make.`}`;
+
+// Replays the winning run, from two steps before the departure.
 function replay() {
-  scene.figure.replay(Math.max(0, (departureOf(askNow, scene.figure.run.trace) ?? 1) - 2));
+  setScene({ at: 1 });
+  scene.figure.replay(Math.max(0, (departure() ?? 1) - 2));
 }
 
 function afresh() {
   if (now.place.given.text !== undefined) return (location.hash = `#break=${now.place.id}`);
-  setScene({ stage: "task", note: "" });
+  setScene({ stage: "task", note: "", at: 0 });
   scene.figure.again();
 }
 

@@ -2,6 +2,7 @@
 """
 
 import pathlib
+import re
 import time
 
 SCHEDULES = pathlib.Path(__file__).resolve().parents[3] / "examples/schedules/lacks"
@@ -82,10 +83,12 @@ def test_a_wrong_answer_gets_a_reply_and_the_right_one_strikes_out_the_line(visi
     visitor.click("[data-option]", "continues")
     visitor.idle()
     assert visitor.text(".steps del").endswith("wait while it is held") and visitor.is_seen("[data-do=replay]")
+    assert "The picture shows" not in visitor.text("#prompt")
     visitor.click("[data-do=replay]")
     visitor.press("a")
     visitor.idle()
     assert visitor.is_seen(".list .lost")
+    assert re.search(r"The picture shows your run again, from just before step \d+: the first step that the correct list would not make.", visitor.text("#prompt"))
     visitor.open("#break")
     assert "1 of 10 broken" in visitor.text(".score") and visitor.text(".card[href='#break=1'] .sign") == "✓"
 
