@@ -50,12 +50,15 @@ export class Figure {
     frameOf(this);
     box.addEventListener("click", (event) => this.isEnded || pressed(this, event)); // after the end of this figure, the box can belong to another figure
     box.addEventListener("input", ({ target }) => target.closest(".choose") !== null && chooseCall(this, target.closest("[data-thread]")));
-    this.stretch = new ResizeObserver(() => {
-      const { clientWidth, clientHeight } = this.part("list");
-      if (clientWidth !== this.wide || clientHeight !== this.tall) requestAnimationFrame(() => this.isEnded || this.fit());
-    });
+    this.stretch = new ResizeObserver(() => setTimeout(() => this.isEnded || this.measure())); // a timer, since WebKit can serve a frame that is requested here only after the next input
     this.stretch.observe(this.part("list"));
     this.fit();
+  }
+
+  // Draws the list again if its box has another size than at the last measurement.
+  measure() {
+    const { clientWidth, clientHeight } = this.part("list");
+    if (clientWidth !== this.wide || clientHeight !== this.tall) this.fit();
   }
 
   fit() {

@@ -61,6 +61,7 @@ export function renderScene({ place, scene: state }) {
   scrollTo(0, 0);
   view.begin?.(place);
   view.draw?.(now.scene);
+  scene.figure?.measure(); // the sentences below the list have changed its size; without this call, the first frame would show a list that is cut
   if (!scene.isFirst && ["BODY", "MAIN"].includes(document.activeElement.tagName)) box.querySelector("h1")?.focus({ preventScroll: true });
   if (!scene.isFirst) scene.begun = performance.now();
   scene.isFirst = false; // from now on, the focus moves to the title of each opened place

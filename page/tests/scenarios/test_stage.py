@@ -19,6 +19,7 @@ const foot = all(".foot").map((it) => boxOf(it).top)[0] ?? innerHeight;
 const isStage = document.querySelector(".on-stage") !== null;
 for (const it of all(".list svg text")) if (sizeOf(it) < least - .05) found.push(`${sizeOf(it).toFixed(1)} px: ${nameOf(it)}`);
 for (const it of all(".strip svg text")) if (sizeOf(it) < Math.min(least, 16) - .05 && !["should", "have"].includes(it.textContent) && !it.matches(".note")) found.push(`${sizeOf(it).toFixed(1)} px: ${nameOf(it)}`);
+for (const it of all(".steps code")) if (parseFloat(getComputedStyle(it).fontSize) < 12.95) found.push(`small code: ${nameOf(it)}`);
 for (const list of all(".list:has(svg)")) {
   const box = boxOf(list), nodes = [...list.querySelectorAll(".node .box")];
   for (const [at, one] of nodes.entries()) for (const other of nodes.slice(at + 1)) {
@@ -116,7 +117,7 @@ def walk(visitor, request):
 
 
 def test_the_path_is_readable(walk):
-    for number in (1, 2, 3, 4, 4.2, 4.3, 4.4, 4.5, 5, 6, 7, 7.2, 8, 9, 9.2):
+    for number in ("1", "2", "3", "4", "4.2", "4.2b", "4.3", "5", "6", "7", "7.2", "8", "8.2", "9", "9.2"):
         walk.go(f"#story={number}")
         stage = walk.visitor.inside("return listsets.now.scene.stage")
         if stage == "guess":
@@ -131,6 +132,24 @@ def test_the_path_is_readable(walk):
             if walk.visitor.inside("return listsets.now.scene.stage") == "task":
                 walk.stays(before, f"#story={number}")
         walk.look(f"#story={number}, done")
+
+
+FRAMES = """window.heights = [];
+    const look = () => {
+      const drawn = document.querySelector("#figure .list svg");
+      if (drawn !== null && document.querySelector("h1").innerText === arguments[0]) window.heights.push(drawn.getAttribute("height"));
+      if (window.heights.length < 6) requestAnimationFrame(look);
+    };
+    requestAnimationFrame(look);
+    location.hash = arguments[1]"""
+
+
+def test_the_first_frame_of_a_screen_has_the_final_size_of_the_list(visitor):
+    fit(visitor, 1366, 640)
+    visitor.open("#story=7")
+    for address, question in (("#story=7.2", "How does an add use the marks?"), ("#story=4.2", "Why does a thread hold two locks?")):
+        visitor.script(FRAMES, question, address)
+        assert len(set(visitor.wait("return window.heights.length === 6 && window.heights"))) == 1, address
 
 
 def test_questions_are_readable(walk):
