@@ -327,12 +327,12 @@ def test_a_slide_names_the_key_of_the_next_step(visitor):
 
 
 def test_a_slide_adapts_to_its_window(visitor):
-    height = lambda: visitor.script("return Math.round(document.querySelector('.list svg').getBoundingClientRect().height)")
+    height = "Math.round(document.querySelector('.list svg').getBoundingClientRect().height)"
+    visitor.size(1920, 1080)
+    visitor.open("#lecture=1")
+    visitor.settle()
+    wanted = visitor.script(f"return {height}")
     visitor.size(800, 600)
     visitor.open("#lecture=1")
     visitor.size(1920, 1080)
-    visitor.settle()
-    grown = height()
-    visitor.open("#lecture=1")
-    visitor.settle()
-    assert abs(grown - height()) <= 2
+    visitor.wait(f"return Math.abs({height} - arguments[0]) <= 2", wanted)
