@@ -245,7 +245,7 @@ def test_the_sentence_about_a_change_stays_until_the_next_press(visitor):
 
 def test_the_label_of_a_press_names_each_of_its_deeds(visitor):
     for address, keys, words in (("#story=7.2", "ba", "release; walk and lock once more; link 6 in"), ("#story=7", "", "walk to 5, read its mark, return"), ("#story=4", "a", "lock 7, link 5 in, return"),
-                                 ("#story=4.2", "a", "change the arrow of pred, return"), ("#story=4.2b", "ab", "lock 7, unlink it, return"), ("#story=9", "baa", "unlink 5 for B"), ("#story=9", "baaa", "walk on; link 6 in, return")):
+                                 ("#story=4.2", "a", "change the arrow of pred, return"), ("#story=4.2b", "ab", "lock 7, unlink it, return"), ("#story=9", "ba", "walk again; link 6 in, return")):
         visitor.open(address)
         visitor.step(keys)
         assert words in visitor.text(".dock"), address
@@ -288,7 +288,7 @@ def test_the_first_help_is_a_nudge_and_the_second_a_step(visitor):
 
 
 def test_a_mark_warns_an_add_and_a_thread_helps(visitor):
-    for address, keys, told, word, more in (("#story=7.2", "baa", "sees a mark on its pred", "the mark warned A", "its pred was 3"), ("#story=9", "baaaa", "5, which is marked", "still 6 is in", "That is helping"),
+    for address, keys, told, word, more in (("#story=7.2", "baa", "sees a mark on its pred", "the mark warned A", "its pred was 3"), ("#story=9", "baa", "the CAS finds it marked", "still 6 is in", "A unlinked 5 for B"),
                                             ("#story=9", "bbaa", "the CAS finds it marked", "still 6 is in", "linked 6 behind 3")):
         visitor.open(address)
         seen = ""
