@@ -601,8 +601,8 @@ fn count_together(places: &[Place], last: u64) -> (u64, u64) {
         if has_beside(place.key, since, until, places) {
             more(&mut together);
         }
-        for thirds in 1..=2 {
-            let (since, until) = compared_period(since, until, thirds, last);
+        for later in LATER {
+            let (since, until) = compared_period(since, until, later, last);
             more(&mut tried);
             if has_beside(place.key, since, until, places) {
                 more(&mut beside);
@@ -625,15 +625,23 @@ fn has_beside(key: u32, since: u64, until: u64, places: &[Place]) -> bool {
     false
 }
 
+/// The moments from the begin of a contradiction to the begins of its two comparison periods.
+const LATER: [u64; 2] = [1_501, 3_001];
+
 /// Returns a comparison period of a contradiction that lasts from the moment `since` to the moment `until`. The
 /// comparison period shows how often the same overlap happens by chance. The comparison period is as long as the
-/// contradiction, and begins one or two (`thirds`) thirds of the recording later. If the end of the recording is
-/// reached, the comparison period begins in the first part of the recording. `last` is the recording's last moment.
-fn compared_period(since: u64, until: u64, thirds: u64, last: u64) -> (u64, u64) {
+/// contradiction, and begins `later` moments later. If it would end after `last`, the last moment of the recording, it
+/// begins `later` moments earlier or, in a short recording, at some moment from 0 on.
+fn compared_period(since: u64, until: u64, later: u64, last: u64) -> (u64, u64) {
+    if until.saturating_add(later) <= last {
+        return (since.saturating_add(later), until.saturating_add(later));
+    }
+    if since >= later {
+        return (since.saturating_sub(later), until.saturating_sub(later));
+    }
     let length = until.saturating_sub(since);
     let begins = last.saturating_sub(length).saturating_add(1);
-    let later = since.saturating_add((last / 3).saturating_mul(thirds));
-    let begin = later.checked_rem(begins).unwrap_or(0);
+    let begin = since.saturating_add(later).checked_rem(begins).unwrap_or(0);
     (begin, begin.saturating_add(length))
 }
 
@@ -647,11 +655,11 @@ const MOST_COMPARED: usize = 400;
 fn usual_share(gone: &[Place], neighbours: &Neighbours, last: u64) -> u64 {
     let (mut beside, mut tried) = (0u64, 0u64);
     for place in gone.iter().take(MOST_COMPARED) {
-        for thirds in 1..=2 {
+        for later in LATER {
             let (since, until) = compared_period(
                 place.clash.begun(),
                 place.clash.until,
-                thirds,
+                later,
                 last,
             );
             more(&mut tried);
