@@ -9,7 +9,7 @@ import { startEngine } from "./engine/engine.js";
 import { fillExamples, listenToBar, listenToFiles, listenToMenu, listenToSettings, listenToWork, showQuestion, stopUnable } from "./page/controls.js";
 import { byId } from "./page/dom.js";
 import { refreshReport } from "./page/files.js";
-import { keysOf, pressKey } from "./page/keys.js";
+import { keysOf, pressKey } from "./page/play.js";
 import { held, now, on, show, takeTrace } from "./page/now.js";
 import { showParts } from "./page/seen.js";
 import { keepNow, keepSoon } from "./page/visit.js";

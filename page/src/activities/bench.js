@@ -10,6 +10,7 @@ import { drawOrder, drawTable, drawThreads } from "../draw/tables.js";
 import { drawListing } from "../draw/listing.js";
 import { byId, scrollToLine, setAble, setHtml } from "../page/dom.js";
 import { askNow, hiddenOutcomes, isJudging, now, show, say } from "../page/now.js";
+import { isPlaying } from "../page/play.js";
 import { addressOfCode, titleIn } from "../page/visit.js";
 import { examples, openTask } from "../page/work.js";
 import { wayBack } from "../story/assignment.js";
@@ -45,6 +46,7 @@ export function showRun() {
   const run = new ShownRun(trace, state, count);
   const figure = figureOfTask(run);
   figure.box.classList.toggle("judged", isJudging());
+  figure.part("said").setAttribute("aria-live", isPlaying() ? "off" : "polite");
   figure.showRun(run, moment, now.prefs.hides);
   setHtml(byId("order"), drawOrder(trace, count, now.prefs.hides));
   showThreads(moment.event);

@@ -3,7 +3,7 @@
 import { LISTS } from "../../made/rows.js";
 import { LECTURE } from "../data/lecture.js";
 import { byId, redraw } from "../page/dom.js";
-import { toggleLecture } from "../page/keys.js";
+import { toggleLecture } from "../page/play.js";
 import { now } from "../page/now.js";
 import { linkTo } from "../page/visit.js";
 import { addressOf, readAddress } from "../run/address.js";

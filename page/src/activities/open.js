@@ -6,6 +6,7 @@ import { isExample, openExample, openTask } from "../page/work.js";
 import { HERE, isText, keptUnder } from "../page/kept.js";
 import { exampleShown, goTo, now, say } from "../page/now.js";
 import { setView } from "../page/seen.js";
+import { stopPlay } from "../page/play.js";
 import { entryOf, OWN_TASK } from "../page/reducer.js";
 import { keepSoon, sceneOfHash, visit } from "../page/visit.js";
 import { AddressFault, readAddress } from "../run/address.js";
@@ -22,6 +23,7 @@ function openStory(place) {
   if (place.activity === "story" && place.id === "") place.id = String(keptStory().at);
   const fault = faultOfScene({ id: "", given: {}, ...place });
   if (fault !== null) throw new AddressFault(fault);
+  stopPlay();
   say("");
   openScene(place);
 }

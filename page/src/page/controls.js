@@ -4,8 +4,8 @@ import { inLetters } from "../run/markup.js";
 import { byId } from "./dom.js";
 import { onFile, openFile, refreshReport, saveText } from "./files.js";
 import { keepUnder, keptUnder } from "./kept.js";
-import { change, dispatch, goTo, now } from "./now.js";
-import { toggleKeys, toggleLecture } from "./keys.js";
+import { change, dispatch, now } from "./now.js";
+import { goByHand, toggleKeys, toggleLecture, togglePlay } from "./play.js";
 import { copyLink } from "./visit.js";
 import { examples, newSchedule, openExample, runBox, runWithOpening } from "./work.js";
 
@@ -28,9 +28,10 @@ export function listenToMenu() {
 }
 
 export function listenToBar() {
-  byId("back").onclick = () => goTo(now.run.count - 1);
-  byId("next").onclick = () => goTo(now.run.count + 1);
-  byId("slider").oninput = () => goTo(Number(byId("slider").value));
+  byId("back").onclick = () => goByHand(now.run.count - 1);
+  byId("next").onclick = () => goByHand(now.run.count + 1);
+  byId("play").onclick = togglePlay;
+  byId("slider").oninput = () => goByHand(Number(byId("slider").value));
   byId("keys").onclick = toggleKeys;
   byId("skip").onclick = skipToRun;
   for (const name of ["lecture", "leave"]) byId(name).onclick = toggleLecture;

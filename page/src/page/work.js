@@ -4,6 +4,7 @@ import { eventsAsked, openingIn, scheduleOfDraft, scheduleText, versionOf, withO
 import { eventsInCommon, isTrace, Trace } from "../run/trace.js";
 import { byId } from "./dom.js";
 import { announce, askNow, change, now, sayErrorLine, sayFault, takeTrace } from "./now.js";
+import { stopPlay } from "./play.js";
 import { OWN_TASK } from "./reducer.js";
 
 const MOST_EVENTS = 200000; // events of a schedule that the page runs
@@ -35,6 +36,7 @@ export function runWithOpening() {
 }
 
 function runText(text, at) {
+  stopPlay();
   change("run", { text });
   byId("schedule").value = text;
   byId("opening").value = openingIn(text).join(" ");

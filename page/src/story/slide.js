@@ -1,7 +1,7 @@
 // Handles a presenter's keys: they move through the steps of a slide, and then to the next slide. A key pressed during an animation waits.
 import { LECTURE, slideAddress } from "../data/lecture.js";
-import { goTo, isLecture, now } from "../page/now.js";
-import { goToTurn } from "../page/keys.js";
+import { isLecture, now } from "../page/now.js";
+import { goByHand, goToTurn } from "../page/play.js";
 import { scene, setScene } from "./scene.js";
 
 const queue = { last: Promise.resolve(), waiting: 0 };
@@ -42,7 +42,7 @@ function goesOverAnswer(by) {
 function goesOnStage(by) {
   const { count } = now.run;
   if (now.place.slide > 0) goToTurn(by);
-  else goTo(count + by);
+  else goByHand(count + by);
   return now.run.count !== count;
 }
 
