@@ -1,4 +1,4 @@
-use crate::examples::{ALL, named};
+use crate::examples::{Example, all, named};
 use lset_text::kind_word;
 use std::alloc::{AllocError, Global};
 use tool_base::{Answer, Trouble, ValueName};
@@ -31,14 +31,19 @@ pub fn read_example_request(
     Ok(ExampleRequest::Text(report))
 }
 
-/// Returns one line for each example: its name, its list, and a summary of the run.
+/// Appends the line of an example: its name, its list, and a summary of the run.
+fn put_example(out: &mut String, example: &Example) -> Result<(), AllocError> {
+    let name = example.name;
+    let list = kind_word(example.kind);
+    let about = example.about;
+    writeln!(out, "{name:<26}{list:<12}{about}")
+}
+
+/// Returns one line for each example.
 fn write_names(alloc: Global) -> Result<Vec<u8>, AllocError> {
     let mut out = String::new(alloc);
-    for example in &ALL {
-        let name = example.name;
-        let list = kind_word(example.kind);
-        let about = example.about;
-        writeln!(&mut out, "{name:<26}{list:<12}{about}")?;
+    for example in all() {
+        put_example(&mut out, example)?;
     }
     Ok(out.into_bytes())
 }

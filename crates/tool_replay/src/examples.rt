@@ -19,7 +19,7 @@ pub(crate) struct Example {
 }
 
 /// All examples, grouped by list.
-pub(crate) const ALL: [Example; 18] = [
+const ALL: &[Example] = &[
     Example {
         name: "failed-tries",
         kind: Kind::Coarse,
@@ -148,9 +148,14 @@ pub(crate) const ALL: [Example; 18] = [
     },
 ];
 
+/// Returns all examples, grouped by list.
+pub(crate) fn all() -> &'static [Example] {
+    ALL
+}
+
 /// Returns the example with the name `name`, or `None` if no example has that name.
 pub fn named(name: &[u8]) -> Option<Example> {
-    for example in &ALL {
+    for example in all() {
         if example.name.as_bytes() == name {
             return Some(*example);
         }

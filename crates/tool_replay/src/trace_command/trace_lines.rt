@@ -6,6 +6,7 @@ use lset_replay::TracedEvent;
 use lset_schedule::Schedule;
 use lset_steps::ChainKey;
 use lset_text::{kind_word, put_openings};
+use lset_words::Kind;
 use std::alloc::{AllocError, Global};
 use std::io::Write;
 use tool_base::{Trouble, put as put_out};
@@ -42,6 +43,22 @@ impl<W: Write> Sink for Output<'_, W> {
     }
 }
 
+/// Appends the title of a trace and the line `list NAME`. If `lacks` names a broken list (a list without one of its
+/// checks), appends the line `lacks NAME`.
+fn put_list(out: &mut String, kind: Kind, lacks: Option<&str>) -> Result<(), AllocError> {
+    let list = kind_word(kind);
+    writeln!(out, "{TITLE}\nlist {list}")?;
+    match lacks {
+        Some(lacks) => writeln!(out, "lacks {lacks}"),
+        None => Ok(()),
+    }
+}
+
+/// Appends the lines `threads N` and `quota N`.
+fn put_limits(out: &mut String, threads: u32, quota: u32) -> Result<(), AllocError> {
+    writeln!(out, "threads {threads}\nquota {quota}")
+}
+
 /// Returns the beginning of a trace, before the first event: the header, and a line for each opening key (key at the
 /// start). If `lacks` names a broken list (a list without one of its checks), the header has a line `lacks NAME` after
 /// the line of the list.
@@ -50,14 +67,9 @@ pub(crate) fn head_of(
     schedule: &Schedule,
     lacks: Option<&str>,
 ) -> Result<String, AllocError> {
-    let list = kind_word(schedule.kind);
-    let threads = schedule.threads;
-    let quota = schedule.quota;
-    let mut head = format!(in alloc; "{TITLE}\nlist {list}\n")?;
-    if let Some(lacks) = lacks {
-        writeln!(&mut head, "lacks {lacks}")?;
-    }
-    writeln!(&mut head, "threads {threads}\nquota {quota}")?;
+    let mut head = String::new(alloc);
+    put_list(&mut head, schedule.kind, lacks)?;
+    put_limits(&mut head, schedule.threads, schedule.quota)?;
     put_openings(&mut head, &schedule.opening)?;
     Ok(head)
 }
