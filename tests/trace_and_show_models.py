@@ -183,8 +183,8 @@ def test_pictures_of_reports_match_the_model(program, report):
 
 
 def test_traces_and_pictures_of_a_broken_list_match_the_model(program, broken):
-    """Compares the trace. If `replay` prints a report, also compares the picture of the report. If `replay` prints an
-    error, `show` must print the same error.
+    """Compares the trace with the model's trace. If `replay` prints a report, also compares the picture of the report
+    with the model's picture. If `replay` prints an error, `show` must print the same error.
     """
     name, seed = broken.split()
     text = drawn_schedule(LACKING[name][0], int(seed), name, overruns=int(seed) % 4 == 0)

@@ -1080,8 +1080,8 @@ public final class Judge {
     private record Answer(String said, int status) { }
 
     /**
-     * The program that judges: its name, the command with its first arguments, and its line about its proof. {@code
-     * toString} returns the name and the line.
+     * The program that judges: its name, the command with its first arguments, and the line that says whether the
+     * program is proved. {@code toString} returns the name and the line.
      */
     private record Program(String name, List<String> command, String proof) {
         private static final Pattern OVERLAPPED = Pattern.compile("ok [0-9]+ calls\n([0-9]+) of them");

@@ -50,7 +50,7 @@ function textOf({ calls, opening, keys, isCut }) {
 const callsIn = (text) => text.split("\n").filter((line) => line.startsWith("call "));
 const head = (text) => text.split("\n").slice(0, 2).join("\n");
 
-// Returns the error in the result `made` for a key, or "".
+// Returns what is wrong with the recording of `key` alone that `onlyKey` makes from the recording `made`, or "" if nothing is wrong.
 function faultOf(made, key, judge) {
   const of = (list) => list.filter((it) => it === key);
   const own = { ...made, calls: made.calls.filter((call) => call.key === key), opening: of(made.opening), keys: of(made.keys) };

@@ -325,7 +325,7 @@ function isOnlySuspect(it, why, guilty) {
   return it.calls.every((call) => call === guilty || !isRival(call));
 }
 
-// Decides whether any two bars of a picture share a column if and only if the two calls overlap in time.
+// Decides whether, for every two bars of a picture, the bars share a column exactly when the two calls overlap in time.
 function doBarsMeet(lines) {
   const bars = lines.flatMap((line) => {
     const [, before, bar, begun, ended] = /^(thread \d+ +)(\[\w+ \d+-*(?:\w+\]|\.\.)) +(\d+) to (\d+|\.\.)/.exec(line) ?? [];
@@ -634,7 +634,7 @@ function isOfUndone(it, { tally }, what, [some, all, usual], isChecked, isSample
   return Number(some) <= Number(all) && areThere && isUsual && isCounted;
 }
 
-// The pattern of a sentence about changes that were undone or reported twice, and its property.
+// The pattern of the sentence about changes that were undone or reported twice, and the property that makes the sentence true.
 const UNDONE = "(\\d+) of (?:the )?(\\d+) (checked )?times that a change was undone or reported twice, (another add or remove of the key overlapped the change|a change of another key overlapped the change|the first calls of the key were still running) \\(of (all|sampled) changes: (\\d+)%\\)$";
 const ofUndone = (it, [some, all, checked, what, of, usual], why) =>
   isOfUndone(it, why, what.startsWith("the first") ? "first" : what.startsWith("another") ? "own" : "others", [some, all, usual], checked !== undefined, of === "sampled");

@@ -45,8 +45,8 @@ def well(*words, seconds=LONG, **how):
 
 
 def wants(run, status=0, output=None, tells=(), no=()):
-    """Checks the exit status and the output of `run`, and that its standard error contains all texts in `tells` and no
-    text in `no`.
+    """Checks the exit status and the output of `run`, and that its standard error contains every string in `tells` and no
+    string in `no`.
     """
     found = f"{' '.join(run.args)}: status {run.returncode}, output {run.stdout[:300]!r}, standard error {run.stderr[-600:]!r}"
     assert run.returncode == status and output in (None, run.stdout), found

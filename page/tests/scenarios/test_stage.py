@@ -8,6 +8,7 @@ import pytest
 
 SCHEDULES = pathlib.Path(__file__).resolve().parents[3] / "examples/schedules/lacks"
 SIZES = {(1366, 640): 16, (1280, 720): 16, (1536, 730): 16, (1920, 1080): 18, (390, 844): 13}  # the windows, and the minimum size of a label in each
+# A script that returns the faults in the layout of a screen: labels that are too small, parts that are cut or covered, and parts that scroll.
 FAULTS = r"""
 const least = arguments[0], found = [];
 const isSeen = (it) => it.getClientRects().length > 0 && getComputedStyle(it).visibility !== "hidden";
