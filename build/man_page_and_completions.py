@@ -103,7 +103,7 @@ def for_bash(said):
     rows = [f'    {name}) said="{" ".join(f"--{it}" for it, _, _ in said.options(name))}" ;;' for name in said.pages]
     lists = f'  case $COMP_CWORD:${{COMP_WORDS[1]}} in {" | ".join(f"2:{it}" for it in OF_A_LIST)}) said="$said {LISTS}" ;; esac'
     with_value = sorted({f"--{it}" for name in said.pages for it, value, _ in said.options(name) if value})
-    return f"""# completions of listset for bash
+    return f"""# bash completion for listset
 _listset() {{
   local said="" before=${{COMP_WORDS[COMP_CWORD - 1]}} word=$2
   case "${{COMP_WORDS[1]}}" in

@@ -57,7 +57,7 @@ def refuser(folder):
 
 
 def ran_where(refuse, number, *words, **how):
-    """Runs a program whose allocation number `number` fails. Returns the exit status, the output, and the line on
+    """Runs a program, and makes its allocation number `number` fail. Returns the exit status, the output, and the line on
     standard error.
     """
     room = {**os.environ, "LD_PRELOAD": refuse, "REFUSE": str(number), "MALLOC_PERTURB_": "165"}

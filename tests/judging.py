@@ -168,8 +168,8 @@ def needs(it):
 
 
 def call_in(line, form, of_key):
-    """Returns the call in `of_key` that `line` describes, and the states of the key that `line` names at its end. If
-    `line` does not match the pattern `form`, returns None and no states.
+    """Returns the call in `of_key` that `line` describes, and the key's states that `line` has after the call. If `line`
+    does not match the pattern `form`, returns None and an empty list.
     """
     found = re.fullmatch(form, line)
     if not found:

@@ -85,7 +85,7 @@ class Clone:
         return ran(*words, seconds=LONG, **self.how, **how)
 
     def prove(self, at):
-        """Writes a program in place of the proved program. The file's modification time is `at` seconds from now."""
+        """Replaces the proved program with a stand-in. Sets the file's modification time to `at` seconds from now."""
         self.kept.mkdir(parents=True, exist_ok=True)
         self.proved.write_text('#!/bin/sh\necho "proved: $*"\n')
         self.proved.chmod(0o755)

@@ -85,7 +85,7 @@ public final class Judge {
 
     private record Limits(String name, long least, long most) { }
 
-    // PART and MEET are numbers of calls, and PATIENCE is in seconds.
+    // PART and MEET are numbers of calls. PATIENCE is in seconds.
     // The lines below are made of words.json by judge/make_words.
     private static final Shape[] PRESETS = {new Shape("few keys", 4, 1, 5000, 4, 1), new Shape("fresh sets", 4, 40, 10, 4, 1), new Shape("multiples of 64", 4, 1, 5000, 8, 64), new Shape("one key", 3, 1, 5000, 1, 1), new Shape("sets that grow", 4, 20, 125, 64, 1), new Shape("many keys", 4, 1, 2500, 1000, 1), new Shape("multiples of 1,000", 8, 1, 2500, 8, 1000)};
     private static final Limits[] RANGES = {new Limits("threads", 1, 64), new Limits("threads times calls", 1, 1000000000), new Limits("keys", 1, 1048576), new Limits("pauses", 0, 100), new Limits("runs", 1, 1000000), new Limits("seconds", 1, 3600), new Limits("within", 1, 604800), new Limits("at_least", 0, 100), new Limits("the sum of shares", 1, 1000000)};

@@ -156,7 +156,7 @@ function checkFaults() {
   }
 }
 
-// Checks that the start and the answer of a lesson can be drafts (the engine expands drafts into schedules).
+// Checks that the start and the answer of a lesson are also accepted as drafts (short forms of schedules, which the engine expands).
 function checkDrafts(ask, { lessons }) {
   const drafted = TEXT.replace("  go 1 7\n  begin 0 contains 5\n  go 0 3\n", "  go 1 to 12\n  begin 0 contains 5\n  go 0 out\n");
   const course = triedCourse(ask, drafted);

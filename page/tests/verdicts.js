@@ -470,7 +470,7 @@ const keysOf = (it) => [...new Set([...it.calls.map(({ key }) => key), ...it.ope
 const inTime = (call, since, until) => call.begun <= until && since <= (call.ended ?? LAST);
 const runsBeside = (it, call, operation) => it.calls.some((one) => one !== call && one.key === call.key && one.operation === operation && isChange(one) && inTime(one, call.begun, call.ended));
 
-// Returns whether some other add or remove that satisfies `holds` overlaps a call.
+// Returns whether another add or remove that satisfies `holds` overlaps `call`.
 const runsDuring = (it, call, holds) => it.calls.some((one) => one !== call && one.operation !== "contains" && holds(one) && inTime(one, call.begun, call.ended));
 
 const isSame = (it, call) => runsDuring(it, call, (one) => one.key === call.key);

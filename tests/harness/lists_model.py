@@ -225,7 +225,7 @@ class List:
         return None
 
     def decide(self, it, found):
-        """Decides how a call continues after its traversal. `found` is the key word of the node that the traversal ended at."""
+        """Decides how a call continues after its traversal. `found` is the word with the key of the node where the traversal ended."""
         word, same = it.call.word, found == it.call.key + 1
         if word == "add" and not same and it.used < self.quota:
             it.pc = self.table.add

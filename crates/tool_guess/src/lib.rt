@@ -1,5 +1,5 @@
-//! Guesses the likely cause of a refusal from the facts of `tool_facts`, and writes the cause and the fact that
-//! supports it. Makes no guess if the facts fit no cause.
+//! Guesses why the calls of a recorded set are not linearizable, from the facts that the crate `tool_facts` counts.
+//! Writes the likely cause and the fact that supports it. Makes no guess if the facts fit no cause.
 #![tactic(auto)]
 
 mod because;

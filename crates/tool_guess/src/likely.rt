@@ -35,8 +35,8 @@ const MANY_KEYS: u64 = 32;
 /// The minimum number of losses and returns of keys for the guess that several keys change at the same time.
 const LEAST_AT_ONCE: u64 = 20;
 
-/// Returns whether several of many keys are lost or return at the same time, more often than by chance, and not only
-/// during the first calls of these keys.
+/// Returns whether the recording has many keys, and keys are often lost or come back at the same time as other keys:
+/// more often than by chance, and not only during the first calls on each key.
 fn is_at_once_of_many(evidence: &Evidence) -> bool {
     let tally = &evidence.tally;
     let least = tally.usually_together.saturating_add(35).max(40);

@@ -15,7 +15,7 @@ pub(crate) enum Pattern {
     Borrowed,
 }
 
-/// A pattern is no coincidence only if there are at least this many wrong answers.
+/// The minimum number of wrong answers for a pattern. In fewer answers, a pattern can be a coincidence.
 const LEAST: u64 = 3;
 
 /// Returns whether at least half of the cases of a share have its property, and this is no coincidence. The probability by

@@ -147,8 +147,8 @@ fn described(
     Ok(Explained { count, text })
 }
 
-/// Explains why the first `MOST_EXPLAINED` calls of a recording have no order. Returns `None` if they have one, or if
-/// the recording has no more calls.
+/// Explains why the first `MOST_EXPLAINED` calls of a recording are not linearizable. Returns `None` if they are, or if
+/// the recording has at most `MOST_EXPLAINED` calls.
 fn explain_first(
     alloc: Global,
     reader: &RunReader,

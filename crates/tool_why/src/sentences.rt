@@ -36,7 +36,7 @@ fn put_contradicted(out: &mut String, call: Made) -> Result<(), AllocError> {
 /// Writes the headline for a key that was lost or came back: it changed although no remove, or add, returned true.
 fn put_gone(out: &mut String, diagnosis: &Diagnosis) -> Result<(), AllocError> {
     if let Some(call) = diagnosis.wrong {
-        // (the call returned false although its operation makes the contradicting change)
+        // The call returned false, although its operation makes the change to the state that contradicts.
         let operation = Operation::that_makes(other(diagnosis.was));
         if call.reply == Some(false) && call.operation == operation {
             return put_returned(out, call, true);

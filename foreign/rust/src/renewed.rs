@@ -45,7 +45,7 @@ pub struct RenewedSet {
     places: Vec<Place>,
 }
 
-/// A place in the set: a seat with its lock, and whether a thread has the seat.
+/// A place for one thread: a seat (a per-thread handle to the set) with its lock, and whether a thread has the seat.
 #[derive(Debug)]
 #[repr(align(128))]
 struct Place {

@@ -1,4 +1,4 @@
-//! Interrupts a thread during some calls, by a timer that sends the signal SIGURG. The interrupted thread sleeps for a
+//! Interrupts a thread during some of its calls, with a timer that sends the signal SIGURG. The interrupted thread sleeps for a
 //! microsecond. On a busy machine, it sleeps repeatedly, at most `PATIENT` times, until other threads have made calls.
 //! If the signal arrives between two calls, it has no effect, and the timer is started again.
 
