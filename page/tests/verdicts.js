@@ -727,7 +727,7 @@ const OF_WHY = [
   }],
   [/^fact a change of another key ran during it, and no other add or remove of its own key$/, (it, found, { told }) =>
     told.wrong.some((call) => !runsDuring(it, call, (one) => one.key === call.key) && runsDuring(it, call, (one) => one.key !== call.key && one.reply === "true"))],
-  [/^fact they contradict changes that had ended at most (\d+) moments earlier: (\d+) by the same thread, (\d+) by another thread$/, (it, found, { told }) => {
+  [/^fact (?:they|(\d+) of them) contradict changes that had ended at most (\d+) moments earlier: (\d+) by the same thread, (\d+) by another thread$/, (it, [some, ...found], { told }) => {
     // (if two changes overlap, either of them can be the last change)
     const lastChange = (answer) => {
       const changes = ofKey(it, answer.key).filter((call) => isChange(call) && (call.operation === "add") !== needsKey(answer) && call.begun <= answer.begun).sort((one, other) => one.begun - other.begun);
@@ -737,7 +737,8 @@ const OF_WHY = [
     const changes = told.wrong.map((answer) => ({ answer, change: lastChange(answer) })).filter(({ answer, change }) => change !== undefined && change.ended < answer.begun);
     const own = changes.filter(({ answer, change }) => answer.thread === change.thread).length;
     const latest = Math.max(...changes.map(({ answer, change }) => answer.begun - change.ended));
-    return `${[latest, own, changes.length - own]}` === `${found.map(Number)}`;
+    const isSome = some === undefined ? changes.length === told.wrong.length : Number(some) === changes.length;
+    return isSome && `${[latest, own, changes.length - own]}` === `${found.map(Number)}`;
   }],
   [/^fact with no change in between, the next (add|remove|contains) of the key was right$/, (it, [operation], { told }) =>
     told.wrong.some((answer) => nextCall(it, answer, operation) !== undefined && !told.wrong.includes(nextCall(it, answer, operation)))],

@@ -476,12 +476,19 @@ fn put_around(out: &mut String, diagnosis: &Diagnosis, odd: &Odd) -> Result<(), 
 /// these changes ended. Writes nothing if there are few such changes.
 fn put_unseen(out: &mut String, odd: &Odd) -> Result<(), AllocError> {
     let (own, others, latest) = (odd.by_same, odd.by_others, odd.latest);
-    if own.saturating_add(others) < FEW {
+    let known = own.saturating_add(others);
+    if known < FEW {
         return Ok(());
+    }
+    let some = known.min(odd.wrong);
+    if some < odd.wrong {
+        write!(out, "{some} of them")?;
+    } else {
+        out.push_str("they")?;
     }
     writeln!(
         out,
-        "they contradict changes that had ended at most {latest} moments earlier: {own} by the same thread, {others} by another thread"
+        " contradict changes that had ended at most {latest} moments earlier: {own} by the same thread, {others} by another thread"
     )
 }
 
