@@ -144,7 +144,8 @@ func (c *child) serve() {
 				runtime.GOMAXPROCS(most) // (so that all goroutines can run at the same time)
 			}
 			isOver := make(chan bool)
-			if c.options.Pauses > 0 && !c.pairs() {
+			c.isInterrupted = canStop && c.options.Pauses > 0
+			if !canStop && c.options.Pauses > 0 && !c.pairs() {
 				go interrupt(c.seed, isOver)
 			}
 			c.callAll()
@@ -154,7 +155,7 @@ func (c *child) serve() {
 }
 
 // interrupt briefly stops all goroutines during their calls, again and again, by reading the memory statistics. After
-// each stop, the goroutines continue in a different order.
+// each stop, the goroutines continue in a different order. It is used if stops cannot stop single goroutines.
 func interrupt(seed int64, isOver chan bool) {
 	var stats runtime.MemStats
 	for draw := rand.New(rand.NewSource(seed)); ; runtime.ReadMemStats(&stats) {

@@ -47,7 +47,7 @@ type Options struct {
 	Threads       int    // the number of goroutines that call a set at the same time: 1 to 64; 0 selects the preset's number
 	Calls         int    // the number of calls of each goroutine: at least 1, at most 1,000,000,000 for all together; 0 selects the preset's number. After every 20,000 calls, all goroutines wait until these calls are in the file
 	Keys          int    // the number of keys: 1 to 1,048,576; 0 selects the preset's number; with more than eight keys, half of the calls use the first four
-	Pauses        int    // how often a goroutine pauses before a call for a few microseconds, in percent: 0 to 100. Unless 0, goroutines in the set's own process are also stopped during calls
+	Pauses        int    // how often a goroutine pauses before a call for a few microseconds, in percent: 0 to 100. Unless 0, goroutines in the set's own process are also stopped during calls, on Linux by the signal SIGRTMAX
 	Runs          int    // the number of runs: 1 to 1,000,000; a run calls one set, or several new sets one after another
 	Seed          int64  // the random seed for the calls, keys and pauses of the first run. Each later run uses the next seed. If the first seed is not 1, no further runs follow a refusal
 	Seconds       int    // if no call begins or ends for this many seconds, a run is considered hung and is cut short: 1 to 3,600

@@ -75,6 +75,8 @@ type area struct {
 	memory  []byte
 	*head   // in memory, the slots follow the head
 	slots   []slot
+
+	isInterrupted bool // whether goroutines are stopped during their calls by a timer of their own
 }
 
 func newArea(options Options, source source) *area {
@@ -382,7 +384,8 @@ func (a *area) linesOfKeys(word string, set Set, round int) (lines string, areKn
 // saves.
 func (a *area) callInRounds(on *stage, thread int) {
 	draw, number, rows := rand.New(rand.NewSource(a.seed*64+int64(thread))), uint32(thread), a.rows()
-	others := newPartners(a, thread)
+	others, own := newPartners(a, thread), newStops(a, thread, a.isInterrupted)
+	defer own.close()
 	for round := 0; round < a.rounds(); round++ {
 		if !a.waits(manyLongest, func() bool { return atomic.LoadUint32(&a.begun) > uint32(round) }) {
 			return
@@ -398,7 +401,7 @@ func (a *area) callInRounds(on *stage, thread int) {
 			if isMet := i > 0 && (i%manyMeet > 0 || a.meetsOnce); !isMet && !a.meet() {
 				return
 			}
-			a.call(on.set, &mine[i], round/a.parts()*a.keys, &number, draw, others)
+			a.call(on.set, &mine[i], round/a.parts()*a.keys, &number, draw, others, own)
 			if i+1 == len(mine) || (i+1)%manyMeet == 0 {
 				others.endBlock()
 			}
@@ -407,7 +410,7 @@ func (a *area) callInRounds(on *stage, thread int) {
 	}
 }
 
-func (a *area) call(set Set, s *slot, ofSet int, number *uint32, draw *rand.Rand, others *partners) {
+func (a *area) call(set Set, s *slot, ofSet int, number *uint32, draw *rand.Rand, others *partners, own *stops) {
 	o := &a.options
 	key, at := draw.Intn(a.keys), draw.Intn(o.Adds+o.Removes+o.Finds)
 	if a.keys > 2*manyHot && draw.Intn(2) == 0 {
@@ -428,11 +431,14 @@ func (a *area) call(set Set, s *slot, ofSet int, number *uint32, draw *rand.Rand
 	for ; pause > 0 && !isMet; pause-- {
 		atomic.LoadUint32(&a.tickets)
 	}
+	if !isMet {
+		own.beforeCall(least(a.sets*a.calls, manyStopsPer))
+	}
 	atomic.StoreUint32(&s.begin, atomic.AddUint32(&a.tickets, 1))
 	if isMet {
 		others.delay()
 	}
-	s.reply = reply(set, s.call, a.number(key))
+	s.reply = own.inCall(func() uint32 { return reply(set, s.call, a.number(key)) })
 	atomic.StoreUint32(&s.end, atomic.AddUint32(&a.tickets, 1))
 	if s.reply == unknown {
 		*number += uint32(a.threads)

@@ -18,6 +18,11 @@ const (
 	manyAwake       = 300000
 	manyWithin      = 60
 	manyApart       = 100
+	manyStops       = 128
+	manyAgain       = 4
+	manyPatient     = 40
+	manyMany        = 40
+	manySoon        = 4000
 	manyAlert       = 500
 	manyTries       = 60
 	manyNear        = 128
@@ -26,6 +31,7 @@ const (
 	manyFurtherMost = 10
 	manyClear       = 10
 	manyLonger      = 4
+	manyStopsPer    = 5000
 	sayOk           = "ok: %v calls, and %v of them overlapped a change of their key"
 	sayFew          = "few calls overlapped, so ok means little: %v calls, and %v of them overlapped a change of their key"
 	sayTooFew       = "too few calls overlapped: %v of %v calls overlapped a change of their key, and at_least requires %v of 100. If the machine is busy, raise within. Otherwise use fewer keys or more threads"

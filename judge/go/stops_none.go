@@ -1,0 +1,17 @@
+//go:build !(linux && amd64)
+
+package judge
+
+// stops has no effect on this platform.
+type stops struct{}
+
+func newStops(*area, int, bool) *stops { return nil }
+
+func (*stops) beforeCall(int) {}
+
+func (*stops) inCall(call func() uint32) uint32 { return call() }
+
+func (*stops) close() {}
+
+// canStop is whether stops works on this platform.
+const canStop = false
