@@ -256,8 +256,24 @@ func (a *area) meet() bool {
 	return areThere
 }
 
-// stage has the set that the goroutines call.
-type stage struct{ set Set }
+// stage has the set that the goroutines call. The race detector does not see that numbers in shared memory order the
+// creation of a set before its calls, but sees the lock.
+type stage struct {
+	lock sync.Mutex
+	set  Set
+}
+
+func (s *stage) put(set Set) {
+	s.lock.Lock()
+	defer s.lock.Unlock()
+	s.set = set
+}
+
+func (s *stage) get() Set {
+	s.lock.Lock()
+	defer s.lock.Unlock()
+	return s.set
+}
 
 // callAll creates the sets of a run, and makes the calls of all goroutines to them.
 func (a *area) callAll() {
@@ -297,7 +313,8 @@ func (a *area) lead(on *stage) {
 	a.saveLines(file, "listset-calls 1\n")
 	for round := 0; round < a.rounds(); round++ {
 		if round%a.parts() == 0 {
-			if on.set = a.newSet(); on.set == nil {
+			set := a.newSet()
+			if on.put(set); set == nil {
 				return
 			}
 			if a.options.OpensWithKeys && !a.saveOpening(file, on.set, round) {
@@ -390,7 +407,7 @@ func (a *area) callInRounds(on *stage, thread int) {
 		if !a.waits(manyLongest, func() bool { return atomic.LoadUint32(&a.begun) > uint32(round) }) {
 			return
 		}
-		mine := a.slots[thread*rows : (thread+1)*rows]
+		set, mine := on.get(), a.slots[thread*rows:(thread+1)*rows]
 		if left := a.calls - round%a.parts()*rows; left < rows {
 			mine = mine[:left]
 		}
@@ -401,7 +418,7 @@ func (a *area) callInRounds(on *stage, thread int) {
 			if isMet := i > 0 && (i%manyMeet > 0 || a.meetsOnce); !isMet && !a.meet() {
 				return
 			}
-			a.call(on.set, &mine[i], round/a.parts()*a.keys, &number, draw, others, own)
+			a.call(set, &mine[i], round/a.parts()*a.keys, &number, draw, others, own)
 			if i+1 == len(mine) || (i+1)%manyMeet == 0 {
 				others.endBlock()
 			}
