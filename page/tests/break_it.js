@@ -19,7 +19,7 @@ function check(name, isGood) {
 }
 
 const scheduleOf = (name) => fs.readFileSync(path.join(TOP, "examples", "schedules", "lacks", `${name}.schedule`), "utf8");
-const startOf = inPage("startOfLacking");
+const startOf = (name) => inPage("scheduleText")({ list: LACKING[name], threads: 2, quota: 2, opening: [3, 7] });
 const LOST = /^(\d+) was added once and never removed, and at the end the set does not have it$/; // as docs/CLASSIC.md summarizes it
 const isTask = (name) => name !== inPage("NO_TASK");
 

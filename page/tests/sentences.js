@@ -166,7 +166,7 @@ const BY_HAND = {
   "marks-in-validation": ["begin 0 remove 7", "go 0 4", "begin 1 remove 3", "go 1 10", "begin 1 remove 7", "go 1 10", "go 0 8"],
   "mark-in-remove": ["begin 0 remove 3", "go 0 3", "begin 1 remove 3", "go 1 5", "go 0 3"],
 };
-const startOf = (lacks) => inPage("startOfLacking")(lacks);
+const startOf = (lacks) => inPage("scheduleText")({ list: inPage("LACKING")[lacks], threads: 2, quota: 2, opening: [3, 7] });
 
 function runsByHand(engine, lacks) {
   if (lacks === null) return [];

@@ -3,8 +3,8 @@
 
 const { inPage } = require("../in_node.js");
 
-const { stateAtFirst, reduce, exampleIn, entryOf, factsOf, SEEN, addressIn, titleIn, readAddress, sceneOfHash, startOfLacking, OWN_TASK } = inPage(
-  "({ stateAtFirst, reduce, exampleIn, entryOf, factsOf, SEEN, addressIn, titleIn, readAddress, sceneOfHash, startOfLacking, OWN_TASK })",
+const { stateAtFirst, reduce, exampleIn, entryOf, factsOf, SEEN, addressIn, titleIn, readAddress, sceneOfHash, scheduleText, OWN_TASK } = inPage(
+  "({ stateAtFirst, reduce, exampleIn, entryOf, factsOf, SEEN, addressIn, titleIn, readAddress, sceneOfHash, scheduleText, OWN_TASK })",
 );
 const result = { passed: 0, failed: [] };
 const TEXT = "listset-schedule 1\nlist lock-free\nthreads 2\nquota 4\nbegin 0 add 5\n";
@@ -72,11 +72,11 @@ function checkSeen() {
 }
 
 function checkAddresses() {
-  const start = startOfLacking("mark");
+  const start = scheduleText({ list: "lock-free", threads: 2, quota: 2, opening: [3, 7] });
   const states = {
     "#example=snip&event=1": shown(EXAMPLE, TEXT),
     "#learn=one-lock&list=lock-free&threads=2&quota=4&s=b0.add.5&event=1": atScene("learn", "one-lock", TEXT),
-    "#break=8": atScene("break", "8", start),
+    "#break=8": atScene("break", "8"),
     "#break=8&list=lock-free&threads=2&quota=2&opening=3.7&s=b0.add.5&event=1": atScene("break", "8", `${start}begin 0 add 5\n`),
     "#seed=lazy.2.5.2.17&event=1": shown({ kind: "seed", id: "lazy.2.5.2.17" }, TEXT),
     "#list=lock-free&threads=2&quota=4&s=b0.add.5&event=1": shown(OWN_TASK, TEXT),

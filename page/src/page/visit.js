@@ -2,9 +2,7 @@
 import { CLASSICS } from "../../made/classics.js";
 import { LISTS } from "../../made/rows.js";
 import { slideAddress } from "../data/lecture.js";
-import { levelOfNumber } from "../data/levels.js";
 import { AddressFault, addressOf, LONGEST_ADDRESS, longLine, partsOfSeed, shortLine, warningOf } from "../run/address.js";
-import { startOfLacking } from "../run/broken.js";
 import { escaped, inLetters } from "../run/markup.js";
 import { eventsAsked } from "../run/schedule_text.js";
 import { HERE, keepUnder } from "./kept.js";
@@ -90,18 +88,13 @@ function withTry(named, text) {
   return whole.length <= LONGEST_ADDRESS ? whole : named;
 }
 
-function addressOfLevel({ id }, { text }) {
-  if (id === "") return "#break";
-  return withTry(`#break=${id}`, text === startOfLacking(levelOfNumber(id)) ? "" : text);
-}
-
 export const addressOfAssignment = ({ id, given }) => `#${new URLSearchParams({ assignment: id, ...given })}`.replaceAll("%2C", ",");
 const plainAddress = ({ activity, id }) => `#${activity}${id === "" ? "" : `=${id}`}`;
 
 const ADDRESSES = {
   code: ({ id, given }, { text }) => text || `#${new URLSearchParams({ code: id, ...given })}`,
   compare: (place, { text }) => text || plainAddress(place),
-  break: addressOfLevel,
+  break: (place, { text }) => withTry(plainAddress(place), text),
   learn: ({ id }, { text }, { course }) => withTry(`${course === null ? "#" : `${course}&`}learn${id === "" ? "" : `=${id}`}`, text), // without a course: the book's
   assignment: addressOfAssignment,
 };

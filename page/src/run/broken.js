@@ -1,9 +1,8 @@
 // Broken lists. Each list lacks one check. A run breaks its list if neither the order of the linearization points nor any other order explains the calls.
 // (Proved programs decide both.)
-import { LACKING } from "../../made/classics.js";
 import { readReport, readVerdict } from "../engine/answers.js";
 import { nameOfCall } from "./judged.js";
-import { scheduleOfTrace, scheduleText } from "./schedule_text.js";
+import { scheduleOfTrace } from "./schedule_text.js";
 import { eventsInCommon, isTrace, Trace } from "./trace.js";
 
 export const EXPLAINED = "Not broken yet: some order explains this run.";
@@ -20,8 +19,6 @@ export const isTaskDone = (lacks, { kind }) => kind === "broken" && lacks !== NO
 
 export const askList = (ask, name, lacks, text) =>
   lacks === null ? ask(name, text) : ask("listset_lacking", lacks, text, name.slice("listset_".length));
-
-export const startOfLacking = (name) => scheduleText({ list: LACKING[name], threads: 2, quota: 2, opening: [3, 7] });
 
 // Judges the run of a schedule. The verdict is `explained` (the order of the linearization points explains the calls), `points` (only another order explains
 // the calls, or could), `broken` (no order explains the calls) or `refused` (the schedule cannot be run).

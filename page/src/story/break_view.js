@@ -33,7 +33,7 @@ function begin(place) {
   const operations = ["add", "remove", "contains", ...(name === "mark-in-ceiling" ? ["ceiling"] : [])];
   const figure = takeFreeFigure(list, { lacks: name, ...given, chosen: { 0: start[0], 1: start[1] }, operations, codeNote: LACKS_ONE, struck: name === NO_TASK ? missing : undefined });
   figure.onStep = looked;
-  setScene({ stage: "task", text: figure.run.schedule });
+  setScene({ stage: "task" });
   if (place.given.text !== undefined) looked();
 }
 
@@ -43,7 +43,7 @@ const isShown = (run) => now.place.given.text !== undefined && run.lines.join() 
 function looked() {
   const { run } = scene.figure;
   const name = nameNow();
-  setScene({ text: run.schedule });
+  setScene({ text: run.lines.length === 0 && now.place.given.text === undefined ? "" : run.schedule });
   const verdict = run.verdict();
   const isBroken = isTaskDone(name, verdict);
   if (now.scene.stage !== "task") return scene.figure.set({ isLost: isBroken });
