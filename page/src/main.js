@@ -6,7 +6,7 @@ import { drawJudging, listenToJudging } from "./activities/judging.js";
 import { MAPS } from "./activities/maps.js";
 import { followAddress, openCourseFile, openFirst, openRecorded } from "./activities/open.js";
 import { startEngine } from "./engine/engine.js";
-import { fillExamples, listenToBar, listenToFiles, listenToMenu, listenToSettings, listenToWork, showQuestion, stopUnable } from "./page/controls.js";
+import { listenToBar, listenToFiles, listenToMenu, listenToSettings, listenToWork, showQuestion, stopUnable } from "./page/controls.js";
 import { byId } from "./page/dom.js";
 import { refreshReport } from "./page/files.js";
 import { keysOf, pressKey } from "./page/play.js";
@@ -63,19 +63,6 @@ function render() {
   keepSoon();
 }
 
-function connect() {
-  held.render = render;
-  on("ran", keepSoon, refreshReport);
-  on("recorded", openRecorded);
-  on("course", openCourseFile);
-}
-
-function takeEmpty() {
-  held.render = () => {};
-  takeTrace(new Trace(EMPTY_TRACE), 0);
-  held.render = render;
-}
-
 async function startPage() {
   document.body.dataset.ready = "begun";
   Object.assign(VIEWS, SCENES, MAPS);
@@ -90,10 +77,12 @@ async function startPage() {
 }
 
 async function openPage() {
-  connect();
-  takeEmpty();
+  takeTrace(new Trace(EMPTY_TRACE), 0);
+  held.render = render;
+  on("ran", keepSoon, refreshReport);
+  on("recorded", openRecorded);
+  on("course", openCourseFile);
   listen();
-  fillExamples();
   document.body.dataset.ready = "soon";
   await openFirst();
 }

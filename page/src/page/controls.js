@@ -52,6 +52,7 @@ export function listenToSettings() {
 const SETTINGS = "listset-settings";
 
 export function listenToWork() {
+  byId("examples").append(...examples().map(({ name, kind }) => new Option(`${name} (${kind})`, name)));
   byId("examples").onchange = () => openExample(byId("examples").value, 0);
   byId("run").onclick = runBox;
   byId("opening").onchange = runWithOpening;
@@ -66,10 +67,6 @@ export function listenToFiles() {
   onFile(byId("file"), openFile);
   byId("save-schedule").onclick = () => saveText("page.schedule", byId("schedule").value);
   byId("save-trace").onclick = () => saveText("page.trace", now.run.trace.text);
-}
-
-export function fillExamples() {
-  byId("examples").append(...examples().map(({ name, kind }) => new Option(`${name} (${kind})`, name)));
 }
 
 export function showQuestion() {

@@ -31,12 +31,10 @@ export const stateAtFirst = () => ({
   prefs: { hides: true, letters: true },
 });
 
-const activityOfRun = ({ exercise }) => (exercise !== null ? "judge" : "watch");
-
 /** Returns the name of the example that is shown, or "". @param {State} state */
 export const exampleIn = ({ task }) => (task.kind === "example" ? task.id : "");
 
-const onStage = (state) => ({ ...state, place: { ...state.place, activity: activityOfRun(state), screen: "stage", id: "", given: {} } });
+const onStage = (state) => ({ ...state, place: { ...state.place, activity: state.exercise === null ? "watch" : "judge", screen: "stage", id: "", given: {} } });
 const within = (count, { total }) => Math.max(0, Math.min(total, count));
 
 /** @type {Record<string, (state: State, action: Action) => State>} */

@@ -32,15 +32,11 @@ export function showParts(state) {
   const facts = factsOf(state);
   for (const [id, isSeen] of Object.entries(SEEN)) setHidden(byId(id), !isSeen(facts), document.querySelector("main"));
   const { activity, screen, view } = state.place;
-  const key = [activity, screen, view].join();
-  if (key === placed.key) return;
-  placed.key = key;
   Object.assign(document.body.dataset, { activity, screen, view: view ?? "" });
   for (const link of document.querySelectorAll("nav [data-to]")) {
     if (link.dataset.to.split(" ").includes(activity)) link.setAttribute("aria-current", "page");
     else link.removeAttribute("aria-current");
   }
 }
-const placed = { key: "" };
 
 export const setView = (view, slide = 0) => change("view", { view, slide });

@@ -41,7 +41,7 @@ export function takeFigure(figure) {
 
 export function leaveScene() {
   if (scene.view === null) return;
-  scene.view?.end?.();
+  scene.view.end?.();
   takeFigure(null);
   Object.assign(scene, { key: "", view: null });
   byId("scene").innerHTML = "";
@@ -51,8 +51,7 @@ export function leaveScene() {
 export function renderScene({ place, scene: state }) {
   const key = JSON.stringify([place.activity, place.id, place.given, place.view === "embed"]);
   if (key === scene.key) return scene.view.draw?.(state);
-  scene.view?.end?.();
-  takeFigure(null);
+  leaveScene();
   const view = viewOf(place);
   Object.assign(scene, { key, view });
   const box = byId("scene");
@@ -124,14 +123,12 @@ export const optionButtons = (texts, wrong = []) => {
   return tag("div", { class: "options" }, ...texts.map(button));
 };
 
-const lowered = (text) => text[0].toLowerCase() + text.slice(1);
-
 // Returns the reply to a guess. If the answer is shown later (`isToCome`), the reply does not reveal whether the guess is right.
 export function replyTo(options, chosen, isToCome) {
   const option = options?.[chosen];
   if (option === undefined) return "";
   const { text, says, right = false } = option;
-  const guess = `<b>You said: ${lowered(text)}${text.endsWith("?") ? "" : "."}</b>`;
+  const guess = `<b>You said: ${text[0].toLowerCase()}${text.slice(1)}${text.endsWith("?") ? "" : "."}</b>`;
   if (isToCome) return `<p class="you">${guess} Let us see.</p>`;
   return right ? '<p class="you right"><b>Right.</b></p>' : `<p class="you wrong">${guess} ${says}</p>`;
 }
