@@ -40,8 +40,7 @@ export function drawLink(state, name, places, event) {
 }
 
 export function drawFoldLink({ place }, next) {
-  const y = place.y + place.key / 2;
-  return tag("g", { class: "link in" }, tag("path", { d: curve(place.x + place.width, y, place.x + place.width + 10, y, next.place.x - 20, y, next.place.x - 5, y), "marker-end": "url(#tip-in)" }));
+  return tag("g", { class: "link in" }, tag("path", { d: pathOf(place, next.place, {}, true), "marker-end": "url(#tip-in)" }));
 }
 
 const TIP = { viewBox: "0 0 10 10", refX: 8, refY: 5, markerWidth: 17, markerHeight: 17, markerUnits: "userSpaceOnUse", orient: "auto" };

@@ -36,12 +36,11 @@ export function judgeScale({ last, threads, calls }, width, { bar = JUDGE_BAR, g
 
 const momentInWords = (at) => (Number.isInteger(at) ? `at ${at}` : `after ${Math.floor(at)}`);
 const OPEN = "(pending)";
-const replyShown = (call, answer) => (call.ended === null ? OPEN : (answer.replyOf(call) ?? "?"));
 
 function drawJudgedCall(call, { answer, exercise, verdict, scale }) {
   const y = scale.y(call.thread);
   const point = answer.points.get(call.id);
-  const reply = replyShown(call, answer);
+  const reply = call.ended === null ? OPEN : (answer.replyOf(call) ?? "?");
   const isClash = verdict?.clash === call.id;
   const where = point === undefined ? "not placed yet" : momentInWords(point.at);
   const slider = {

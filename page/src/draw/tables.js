@@ -24,10 +24,8 @@ function rowCell(held, kind) {
   return `<b>${held.pc}</b> ${row ? `${row.step} <small>${row.book}</small>` : ""}`;
 }
 
-const hasRegister = (kind, call, name) => LISTS[kind].calls[call.operation].registers.includes(name);
-
 function registerCell(held, name, moved, event, kind) {
-  if (held.pc === 0 || !hasRegister(kind, held.call, name)) return "";
+  if (held.pc === 0 || !LISTS[kind].calls[held.call.operation].registers.includes(name)) return "";
   const value = keyText(held[name]);
   if (moved && event.changes[name] !== undefined) return `<b class="new">${value}</b>`;
   return held[name] === "head" || held[name] === "-inf" ? `<span class="pale">${value}</span>` : value;

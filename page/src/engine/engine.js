@@ -93,15 +93,14 @@ export async function passed(bytes, stream) {
 
 export const bytesOf = (base64) => Uint8Array.from(atob(base64), (letter) => letter.charCodeAt(0));
 
-// Compiles the WebAssembly module from the compressed bytes in the file engine.js.
-async function engineModule() {
+// Compiles the WebAssembly module from the compressed bytes in the file engine.js, and returns an engine with this module.
+export async function startEngine() {
   if (typeof ENGINE === "undefined") {
     if (document.readyState !== "complete") await new Promise((done) => window.addEventListener("load", done, { once: true })); // first the page is loaded, then the engine
     await loadScript("engine.js");
   }
-  return WebAssembly.compile(await passed(bytesOf(ENGINE), new DecompressionStream("gzip")));
+  return new Engine(await WebAssembly.compile(await passed(bytesOf(ENGINE), new DecompressionStream("gzip"))));
 }
-export const startEngine = async () => new Engine(await engineModule());
 
 export function loadScript(src) {
   return new Promise((done, fail) => {

@@ -28,14 +28,6 @@ export function onFile(input, take) {
   };
 }
 
-// Returns the kind of a file by its first line. A file with an unknown first line counts as a schedule, so that the engine reports the error.
-function kindOfFile(text) {
-  if (text.startsWith("listset-trace")) return "trace";
-  if (text.startsWith("listset-calls")) return "calls";
-  if (text.startsWith("listset-course")) return "course";
-  return text.startsWith("listset-report") ? "report" : "schedule";
-}
-
 const EVENT = /^event \d+ line \d+ thread \d+ (?:begin (?:add|remove|contains|ceiling) \d+ call|load|store|exchange) .*\bpc \d+/;
 
 export function traceIn(text) {
@@ -54,13 +46,13 @@ export function comparedTrace(given, own) {
   return `This is the proved replayer’s run. The trace in the file differs from event ${event} on.`;
 }
 
+// Opens a file by its first line. A file with an unknown first line counts as a schedule, so that the engine reports the error.
 export async function openFile(text, name) {
-  const kind = kindOfFile(text);
   sayError("");
-  if (kind === "course") return announce("course", text);
-  if (kind === "calls") return announce("recorded", text);
-  if (kind === "trace") return openTrace(text);
-  if (kind === "schedule") return openTask(OWN_TASK, text, 0);
+  if (text.startsWith("listset-course")) return announce("course", text);
+  if (text.startsWith("listset-calls")) return announce("recorded", text);
+  if (text.startsWith("listset-trace")) return openTrace(text);
+  if (!text.startsWith("listset-report")) return openTask(OWN_TASK, text, 0);
   await openReportBox();
   showReport(text, `The report in ${name}:`);
 }

@@ -59,14 +59,13 @@ export function scheduleOfDraft(ask, text, lacks = null) {
 // Returns how many steps a thread of a broken list needs to reach `row`, or to end its call if `row` is undefined. Returns an error if the thread does not get
 // so far.
 function stepsOfLacking(ask, lacks, lines, thread, row) {
-  const fault = (cause) => ({ count: null, fault: `listset: line ${lines.length + 1}: ${cause}` });
   const { text } = ask("listset_lacking", lacks, `${[...lines, `go ${thread} ${MOST_TRIED}`].join("\n")}\n`, "trace");
   if (!isTrace(text)) return { count: null, fault: text.trim() };
   const steps = new Trace(text).events().filter(({ line }) => line === lines.length + 1);
   const end = steps.findIndex(({ answer }) => answer !== undefined);
   const at = row === undefined ? end : steps.findIndex(({ answer, changes }) => answer === undefined && changes.pc === Number(row));
   if (at !== -1) return { count: at + 1, fault: null };
-  return fault(end !== -1 || steps.length === 0 ? "Idle" : "Waits");
+  return { count: null, fault: `listset: line ${lines.length + 1}: ${end !== -1 || steps.length === 0 ? "Idle" : "Waits"}` };
 }
 
 function scheduleOfLackingDraft(ask, lacks, text) {

@@ -11,12 +11,10 @@ const MOST_NAMES = 12; // names of students with the same schedule
 const FEW_NAMES = 2; // names of a large group in a cell of the table
 const MANY = 10; // if at least one in MANY students has a schedule, the schedule is no sign of copying
 
-const stripped = (name) => name.replace(/^.*\//, "").replace(/\.[A-Za-z]+$/, "");
-
 // Splits a text such as "Ada Lovelace (1234567)" into the name and the number of a student.
 function studentOf(text, file) {
   const [, name, number] = /^(.*?)\s*(?:[([#]\s*((?=\D*\d)\w[\w-]{0,20})\s*[)\]]?)?\s*$/.exec(text ?? "") ?? [];
-  return { name: name || stripped(file), number: number ?? "" };
+  return { name: name || file.replace(/^.*\//, "").replace(/\.[A-Za-z]+$/, ""), number: number ?? "" };
 }
 
 // Returns the title and the tasks of the assignment in a link. If the link has no assignment, returns the reason as `fault`.

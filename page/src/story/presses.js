@@ -15,7 +15,7 @@ const PHASES = {
   },
   lazy: {
     ...walkers(1, 2, 3, 20, 21, 23, 24), 25: "look", 4: "locks", 5: "locks", 6: "check", 7: "check", 8: "make", 9: "make", 10: "link", 11: "mark",
-    12: "tidy", 13: "unlock", 14: "unlock", 22: "look",
+    12: "unlink", 13: "unlock", 14: "unlock", 22: "look",
   },
   "lock-free": {
     ...walkers(1, 2, 4, 8, 20, 21, 23, 24), 25: "look", 3: "snip", 5: "make", 6: "make", 7: "swing", 9: "marktry", 10: "tidytry", 22: "look",
@@ -42,7 +42,6 @@ const WORDS = {
   again: (_, row) => (row === 8 ? "check that pred points to curr" : "walk again"),
   check: () => "check the marks and the arrow",
   mark: ({ key }) => `mark ${key}: removed`,
-  tidy: ({ key }) => `unlink ${key}`,
   look: () => "read the mark",
   snip: () => "try to unlink the marked node",
   swing: ({ key }) => `try to link ${key} in`,

@@ -17,8 +17,7 @@ export const keepStory = (change) => keepUnder(STORY, { ...keptStory(), ...chang
 const JUDGED = "listset-judged";
 export const judgedLines = () => Object.fromEntries(textsKept(keptUnder(JUDGED)));
 export const keepJudged = (run, line) => keepUnder(JUDGED, { ...keptUnder(JUDGED), [run]: line });
-const isBrokenLine = ([name, line]) => Object.hasOwn(LACKING, name) && isText(line);
-export const brokenLines = () => Object.entries(keptUnder(BROKEN) ?? {}).filter(isBrokenLine).map(([name, line]) => [name, isNamed(name) ? `${line} ${NAMED_TOO}` : line]);
+export const brokenLines = () => textsKept(keptUnder(BROKEN)).filter(([name]) => Object.hasOwn(LACKING, name)).map(([name, line]) => [name, isNamed(name) ? `${line} ${NAMED_TOO}` : line]);
 export const isBrokenOnce = (name) => brokenLines().some(([one]) => one === name);
 export const keepBrokenLine = (name, line) => keepUnder(BROKEN, { ...keptUnder(BROKEN), [name]: line });
 export const isNamed = (name) => (keptUnder(NAMED) ?? []).includes(name);
