@@ -101,13 +101,13 @@ function blockOf(engine, length) {
 async function passed(bytes, stream) {
   return new Uint8Array(await new Response(new Blob([bytes]).stream().pipeThrough(stream)).arrayBuffer());
 }
-async function engineModule() {
+async function startEngine() {
   if (typeof ENGINE === "undefined") {
     if (document.readyState !== "complete")
       await new Promise((done) => window.addEventListener("load", done, { once: true }));
     await loadScript("engine.js");
   }
-  return WebAssembly.compile(await passed(bytesOf(ENGINE), new DecompressionStream("gzip")));
+  return new Engine(await WebAssembly.compile(await passed(bytesOf(ENGINE), new DecompressionStream("gzip"))));
 }
 function loadScript(src) {
   return new Promise((done, fail) => {
@@ -115,7 +115,7 @@ function loadScript(src) {
     document.head.append(Object.assign(document.createElement("script"), { src, onload: done, onerror }));
   });
 }
-var FIRST_ROOM, LARGE_MEMORY, Engine, bytesOf, startEngine;
+var FIRST_ROOM, LARGE_MEMORY, Engine, bytesOf;
 var init_engine = __esm({
   "engine.js"() {
     FIRST_ROOM = 1 << 22;
@@ -160,7 +160,6 @@ var init_engine = __esm({
       }
     };
     bytesOf = (base64) => Uint8Array.from(atob(base64), (letter) => letter.charCodeAt(0));
-    startEngine = async () => new Engine(await engineModule());
   }
 });
 
