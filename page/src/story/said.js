@@ -67,7 +67,7 @@ function lockSaid(event, who, plain, waits, moment) {
   if (event.deed === "store" && locked.length === 0 && isSecond(event, events)) return "has released both locks.";
   if (event.deed === "store") return `releases ${what}${isHeld(event, events) ? "" : ", which it does not hold"}.`;
   if (event.saw === event.from) return `takes ${what}${locked.length > 1 ? `: it holds ${locked.join(" and ")}` : ""}.`;
-  return `wants ${what}, but ${chipOf(event.saw.slice(1))} holds it. ${bold(waits ? "It waits." : "It continues all the same.")}`;
+  return `wants ${what}, but ${chipOf(event.saw.slice(1))} holds it. ${bold(waits ? "The call waits." : "The call continues without the lock.")}`;
 }
 
 // Decides whether the key belongs just before the node `owner` of the chain. (Other threads can have changed the chain since the thread passed this place.)

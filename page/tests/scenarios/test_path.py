@@ -166,7 +166,7 @@ def test_the_story_shows_hand_over_hand_and_why_two_locks_are_needed(visitor):
     visitor.wait("return location.hash === '#story=4.2b'")
     visitor.step("aba")
     visitor.revealed()
-    assert "A remove locks pred" in visitor.text(".why") and visitor.is_seen(".ledger") and not visitor.is_seen(".ledger .gap")
+    assert "Each remove locks pred" in visitor.text(".why") and visitor.is_seen(".ledger") and not visitor.is_seen(".ledger .gap")
     visitor.click("#go-on")
     visitor.wait("return location.hash === '#story=5'")
 
@@ -310,7 +310,7 @@ def test_a_wrong_choice_of_the_next_thread_gets_a_reply(visitor):
 def test_the_reader_chooses_what_validation_checks(visitor, key, reply):
     visitor.open("#story=6")
     guess(visitor, key)
-    assert reply in visitor.text(".you") and "A second walk does not meet 3" in visitor.text(".why b") and "5 is in the list" in visitor.text(".said")
+    assert reply in visitor.text(".you") and "The second walk did not meet 3" in visitor.text(".why b") and "5 is in the list" in visitor.text(".said")
 
 
 @pytest.mark.parametrize("number", ["1", "2", "4", "4.2", "4.2b", "5", "6", "7.2", "9.2"])
@@ -431,12 +431,12 @@ def test_steps_follow_the_code(visitor):
     visitor.click("[data-active='0']")
     visitor.click(".steps button.row", "validate")
     visitor.idle()
-    assert "It waits." in visitor.text(".said")
+    assert "The call waits." in visitor.text(".said")
     visitor.settle()
     where = visitor.hash
     assert where.startswith("#code=lazy&opening=3.7&s=b0.add.5")
     visitor.open(where)
-    assert "It waits." in visitor.text(".said")
+    assert "The call waits." in visitor.text(".said")
     visitor.open("#code=lazy&s=g0.4")
     assert "cannot make these steps" in visitor.text("#code-said")
 
