@@ -1,3 +1,5 @@
+//go:build !listset
+
 package judge
 
 import (

@@ -1,3 +1,5 @@
+//go:build !listset
+
 #include "textflag.h"
 
 // onTimer handles the signal of a timer. It runs on the stopped thread, and calls no Go code. The signal's value is the

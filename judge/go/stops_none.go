@@ -1,8 +1,8 @@
-//go:build !(linux && amd64)
+//go:build !(linux && amd64) || listset
 
 package judge
 
-// stops has no effect on this platform.
+// stops has no effect on this platform, or if the judge is the library: a package with C code cannot have assembly.
 type stops struct{}
 
 func newStops(*area, int, bool) *stops { return nil }
