@@ -43,7 +43,7 @@ const isShown = (run) => now.place.given.text !== undefined && run.lines.join() 
 function looked() {
   const { run } = scene.figure;
   const name = nameNow();
-  setScene({ text: run.lines.length === 0 && now.place.given.text === undefined ? "" : run.schedule });
+  setScene({ text: run.lines.length === 0 && now.place.given.text === undefined ? "" : run.schedule }); // before the first step, the address has no schedule
   const verdict = run.verdict();
   const isBroken = isTaskDone(name, verdict);
   if (now.scene.stage !== "task") return scene.figure.set({ isLost: isBroken });
