@@ -87,7 +87,7 @@ const SHORT_CLAIMS = [
   [/has released both locks\./, (_, { event, lockedKeys, lastOwn }) => lockedKeys().length > 0 || lastOwn().word === event.word || ![lastOwn(), event].every(({ released }) => released)],
   [/It does not lock (\S+)\./, ([key], { event, lockOf, next, keyOf, lacks, thread }) => lacks === null || keyOf(ownerOf(event)) !== key || lockOf(ownerOf(event)) === thread || next?.word === `${ownerOf(event)}.lock`],
   [/wants the lock.*, but ([A-C]) holds it/, ([other], { event, lockOf, thread }) => inPage("holderOf")(lockOf(lockName(event))) !== other || lockOf(lockName(event)) === thread],
-  [/ It waits\./, (_, { event, next }) => next !== null && next.word !== event.word],
+  [/ The call waits\./, (_, { event, next }) => next !== null && next.word !== event.word],
   [/The call continues without the lock/, (_, { event, next }) => next !== null && next.word === event.word],
   [/reads (\d+): too small/, ([saw], { event }) => Number(saw) >= event.call.key],
   [/reads (\d+): big enough/, ([saw], { event }) => Number(saw) < event.call.key],
