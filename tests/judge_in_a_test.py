@@ -387,7 +387,7 @@ case $1 in judge) ;; *) exec '%program' "$@" ;; esac
 def test_a_refusal_names_the_presets_that_passed_before(form, program):
     script = REFUSES_THIRD.replace("%program", str(program)).replace("%room", str(form.room)).replace("%refuses", str(refusing(form)))
     kind, said = form.told(form.script("third", script), "right", "threads=4 calls=250 runs=3", LISTSET_RECORD=str(form.room / "kept"))
-    assert kind == "refused" and re.search(r"\nseed 3 \(multiples of 64\), 4 threads(?:; refused: .*)?; passed before: few keys, fresh sets; recorded in ", said), said
+    assert kind == "refused" and re.search(r"\nseed 3 \(multiples of 64\), 4 threads(?:; longer runs followed the first refusal: .*)?; passed before: few keys, fresh sets; recorded in ", said), said
 
 
 @each(LANGUAGES)
