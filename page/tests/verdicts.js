@@ -619,7 +619,7 @@ function isOfUndone(it, { tally }, what, [some, all, usual], isChecked, isSample
     sample.push(call);
     next = at + Math.floor(calls.length / 400);
   }
-  const isUsual = usual === null || Math.floor((100 * sample.filter((call) => isMet(it, call)).length) / sample.length) === Number(usual) && isSampled === sample.length < changes.length; // (null: no percentage is told)
+  const isUsual = usual === null || Math.floor((100 * sample.filter((call) => isMet(it, call)).length) / sample.length) === Number(usual) && isSampled === sample.length < changes.length; // (null: no percentage is printed)
   // How often a change can be counted: once for each later call, or final state, that needs the opposite state, and once if it was reported twice.
   const refused = new Set(keysOf(it).filter((key) => !hasOrderOf(it, key)));
   const times = (call) => ofKey(it, call.key).filter((one) => one.ended !== null && one.begun > call.begun && needsKey(one) !== leaves(call)).length
