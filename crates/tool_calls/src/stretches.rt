@@ -3,7 +3,8 @@
 //! their order is unknown.
 
 use crate::key_calls::KeyCalls;
-use crate::made_calls::{Made, NEVER};
+use crate::key_order::has_order;
+use crate::made_calls::{Made, NEVER, other};
 use lset_words::Presence;
 use std::alloc::{AllocError, Global};
 
@@ -15,9 +16,9 @@ pub struct Stretch {
     pub begun: u64,
     /// The moment at which the last change ended.
     pub ended: u64,
-    /// The state of the key after these changes, if every order of the changes leads to the same state: present if
-    /// there is one more add than removes, absent if one more remove, and the state before if their numbers are equal.
-    /// `None` if the state is unknown.
+    /// The state of the key after these changes, if some order explains them: present if there is one more add than
+    /// removes, absent if one more remove, and the state before if their numbers are equal. `None` if the state is
+    /// unknown, for example because no order explains these changes.
     pub leaves: Option<Presence>,
     /// A call that ended before the stretch and shows the state of the key before the stretch. `None` if `leaves` does
     /// not depend on such a call.
@@ -65,24 +66,45 @@ impl Sum {
         }
     }
 
-    /// Returns the stretch with these counts. `before` is the state of the key before the stretch, if known. `read` is
-    /// the call that shows this state.
-    fn stretch(self, before: Option<Presence>, read: Option<Made>) -> Stretch {
-        let (leaves, read) = if self.adds == self.removes {
-            (before, read)
-        } else if self.adds == self.removes.saturating_add(1) {
-            (Some(Presence::Present), None)
+    /// Returns the state in which the key is just before these changes, as their numbers show: absent if there is one
+    /// more add than removes, present if one more remove, and `before` if their numbers are equal. `None` if the numbers
+    /// differ by more, or if the numbers show another state than `before`.
+    fn opening(self, before: Option<Presence>) -> Option<Presence> {
+        if self.adds == self.removes {
+            return before;
+        }
+        let shown = if self.adds == self.removes.saturating_add(1) {
+            Presence::Absent
         } else if self.removes == self.adds.saturating_add(1) {
-            (Some(Presence::Absent), None)
+            Presence::Present
         } else {
-            (None, None)
+            return None;
         };
-        Stretch {
+        let is_alone = self.adds.saturating_add(self.removes) == 1;
+        (is_alone || before.is_none_or(|before| before == shown)).then_some(shown)
+    }
+
+    /// Returns the stretch with these counts. `changes` are its changes, ordered by begin. `before` is the state of the
+    /// key before the stretch, if known. `read` is the call that shows this state. Allocates.
+    fn stretch(
+        self,
+        alloc: Global,
+        changes: &[Made],
+        before: Option<Presence>,
+        read: Option<Made>,
+    ) -> Result<Stretch, AllocError> {
+        let (mut leaves, is_even) = (None, self.adds == self.removes);
+        if let Some(opening) = self.opening(before) {
+            if has_order(alloc, changes, opening, None)? {
+                leaves = Some(if is_even { opening } else { other(opening) });
+            }
+        }
+        Ok(Stretch {
             begun: self.begun,
             ended: self.ended,
             leaves,
-            read,
-        }
+            read: if is_even { read } else { None },
+        })
     }
 }
 
@@ -102,24 +124,32 @@ fn read_between(key: &KeyCalls, since: u64, until: u64) -> Option<Made> {
     None
 }
 
-/// Returns the stretch (a group of overlapping changes) with the counts `sum`. `last` is the stretch before it. The
-/// state of the key in between comes from a call that changed nothing, otherwise from `last` or the opening state.
-fn stretch_of(key: &KeyCalls, sum: Sum, last: Option<Stretch>) -> Stretch {
+/// Returns the stretch (a group of overlapping changes) of `changes`, whose counts are `sum`. `last` is the stretch
+/// before it. The state of the key in between comes from a call that changed nothing, otherwise from `last` or the
+/// opening state. Allocates.
+fn stretch_of(
+    alloc: Global,
+    key: &KeyCalls,
+    changes: &[Made],
+    sum: Sum,
+    last: Option<Stretch>,
+) -> Result<Stretch, AllocError> {
     let since = last.map_or(0, |last| last.ended);
-    match read_between(key, since, sum.begun) {
-        Some(read) => sum.stretch(read.needs(), Some(read)),
-        None => match last {
-            None => sum.stretch(Some(key.opening), None),
-            Some(last) if last.read.is_none() => sum.stretch(last.leaves, None),
-            Some(_) => sum.stretch(None, None),
-        },
-    }
+    let read = read_between(key, since, sum.begun);
+    let before = match (read, last) {
+        (Some(read), _) => read.needs(),
+        (None, None) => Some(key.opening),
+        (None, Some(last)) if last.read.is_none() => last.leaves,
+        (None, Some(_)) => None,
+    };
+    sum.stretch(alloc, changes, before, read)
 }
 
 /// Returns the stretches (groups of overlapping changes) of a key, ordered by time. A stretch with a pending change has
 /// no end and is left out. Allocates.
 pub fn stretches_of(alloc: Global, key: &KeyCalls) -> Result<Vec<Stretch>, AllocError> {
     let mut found: Vec<Stretch> = Vec::new(alloc);
+    let mut changes: Vec<Made> = Vec::new(alloc);
     let mut sum: Option<Sum> = None;
     for call in &key.calls {
         if !call.changes() {
@@ -129,14 +159,18 @@ pub fn stretches_of(alloc: Global, key: &KeyCalls) -> Result<Vec<Stretch>, Alloc
             None => Some(Sum::of(*call)),
             Some(before) if call.begun < before.ended => Some(before.with(*call)),
             Some(before) => {
-                found.push(stretch_of(key, before, found.last().copied()))?;
+                let last = found.last().copied();
+                found.push(stretch_of(alloc, key, &changes, before, last)?)?;
+                changes.clear();
                 Some(Sum::of(*call))
             }
         };
+        changes.push(*call)?;
     }
     if let Some(before) = sum {
         if before.ended < NEVER {
-            found.push(stretch_of(key, before, found.last().copied()))?;
+            let last = found.last().copied();
+            found.push(stretch_of(alloc, key, &changes, before, last)?)?;
         }
     }
     Ok(found)
