@@ -237,7 +237,7 @@ def test_the_verdict_and_its_lines_are_right(program, few, seed):
         printed, _, more = done.stdout.partition("\n\n")
         assert more == MORE * is_refused, text
         said, shown = printed.splitlines()[:len(due)], printed.splitlines()[len(due):]
-        later = [f"  (the calls up to moment {judged.moment} already have no order, but no two of them were found to contradict each other)"]
+        later = [f"  (the calls up to moment {judged.moment} alone already have no order; this contradiction ends later, and is the first that the judge found)"]
         is_later = bool(judged.moment and shown) and ends_after(shown[1], judged.moment)
         assert shown[3:] == (later if is_later else []), text
         shown = shown[:3]

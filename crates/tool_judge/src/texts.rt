@@ -125,12 +125,12 @@ fn end_of(clash: Option<Clash>) -> Option<u64> {
 }
 
 /// Returns a note if the second call of the contradiction ended after the moment (a time in the recording) of the
-/// refusal. The note states that the judge found no two contradicting calls up to that moment. Otherwise returns an
-/// empty string.
+/// refusal: this contradiction is the first that the judge found, but the calls up to the moment already have no order.
+/// Otherwise returns an empty string.
 fn later_note(alloc: Global, refusal: Refusal, clash: Option<Clash>) -> Result<String, AllocError> {
     match (refusal.moment, end_of(clash)) {
         (Some(moment), Some(end)) if moment < end => format!(in alloc;
-            "  (the calls up to moment {moment} already have no order, but no two of them were found to contradict each other)\n"
+            "  (the calls up to moment {moment} alone already have no order; this contradiction ends later, and is the first that the judge found)\n"
         ),
         _ => Ok(String::new(alloc)),
     }
