@@ -3,7 +3,7 @@
 use crate::lined::{Lines, count_fields, field_or_empty, number_at};
 use lset_text::Cause;
 
-/// The maximum number of opening keys (keys at the start).
+/// The maximum number of keys with which a set can open.
 const MOST_KEYS: usize = 1_048_576;
 
 /// Returns `true` if a line has exactly two fields and the first is `word`.
@@ -11,8 +11,8 @@ fn is_pair(line: &[u8], word: &[u8]) -> bool {
     field_or_empty(line, 0) == word && count_fields(line) == 2
 }
 
-/// Returns the number of the first line that can be a key. A server prints up to three optional lines before its keys:
-/// first `listening A`, then `sessions N`, then `calls N`.
+/// Returns the number of the first line that should be a key. The input can be the output of another server, which has
+/// three lines before its keys: `listening A`, `sessions N` and `calls N`, each optional here.
 fn first_key_line(lines: &Lines<'_>) -> usize {
     let mut number = 1usize;
     for word in [b"listening".as_slice(), b"sessions", b"calls"] {
@@ -23,8 +23,8 @@ fn first_key_line(lines: &Lines<'_>) -> usize {
     number
 }
 
-/// Returns the number and the cause of the first line that `serve` refuses. The error of `serve` has the same number
-/// and the same cause.
+/// Returns the number of the first line that `serve` refuses, and the cause of the error, as `serve` would report them.
+/// Returns `None` if all lines are right.
 pub fn wrong_key(lines: &Lines<'_>) -> Option<(usize, Cause)> {
     let mut before: Option<u32> = None;
     let last = lines.count();

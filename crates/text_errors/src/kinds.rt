@@ -9,7 +9,7 @@ pub enum TextKind {
     Recording,
     Trace,
     Course,
-    /// Opening keys for `serve`.
+    /// Lines `key K`: the keys that the set of `serve` has at the start.
     Keys,
     /// The first line is not the title of any listset format.
     Unknown,

@@ -1,5 +1,6 @@
-//! Explains the error in a line of a text, and how to correct the line, for the command `explain`. Errors in events are
-//! explained in `tool_explain`, because an explanation requires a replay of the lines before the error.
+//! For the command `explain`: explains the error in a line of an input file, and how to correct the line. Errors in the
+//! events of a schedule are explained in `tool_explain`, because these explanations require a replay of the lines
+//! before the error.
 #![tactic(auto)]
 
 mod keyed; // errors in opening keys for serve

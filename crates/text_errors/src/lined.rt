@@ -46,7 +46,7 @@ impl<'a> Lines<'a> {
         }
     }
 
-    /// Among the lines before line `number`, returns the number of the last line that satisfies `is_meant`.
+    /// Returns the number of the last line before line `number` that satisfies `is_meant`, or `None` if no line does.
     pub fn last_before<F: Fn(&[u8]) -> bool + Drop>(
         &self,
         number: usize,
@@ -99,13 +99,13 @@ pub fn number_at(line: &[u8], index: usize) -> Option<u32> {
 }
 
 /// Parses field `index` (counted from 0) of a line as a moment (start or end of a call). Returns `None` if the field is
-/// not a number that is at least 1.
+/// not a number from 1 to the largest `u64`.
 pub fn moment_at(line: &[u8], index: usize) -> Option<u64> {
     long_number(field(line, index)?, 1, u64::MAX)
 }
 
-/// Appends the first 100 bytes of a text in visible characters: a tab is written as `\t`, a byte that is not ASCII as
-/// `\xHH`.
+/// Appends the first 100 bytes of a text as printable ASCII: a tab as `\t`, a CR as `\r`, and any other byte that is
+/// not printable as `\xHH`. Appends `..` if the text is longer.
 pub fn put_visible(out: &mut String, bytes: &[u8]) -> Result<(), AllocError> {
     for byte in bytes.iter().take(MOST_PRINTED) {
         match *byte {
@@ -121,7 +121,7 @@ pub fn put_visible(out: &mut String, bytes: &[u8]) -> Result<(), AllocError> {
     Ok(())
 }
 
-/// Appends a text in visible characters, enclosed in single quotes.
+/// Appends a text between single quotes, as `put_visible` prints it.
 pub fn put_quoted(out: &mut String, bytes: &[u8]) -> Result<(), AllocError> {
     out.push_str("'")?;
     put_visible(out, bytes)?;
@@ -137,8 +137,8 @@ fn is_plain(byte: u8) -> bool {
     byte.is_ascii_alphanumeric() || !byte.is_ascii() || is_sign
 }
 
-/// Returns a file name as it should be typed on a command line. The name is quoted if it contains a space or another
-/// byte that a shell does not take literally, and it gets the prefix `./` if it begins with a hyphen.
+/// Returns a file name as it should be typed on a command line. The name is quoted if it is empty or contains a byte
+/// that a shell does not take literally, and it gets the prefix `./` if it begins with a hyphen.
 pub fn quoted_name(alloc: Global, file: &str) -> Result<String, AllocError> {
     let mut name = String::new(alloc);
     let is_quoted = file.is_empty() || !file.as_bytes().iter().all(|byte| is_plain(*byte));

@@ -48,7 +48,7 @@ pub(crate) fn put_recording_form(
     }
 }
 
-/// Explains that a line has the seven fields of a call but is not a valid call of a recording.
+/// Explains why a line with the seven fields of a call is not a valid call of a recording.
 fn put_call_words(out: &mut String, place: Place<'_>) -> Result<(), AllocError> {
     let (line, file) = (place.line, place.file);
     let reply = field_or_empty(line, 6);

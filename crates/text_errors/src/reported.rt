@@ -1,5 +1,5 @@
-//! Explains errors in reports, and conflicts between calls in reports and recordings. The moments of a call are its
-//! start and its end.
+//! Explains errors in reports (the output of `replay`), and conflicts between the calls of a report or a recording (a
+//! file of recorded calls for `judge`). The moments of a call are its start and its end.
 
 use crate::kinds::{Place, TextKind};
 use crate::lined::{Lines, field, moment_at, number_at};
@@ -19,7 +19,7 @@ const OF_REPORT: CallFields = CallFields {
     end: 6,
 };
 
-/// Explains why a call in a report conflicts with the header or with an earlier call.
+/// Explains what is wrong with a call in a report: its number, its thread, or its moments (its start and its end).
 pub(crate) fn put_report_history(
     out: &mut String,
     lines: &Lines<'_>,
@@ -48,13 +48,12 @@ pub(crate) fn put_report_history(
     put_moments(out, lines, place, OF_REPORT)
 }
 
-/// Returns `true` if a line of a report or a recording is the line of a call.
 pub(crate) fn is_call(line: &[u8]) -> bool {
     field(line, 0) == Some(b"call".as_slice())
 }
 
-/// Explains why the moments of a call (its start and its end) conflict with each other, or with the moments of an
-/// earlier call.
+/// Explains what is wrong with the moments of a call (its start and its end): the end is not after the start, or they
+/// conflict with the moments of an earlier call.
 pub(crate) fn put_moments(
     out: &mut String,
     lines: &Lines<'_>,
@@ -93,8 +92,8 @@ pub(crate) fn put_moments(
     put_order(out, lines, place, fields, begin)
 }
 
-/// Explains why a call conflicts with earlier calls. Calls must be listed in order of start, and a thread can have only
-/// one call at a time.
+/// Explains how a call conflicts with the calls in earlier lines: calls must be listed in order of start, and a thread
+/// has at most one pending call at a time.
 fn put_order(
     out: &mut String,
     lines: &Lines<'_>,
@@ -127,7 +126,8 @@ fn put_order(
     }
 }
 
-/// Appends a shell command that sorts the calls of a recording. The command is appended to the last line of `out`.
+/// Appends to the last line of `out` a shell command that sorts the calls of a recording by their starts. Appends
+/// nothing for a report.
 fn put_sorting(out: &mut String, place: Place<'_>) -> Result<(), AllocError> {
     if place.kind != TextKind::Recording {
         return Ok(());

@@ -68,13 +68,14 @@ fn without_indent(line: &[u8]) -> &[u8] {
     b""
 }
 
-/// Returns `true` if line 2 begins with a title of listset, or if line 1 has a title of listset after spaces or tabs.
+/// Returns `true` if line 1 or line 2 begins with `listset-`. Spaces and tabs before `listset-` are skipped in line 1
+/// only.
 fn has_spoiled_title(lines: &Lines<'_>) -> bool {
     let (first, second) = (without_indent(lines.line(1)), lines.line(2));
     first.starts_with(b"listset-") || second.starts_with(b"listset-")
 }
 
-/// Returns `true` if a word starts with `listset-`, in lower or upper case.
+/// Returns `true` if a word starts with `listset-`, with any mix of upper and lower case.
 fn starts_with_name(word: &[u8]) -> bool {
     match word.get(..8) {
         Some(start) => start.eq_ignore_ascii_case(b"listset-"),
@@ -82,8 +83,8 @@ fn starts_with_name(word: &[u8]) -> bool {
     }
 }
 
-/// Explains that the first line is not a title. Suggests an edit only if the rest of the text resembles a listset
-/// format.
+/// Explains that line 1 is not a title. If line 1 looks like another line of a listset format, such as a call or a
+/// header line, also suggests how to correct the file.
 pub fn put_no_title(
     out: &mut String,
     lines: &Lines<'_>,
@@ -124,8 +125,8 @@ pub fn put_no_title(
     }
 }
 
-/// Explains the error in a line if the error can occur in every kind of text. Otherwise writes nothing and returns
-/// `false`.
+/// Explains an error that a line of any text can have: a CR, a comment, a wrong separator, capital letters, or no
+/// characters at all. If the line has no such error, writes nothing and returns `false`.
 pub fn put_spoiled(out: &mut String, place: Place<'_>) -> Result<bool, AllocError> {
     let (file, number) = (place.file, place.number);
     match place.line {
@@ -171,7 +172,7 @@ pub fn put_spoiled(out: &mut String, place: Place<'_>) -> Result<bool, AllocErro
     Ok(true)
 }
 
-/// Returns `true` if a line contains a CR and, after it, a byte other than CR.
+/// Returns `true` if a line contains a CR that is followed by a byte other than CR.
 fn has_inner_cr(line: &[u8]) -> bool {
     let mut before = b'.';
     for byte in line {
@@ -183,7 +184,7 @@ fn has_inner_cr(line: &[u8]) -> bool {
     false
 }
 
-/// Returns `true` if the first word of a line is a listset keyword written in capital letters.
+/// Returns `true` if the first field of a line is a listset keyword with at least one capital letter, such as `Call`.
 fn has_capitals(line: &[u8]) -> bool {
     let first = field_or_empty(line, 0);
     let words = [
@@ -219,8 +220,8 @@ fn has_two_spaces(line: &[u8]) -> bool {
     false
 }
 
-/// Explains that a text ends too early: the last line has no newline (`is_line`), or final lines, such as `end`, are
-/// missing.
+/// Explains why a text ends too early. If `is_line` is true, the last line has no newline; otherwise the final lines,
+/// such as `end`, are missing.
 pub fn put_not_ended(
     out: &mut String,
     lines: &Lines<'_>,

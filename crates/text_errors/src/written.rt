@@ -1,4 +1,4 @@
-//! Explains the errors in misspelled lines and fields: header lines, words and numbers.
+//! Explains wrong header lines, misspelled calls, wrong numbers, and keys that do not increase.
 
 use crate::kinds::{Place, TextKind};
 use crate::lined::{field, field_or_empty, put_quoted};
@@ -14,7 +14,8 @@ const MOST_MOMENT_OF_REPORT: u64 = 4_294_967_295;
 /// The maximum number of steps in one line of a schedule.
 const MOST_STEPS: u64 = 10_000;
 
-/// The largest row of a step table that a line of a draft (a schedule that can state where a thread stops) can name.
+/// The largest row number in a line `go THREAD to ROW` of a draft (a schedule that can state where a thread stops). The
+/// row is a row of the list's step table.
 const MOST_ROW: u64 = 255;
 
 /// A field that must be a number: its name in messages, its index in the line (counted from 0), and its range.
@@ -26,12 +27,11 @@ struct NumberField {
     high: u64,
 }
 
-/// Returns the description of a field that must be a thread, a key or a call number.
+/// Returns the description of a field that must be a number from 0 to 4,294,967,295: a thread, a key or a call number.
 fn plain(name: &'static str, index: usize) -> NumberField {
     in_range(name, index, 0, 4_294_967_295)
 }
 
-/// Returns the description of a field that must be a number from `low` to `high`.
 fn in_range(name: &'static str, index: usize, low: u64, high: u64) -> NumberField {
     NumberField {
         name,
@@ -41,7 +41,7 @@ fn in_range(name: &'static str, index: usize, low: u64, high: u64) -> NumberFiel
     }
 }
 
-/// Explains that a line contains a wrong number. Checks each field of the line that must be a number.
+/// Explains which field of a line is not a number in its range. If several are wrong, explains the first.
 pub fn put_number(out: &mut String, place: Place<'_>) -> Result<(), AllocError> {
     let is_stop = matches!(field_or_empty(place.line, 2), b"out" | b"to");
     let thread = plain("THREAD", 1);
@@ -67,8 +67,8 @@ pub fn put_number(out: &mut String, place: Place<'_>) -> Result<(), AllocError> 
     }
 }
 
-/// Explains the error in the first field of `fields` that is not a number in its range. Skips fields that are `-` or
-/// `open`.
+/// Explains the first of `fields` that is present and is not a number in its range; `-` and `open`, which mark the end
+/// of a pending call, are skipped. If no field is wrong, appends a general sentence.
 fn put_first_wrong(
     out: &mut String,
     place: Place<'_>,
@@ -103,8 +103,8 @@ fn put_first_wrong(
     out.push_str("A number of the line is out of its range, or has a sign or a leading zero.\n")
 }
 
-/// Returns a sentence that states how a recorder should choose the number in the field `name`. The sentence begins with
-/// a space.
+/// Returns advice on how a program that records calls should choose the number in the field `name`. The advice begins
+/// with a space.
 fn advice_on(name: &str) -> &'static str {
     match name {
         "BEGIN" | "END" => " Take all moments from one counter that starts at 1.",
@@ -113,8 +113,8 @@ fn advice_on(name: &str) -> &'static str {
     }
 }
 
-/// Explains that field `index` of a line is not `add`, `remove` or `contains`. If the field is one of these words,
-/// writes nothing and returns `false`.
+/// Explains that field `index` (from 0) of a line is not `add`, `remove` or `contains`; `calls` lists the possible
+/// calls for the message. If the field is one of these three words, writes nothing and returns `false`.
 pub fn put_no_call(
     out: &mut String,
     place: Place<'_>,
@@ -138,7 +138,7 @@ pub fn put_no_call(
     Ok(true)
 }
 
-/// Explains the error in a line of the header.
+/// States what line `number` (1 to 4) of a header must be.
 pub fn put_header(out: &mut String, number: usize) -> Result<(), AllocError> {
     let text = match number {
         1 => {
@@ -153,7 +153,8 @@ pub fn put_header(out: &mut String, number: usize) -> Result<(), AllocError> {
     out.push_str(text)
 }
 
-/// Explains that a key at the start or at the end of a run is not greater than the key in the line before.
+/// Explains that the key in a line `opening K` or `key K` is not greater than the key in the line before, which is
+/// `above`.
 pub fn put_opening(out: &mut String, place: Place<'_>, above: &[u8]) -> Result<(), AllocError> {
     let file = place.file;
     put_quoted(out, place.line)?;

@@ -1,5 +1,5 @@
-//! Explains errors in the lines of a report, of a recording, or of the opening keys for `serve` (the keys at the
-//! start).
+//! Explains errors in the lines of a report, of a recording, or of opening keys for `serve` (the keys that the served
+//! set has at the start).
 
 use crate::kinds::{Place, TextKind};
 use crate::lined::Lines;
@@ -15,8 +15,8 @@ const LINES_OF_REPORT: &str =
 const MOST_OF_REPORT: &str =
     "A report has at most 1000000 calls, 1000000 places, and 1048576 keys (2097152 in version 2).\n";
 
-/// Explains the error in a line: after the header of a report, after the title of a recording, or in the opening keys
-/// for `serve` (the keys at the start).
+/// Explains the error in a line after the header of a report, in a line after the title of a recording, or in a line of
+/// opening keys for `serve` (the keys that the served set has at the start).
 pub fn put_wrong_line(
     out: &mut String,
     lines: &Lines<'_>,
