@@ -1,4 +1,4 @@
-//! Determines how far a thread can run after the lines before an error. To do so, expands the lines as a draft: a
+//! Determines how far a thread can run after the lines before an error. To do so, expands these lines as a draft: a
 //! schedule in which a line can state where a thread stops instead of a number of steps.
 
 use crate::event_errors::thread_text;
@@ -7,8 +7,8 @@ use text_errors::{Lines, Place, TextKind, field_or_empty, number_at};
 use tool_base::{Tool, answer_text};
 use tool_replay::{Expand, Trace};
 
-/// Returns a draft (a schedule that can state where a thread stops). The draft consists of the lines from line 2 to the
-/// line before the error, and of `ending`.
+/// Returns a draft (a schedule that can state where a thread stops). The draft consists of a title, the lines from line
+/// 2 to the line before the error (`place`), and `ending`.
 fn draft_up_to(
     alloc: Global,
     lines: &Lines<'_>,
@@ -24,7 +24,7 @@ fn draft_up_to(
     Ok(text)
 }
 
-/// Runs a command on a text and returns its answer. Returns `None` if the command fails.
+/// Runs a command on a text and returns the command's output. Returns `None` if the command fails.
 fn answer_on<T: Tool>(alloc: Global, tool: &T, text: &[u8]) -> Option<Vec<u8>> {
     match answer_text(alloc, tool, text) {
         Ok(answer) => Some(answer.text),
@@ -32,9 +32,8 @@ fn answer_on<T: Tool>(alloc: Global, tool: &T, text: &[u8]) -> Option<Vec<u8>> {
     }
 }
 
-/// Expands the lines before the error, followed by `ending`, to a schedule. `ending` can contain lines that only a
-/// draft (a schedule that can state where a thread stops) can have. Returns `None` if a line cannot be expanded, for
-/// example because its thread waits for a lock or has no pending call.
+/// Expands the lines before the error, followed by `ending`, to a schedule. Returns `None` if a line cannot be
+/// expanded, for example because its thread waits for a lock or has no pending call.
 fn schedule_up_to(
     alloc: Global,
     lines: &Lines<'_>,
@@ -45,8 +44,9 @@ fn schedule_up_to(
     Ok(answer_on(alloc, &Expand {}, &draft))
 }
 
-/// Returns how many more steps the thread's pending call needs until it ends. Returns `None` if the thread has no
-/// pending call, or if the call does not end within 10,000 steps of the thread alone.
+/// Runs the lines before the error, and returns how many further steps end the pending call of the thread that the
+/// wrong line names. Returns `None` if the thread has no pending call, or if the call does not end within 10,000 steps
+/// of the thread alone.
 pub(crate) fn steps_out(
     alloc: Global,
     lines: &Lines<'_>,
@@ -61,8 +61,8 @@ pub(crate) fn steps_out(
     Ok(number_at(made.line(made.count()), 2))
 }
 
-/// Returns the trace of the lines before the error, followed by up to 10,000 steps of the thread. The trace ends early
-/// if the thread's call ends. Returns `None` if the lines cannot be expanded.
+/// Returns the trace of the lines before the error, followed by up to 10,000 steps of the thread that the wrong line
+/// names; the trace ends early if the thread's call ends. Returns `None` if the lines cannot be expanded.
 fn trace_up_to(
     alloc: Global,
     lines: &Lines<'_>,
@@ -93,8 +93,8 @@ fn held_lock<'a>(trace: &Lines<'a>) -> Option<(&'a str, &'a str)> {
     }
 }
 
-/// Explains why a thread does not reach the row of the step table that a line of a draft (a schedule that can state
-/// where a thread stops) names: the thread waits for a lock, or the thread's call ends first.
+/// Explains why a thread does not reach the stop that a line of a draft names, in `go THREAD to ROW` or `go THREAD
+/// out`: the thread waits for a lock, its call ends first, or its call needs more than 10,000 steps.
 pub(crate) fn put_lock(
     alloc: Global,
     out: &mut String,
@@ -121,8 +121,8 @@ pub(crate) fn put_lock(
     }
 }
 
-/// If the thread's pending call waits for a lock, explains how the lock's holder can release the lock. Otherwise writes
-/// nothing and returns `false`.
+/// If the pending call of the thread that the wrong line names waits for a lock, explains how the lock's holder can
+/// release the lock. Otherwise writes nothing and returns `false`.
 pub(crate) fn put_waiting(
     alloc: Global,
     out: &mut String,
@@ -144,7 +144,7 @@ pub(crate) fn put_waiting(
     Ok(true)
 }
 
-/// Explains how the thread `holder` can release a lock, and how the pending call that waits for the lock can then end.
+/// Explains how the thread `holder` can release a lock, so that the pending call that waits for the lock can end.
 fn put_release(
     alloc: Global,
     out: &mut String,

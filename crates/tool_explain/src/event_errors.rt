@@ -28,7 +28,7 @@ pub(crate) fn put_event(
     }
 }
 
-/// Explains that a schedule exceeds one of its limits.
+/// Explains that a schedule has too many events or too many opening keys.
 fn put_too_many(out: &mut String, place: Place<'_>) -> Result<(), AllocError> {
     let (file, last) = (place.file, place.number.saturating_sub(1));
     writeln!(
@@ -76,8 +76,8 @@ fn put_form(out: &mut String, lines: &Lines<'_>, place: Place<'_>) -> Result<(),
     }
 }
 
-/// Explains that an event contains a wrong number, or that a schedule contains a line that only a draft (a schedule
-/// that can state where a thread stops) can have.
+/// Explains that an event contains a wrong number, that a line `go THREAD to` names no row, or that a schedule contains
+/// a line that only a draft (a schedule that can state where a thread stops) can have.
 fn put_event_number(out: &mut String, place: Place<'_>) -> Result<(), AllocError> {
     let (line, file) = (place.line, place.file);
     let is_stop = matches!(field_or_empty(line, 2), b"out" | b"to");
@@ -94,7 +94,7 @@ fn put_event_number(out: &mut String, place: Place<'_>) -> Result<(), AllocError
     }
 }
 
-/// Explains that the thread of an event does not exist.
+/// Explains that an event names a thread that the schedule does not have.
 fn put_no_thread(out: &mut String, lines: &Lines<'_>, place: Place<'_>) -> Result<(), AllocError> {
     let count = number_at(lines.line(3), 1).unwrap_or(1);
     let last = count.saturating_sub(1);
@@ -106,8 +106,8 @@ fn put_no_thread(out: &mut String, lines: &Lines<'_>, place: Place<'_>) -> Resul
     )
 }
 
-/// Among the lines before `place`, returns the number of the last line that begins a call of the thread that `place`
-/// names.
+/// Returns the number of the last line before `place` that begins a call of the thread that the line at `place` names.
+/// Returns `None` if the thread has begun no call.
 fn begun_before(lines: &Lines<'_>, place: Place<'_>) -> Option<usize> {
     let thread = number_at(place.line, 1)?;
     lines.last_before(place.number, |line| {
@@ -115,7 +115,7 @@ fn begun_before(lines: &Lines<'_>, place: Place<'_>) -> Option<usize> {
     })
 }
 
-/// Returns the thread of an event, as it is written in the event's line.
+/// Returns the thread of an event as it is written in the event's line, or `?` if it is not UTF-8.
 pub(crate) fn thread_text(line: &[u8]) -> &str {
     match str::from_utf8(field_or_empty(line, 1)) {
         Ok(text) => text,
@@ -150,7 +150,7 @@ fn put_call(
     }
 }
 
-/// Prints how to end the pending call of the thread with lines that are inserted before the wrong line.
+/// Prints how to end the thread's pending call before the wrong line, so that the thread can begin another call.
 fn put_ending(
     alloc: Global,
     out: &mut String,
@@ -175,8 +175,8 @@ fn put_ending(
     }
 }
 
-/// Explains why a thread cannot take all steps of a line: the call that begins in line `since` has already ended, or
-/// ends before the final step of the line.
+/// Explains why a thread cannot take all steps of the wrong line: the call that the thread began in line `since` has
+/// already ended, or it ends before the last of these steps.
 fn put_idle(
     alloc: Global,
     out: &mut String,

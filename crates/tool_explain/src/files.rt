@@ -4,8 +4,7 @@ use std::io::{ErrorKind, Read};
 use text_errors::quoted_name;
 use tool_base::{Answer, LONGEST, READ_SIZE, Trouble};
 
-/// Explains why a file could not be opened or read. `file` is the file's name. Returns `Trouble::Memory` if an
-/// allocation fails.
+/// Explains why the file named `file` could not be opened or read. Returns `Trouble::Memory` if an allocation fails.
 pub fn explain_unopened(alloc: Global, file: &str, kind: ErrorKind) -> Result<Answer, Trouble> {
     let quoted = quoted_name(alloc, file)?;
     let name = quoted.as_str();
@@ -38,8 +37,8 @@ pub fn explain_unopened(alloc: Global, file: &str, kind: ErrorKind) -> Result<An
     })
 }
 
-/// Explains the text of an input, as `explain_text` does, or why the input cannot be read. Stops reading soon after
-/// `LONGEST` bytes. Allocates. Blocks while reading. Returns `Trouble::Memory` if an allocation fails.
+/// Reads an input and explains its text as `explain_text` does, or explains why the input cannot be read. Stops reading
+/// soon after `LONGEST` bytes. Allocates. Blocks while reading. Returns `Trouble::Memory` if an allocation fails.
 pub fn explain_input<R: Read>(alloc: Global, file: &str, input: &mut R) -> Result<Answer, Trouble> {
     let mut text = Vec::new(alloc);
     let mut buffer = [0u8; READ_SIZE];

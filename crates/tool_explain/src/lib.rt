@@ -1,5 +1,5 @@
-//! The command `explain`, which prints the kind of a text and the first line with an error, explains the error, and
-//! states how to correct it.
+//! The command `explain`: prints the kind of a text and the first line with an error, explains the error, and states
+//! how to correct the line.
 #![tactic(auto)]
 
 mod drafts;

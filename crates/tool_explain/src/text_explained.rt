@@ -10,9 +10,9 @@ use tool_judge::judge_bytes;
 use tool_replay::{Check, Expand, Replay};
 
 /// Explains a text. Prints the kind of the text and the first line with an error. The last printed line explains the
-/// error and how to correct it. If the text has no error, the last printed line names the commands that read the text.
-/// `file` is the file's name, which is printed as it must be typed in a shell. The exit status is 0. Returns
-/// `Trouble::Memory` if an allocation fails.
+/// error and how to correct it or, if the text has no error, names the commands that read the text. `file` is the
+/// file's name, which is printed as it must be typed in a shell. The exit status is 0. Returns `Trouble::Memory` if an
+/// allocation fails.
 pub fn explain_text(alloc: Global, file: &str, text: &[u8]) -> Result<Answer, Trouble> {
     let mut out = String::new(alloc);
     let name = quoted_name(alloc, file)?;
@@ -26,7 +26,8 @@ pub fn explain_text(alloc: Global, file: &str, text: &[u8]) -> Result<Answer, Tr
     Ok(Answer { text, status: 0 })
 }
 
-/// Explains that a text is too long. Only `judge` and `stats` read texts that are too long for the other commands.
+/// Explains that a text is longer than `LONGEST` bytes, which most commands do not read. Recordings can be longer,
+/// because `judge` and `stats` read them piece by piece.
 fn put_too_long(out: &mut String, file: &str, text: &[u8]) -> Result<(), AllocError> {
     let first = match cut(text, b'\n') {
         Some((first, _)) => first,
@@ -46,8 +47,8 @@ fn put_too_long(out: &mut String, file: &str, text: &[u8]) -> Result<(), AllocEr
     put_shortening(out, file, kind)
 }
 
-/// Explains how to make a shorter text of the kind `kind` or, if no command reads the text, how to see the beginning of
-/// the text.
+/// Explains how to shorten a text of the kind `kind`. If no command reads such a text, says so, or how to see its
+/// beginning.
 fn put_shortening(out: &mut String, file: &str, kind: TextKind) -> Result<(), AllocError> {
     match kind {
         TextKind::Schedule | TextKind::Draft => writeln!(
@@ -70,7 +71,7 @@ fn put_shortening(out: &mut String, file: &str, kind: TextKind) -> Result<(), Al
     }
 }
 
-/// Explains a text whose length is within the limit.
+/// Explains a text of at most `LONGEST` bytes.
 fn put_text(alloc: Global, out: &mut String, file: &str, text: &[u8]) -> Result<(), Trouble> {
     let lines = Lines::of(alloc, text)?;
     let kind = TextKind::of(lines.line(1));
@@ -106,8 +107,8 @@ fn no_answer(alloc: Global) -> Result<Answer, Trouble> {
     Ok(Answer { text, status: 0 })
 }
 
-/// Checks the opening keys (the keys at the start) that `serve` reads. Returns the first error in the keys, or an empty
-/// answer if the keys have no error.
+/// Checks the opening keys for `serve` (the keys that the served set has at the start). Returns the first error in the
+/// keys, or an empty answer if the keys have no error.
 fn said_of_keys(alloc: Global, lines: &Lines<'_>) -> Result<Answer, Trouble> {
     match wrong_key(lines) {
         Some((number, cause)) => Err(Trouble::Line(number as u64, cause)),
@@ -115,7 +116,8 @@ fn said_of_keys(alloc: Global, lines: &Lines<'_>) -> Result<Answer, Trouble> {
     }
 }
 
-/// Prints that a text has no error, and which commands can read the text.
+/// Prints that no line of a text has an error, and which commands can read the text. If the command that read the text
+/// ended with a status other than 0, first prints line 1 of the command's output, such as `not linearizable`.
 fn put_right(
     out: &mut String,
     lines: &Lines<'_>,
@@ -158,8 +160,8 @@ fn put_refused_recording(
     )
 }
 
-/// Prints which commands can read a text that has no error. `is_refused` is true if the text is a report and `check`
-/// refuses its order.
+/// Prints what can be done with a text in which no line has an error. `is_refused` is true if the text is a report and
+/// `check` refuses its order.
 fn put_use(
     out: &mut String,
     file: &str,
