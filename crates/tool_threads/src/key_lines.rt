@@ -4,7 +4,7 @@ use lset_text::{Cause, LineFault, cut, is_above, number};
 use lset_words::MOST_OPENING;
 use std::alloc::{AllocError, Global};
 
-/// Appends a line `key K` for each key. Returns `AllocError` if an allocation fails.
+/// Appends a line `key K` for each key.
 pub(crate) fn put_keys(out: &mut String, keys: &[u32]) -> Result<(), AllocError> {
     for key in keys {
         writeln!(out, "key {key}")?;
@@ -32,7 +32,7 @@ fn piece_after<'a>(line: &'a [u8], word: &[u8]) -> Option<&'a [u8]> {
 }
 
 impl<'a> Remaining<'a> {
-    /// Skips the first line if it is `word` followed by one field.
+    /// Skips the first line if it consists of `word` and one more field. Otherwise skips nothing.
     fn without(self, word: &[u8]) -> Remaining<'a> {
         match cut(self.text, b'\n') {
             Some((first, rest)) if piece_after(first, word).is_some() => Remaining {
@@ -44,7 +44,8 @@ impl<'a> Remaining<'a> {
     }
 }
 
-/// Skips the lines that a server prints before its keys. Each line is optional.
+/// Skips the lines `listening A`, `sessions N` and `calls N`, which a server prints before its keys. Each of these
+/// lines is optional.
 fn after_head(text: &[u8]) -> Remaining<'_> {
     let whole = Remaining { line: 1, text };
     whole
@@ -53,13 +54,15 @@ fn after_head(text: &[u8]) -> Remaining<'_> {
         .without(b"calls")
 }
 
-/// Returns the key in a line `key K`.
+/// Returns the key K of a line `key K`. The error is `Line` if the line has another form, and `Number` if K is not a
+/// number from 0 to 4,294,967,295.
 fn key_of_line(line: &[u8]) -> Result<u32, Cause> {
     let piece = piece_after(line, b"key").ok_or(Cause::Line)?;
     number(piece, 0, u32::MAX).ok_or(Cause::Number)
 }
 
-/// Appends the key in a line `key K`. The key must be greater than the previous key.
+/// Appends the key of a line `key K` to `keys`. Returns an error if the line is wrong, if `keys` already has
+/// `MOST_OPENING` keys, or if the new key is not greater than the last of them.
 fn add_key(keys: &mut Vec<u32>, line: &[u8]) -> Result<(), Cause> {
     let key = key_of_line(line)?;
     if keys.len() >= MOST_OPENING as usize {
@@ -72,7 +75,7 @@ fn add_key(keys: &mut Vec<u32>, line: &[u8]) -> Result<(), Cause> {
     Ok(())
 }
 
-/// Reads the remaining lines. Each line must be `key K`.
+/// Returns the keys of the remaining lines, which must all be `key K`. The error names the first wrong line.
 fn keys_of_lines(alloc: Global, left: Remaining<'_>) -> Result<Vec<u32>, LineFault> {
     let mut keys = Vec::new(alloc);
     let mut line = left.line;

@@ -25,7 +25,7 @@ struct Counts {
 }
 
 impl Counts {
-    /// Counts a call with the reply `reply`. A reply of `ceiling` (the smallest key not less than the argument) is
+    /// Counts a call with the given reply. A reply of `ceiling` (the smallest key not less than the argument) is
     /// counted as a call only.
     fn add(&mut self, reply: Reply) {
         self.calls = self.calls.wrapping_add(1);
@@ -38,9 +38,9 @@ impl Counts {
     }
 }
 
-/// Runs the programs of one round in threads, on a set of the list `M` that opens with the keys `opening`. (A program
-/// is the list of calls of one thread.) `M` must be the list that the request names. Returns the error
-/// `SystemCause::Opening` if `opening` has more than 1,048,576 keys.
+/// Runs one round: generates a program (a list of calls) for each thread, and runs the programs in threads on a new set
+/// of the list `M` that opens with the keys `opening`. Returns the error `SystemCause::Opening` if `opening` has more
+/// than 1,048,576 keys.
 fn run_round<M: Running + Send + Sync, R: Threads + Wait + Sync>(
     rt: &R,
     alloc: Global,
@@ -77,7 +77,8 @@ fn summary_text(alloc: Global, counts: Counts, keys: &[u32]) -> Result<Vec<u8>, 
     Ok(out.into_bytes())
 }
 
-/// Runs all rounds on sets of the list `M`, which must be the list that the request names. The first set opens empty.
+/// Runs all rounds and returns the output of `run`. The first set opens empty, and every later set with the final keys
+/// of the previous round; all are lists `M`.
 fn run_rounds<M: Running + Send + Sync, R: Threads + Wait + Sync>(
     rt: &R,
     alloc: Global,

@@ -87,7 +87,8 @@ fn serve_list<
 /// the server start its threads and accept connections, so the line is written even if a thread cannot be started.
 /// Allocates. Blocks until all connections have ended.
 ///
-/// A `match` selects the list, because the tasks of `lset_lists::on_list` run step tables, not sets with threads.
+/// The function matches on the kind of list itself: `lset_lists::on_list`, with which other commands select a list,
+/// runs step tables and not sets that threads share.
 pub fn serve_set<
     R: Net<Listener = TcpListener, Stream = TcpStream> + Threads + Wait + Clock + Sync,
     W: Write,
