@@ -1,6 +1,6 @@
--- The jobs that command lines ask for. A job is a command with its checked arguments. For some commands, such as `judge
--- --only` and commands that run a broken list (a list without one of its checks), nothing is proved about the output,
--- which is only tested.
+-- The job that a command line asks for: a command with its checked arguments. For some commands, such as `judge --only`
+-- and commands that run a broken list (a list without one of its checks), no job is stated here, and nothing is proved
+-- about their output.
 use Rattle.std.specs.Prelude.{Bool, true, false, List, Option, Some, None, Result, Ok, Err}
 use Rattle.clap.specs.Words.{Text}
 use Rattle.lset_command.specs.CommandLine.{Choice, OptionValues}
@@ -22,8 +22,8 @@ abbrev pub asked_replay : Option Text → Option Asked
 asked_replay None = Some (Ok (Replay None))
 asked_replay (Some name) = None
 
--- Returns the job of `judge`: to print only the verdict with `--brief`, otherwise the verdict with all details. Returns
--- `None` if `--only` is present, because nothing is proved about `judge --only`.
+-- Returns the job of `judge`: with `--brief`, to print only the verdict; otherwise, to print the verdict with all
+-- details. Returns `None` if `--only` is present, because nothing is proved about `judge --only`.
 abbrev pub asked_judge : Option Text → Bool → Option Asked
 asked_judge None true = Some (Ok Verdict)
 asked_judge None false = Some (Ok Judge)
@@ -44,7 +44,7 @@ asked_by other values options = None
 abbrev pub asked : Choice → Option Asked
 asked choice = asked_by choice.command choice.values choice.options
 
--- Holds if a command line can ask for the given job.
+-- Holds if the arguments of `gen` are in their ranges. Holds for every job of another command.
 abbrev pub IsKnown : Job → Type 0
 IsKnown (Gen random) = IsAccepted random.threads random.quota random.keys
 IsKnown job = Unit {0}

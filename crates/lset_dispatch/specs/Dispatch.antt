@@ -23,12 +23,14 @@ Ending = Option (List ℕ) → Option (List ℕ) → Option (List ℕ) → Optio
 
 -- ---- Accepted command lines
 
--- Holds if the command ends with a correct result for the bytes of the input.
+-- Holds if a command ends with a result that `Makes` allows for the bytes of the input. If the bytes are unknown
+-- (`None`), any result is allowed.
 abbrev pub EndsOnBytes : (List ℕ → Made → Type 0) → Option (List ℕ) → Ending
 EndsOnBytes Makes input output_old output_new stderr_old stderr_new status =
     Ends (λ made. IfSome input (λ bytes. Makes bytes made)) output_old output_new stderr_old stderr_new status
 
--- Holds if a job (a command with its checked arguments) ends correctly for the bytes of its input.
+-- Holds if a job (a command with its checked arguments) ends correctly for the bytes of its input. Holds for every job
+-- about which nothing is proved.
 abbrev pub JobEnds : Job → Option (List ℕ) → Ending
 JobEnds (Replay None) input output_old output_new stderr_old stderr_new status =
     EndsOnBytes Replays input output_old output_new stderr_old stderr_new status
@@ -53,7 +55,8 @@ EndsOn (Some path) job IsFile input output_old output_new stderr_old stderr_new 
     ⊎ ((bytes : Option (List ℕ)) × IsFile bytes × JobEnds job bytes output_old output_new stderr_old stderr_new status)
 
 -- Holds if the program ends correctly for the job that a command line asks for: as `EndsOn` describes or, if an
--- argument is wrong, with an error that names the wrong argument.
+-- argument is wrong, with an error that names the argument. Always holds if nothing is proved about the command
+-- (`None`).
 abbrev pub EndsAsked : Option Asked → Option Text → (Option (List ℕ) → Type 0) → Option (List ℕ) → Ending
 EndsAsked None path IsFile input output_old output_new stderr_old stderr_new status = Unit {0}
 EndsAsked (Some (Ok job)) path IsFile input output_old output_new stderr_old stderr_new status =
@@ -67,21 +70,21 @@ EndsOnInput choice IsFile input output_old output_new stderr_old stderr_new stat
 
 -- ---- Refused command lines
 
--- Holds if the user asked for the help or the version.
+-- Holds if clap's error means that the user asked for the help or the version.
 abbrev pub IsHelp : ErrorKind → Type 0
 IsHelp kind = (kind ≡ DisplayHelp) ⊎ (kind ≡ DisplayVersion)
 
--- Holds if the command line is wrong.
+-- Holds if clap's error means that the command line is wrong.
 abbrev pub IsMistake : ErrorKind → Type 0
 IsMistake kind = (kind ≢ OutOfMemory) × (kind ≢ DisplayHelp) × (kind ≢ DisplayVersion)
 
--- Holds if a result is correct for a user who asked for the help or the version: a text with status 0, or the error
--- `Memory`.
+-- Holds if a result is the error `Memory`, or if the user asked for the help or the version and the result is a text
+-- with status 0.
 abbrev pub Helps : ErrorKind → Made → Type 0
 Helps kind made = (made ≡ Err Memory) ⊎ (IsHelp kind × (text : List ℕ) × (made ≡ Ok (record { text = text; status = 0 })))
 
--- Holds if a wrong command line ends with status 2 and writes nothing to the output. clap writes a text to stderr;
--- nothing is proved about that text.
+-- Holds if the command line is wrong and the program ends with status 2, an unchanged output, and some text appended to
+-- stderr. Nothing is proved about that text, which clap writes.
 abbrev pub Refuses : ErrorKind → Ending
 Refuses kind output_old output_new stderr_old stderr_new status =
     IsMistake kind × Keeps output_old output_new × (text : List ℕ) × AppendsFront stderr_old stderr_new text × (status ≡ 2)

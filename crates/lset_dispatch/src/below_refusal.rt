@@ -1,5 +1,6 @@
-//! Appends lines to the answer `not linearizable` of `judge`: an explanation, or the advice to use a file. For an
-//! explanation, the recording must be read a second time, which is not possible with a pipe.
+//! Appends lines to the answer `not linearizable` of `judge`: an explanation of the refusal or, if the recording came
+//! from a pipe, the advice to use a file. The explanation needs a second reading of the recording, which a pipe does
+//! not allow.
 
 ghost use Rattle.std.specs.Prelude.{ℕ, List};
 ghost use Rattle.tool_base.specs.Tools.{view};
@@ -29,8 +30,8 @@ fn refused_lines(made: &Result<Answer, Trouble>) -> usize {
     }
 }
 
-/// Returns the lines that explain why a recording is refused. `used` is the number of lines of the verdict, which
-/// precedes the explanation.
+/// Reads the recording again and returns the lines that explain why it is refused, or `None` if the second reading
+/// finds no refused recording. `used` is the number of lines of the verdict, which are printed above.
 fn explanation<R: Read>(
     alloc: Global,
     input: &mut R,
@@ -42,8 +43,8 @@ fn explanation<R: Read>(
     }
 }
 
-/// Appends an explanation to the answer if the answer refuses the recording in the file at `path`. Allocates. Blocks
-/// while reading the file.
+/// If the answer refuses the recording in the file at `path`, reads the file again and appends an explanation, or a
+/// note that there is none. Returns any other answer unchanged. Allocates. Blocks while reading the file.
 pub(crate) fn explained<H: Files>(
     rt: &H,
     alloc: Global,
@@ -65,7 +66,8 @@ pub(crate) fn explained<H: Files>(
     }
 }
 
-/// If the answer refuses a recording that was read from a pipe, appends the advice to use a file.
+/// If the answer refuses a recording that was read from a pipe, appends the advice to use a file. Returns any other
+/// answer unchanged.
 pub(crate) fn pointed(made: Result<Answer, Trouble>) -> Result<Answer, Trouble>
     ensures { (bytes : List ℕ) → Judges bytes (view made) → Judges bytes (view result) }
 {

@@ -33,7 +33,7 @@ pub(crate) enum Job {
     Serve(ServeRequest),
     /// Serve a set that opens with the keys in the input.
     ServeKeys(ServeRequest),
-    /// Print all error messages.
+    /// Explain all error messages.
     Faults,
     Fault(FaultName),
     /// Explain the first error in standard input.
@@ -41,7 +41,7 @@ pub(crate) enum Job {
 }
 
 /// Returns the broken list (a list without one of its checks) that the option `--lacks` names, or `None` if the option
-/// is missing.
+/// is missing. The error is `ValueName::Lacks` if no broken list has this name.
 fn find_broken(lacks: &Option<String>) -> Result<Option<BrokenList>, ValueName> {
     match lacks {
         None => Ok(None),

@@ -6,8 +6,8 @@ use std::io::Read;
 use tool_base::{Answer, READ_SIZE, Trouble, ValueName};
 use tool_facts::{RunReader, recording_of_key};
 
-/// Returns a recording that contains only the calls on one key. If the judge refuses the key, returns only the few
-/// calls that show why. Allocates. Blocks while reading the input.
+/// Returns a recording that contains only the calls on one key or, if no order explains these calls, only the few calls
+/// that show why. Allocates. Blocks while reading the input.
 ///
 /// # Errors
 ///

@@ -22,8 +22,8 @@ use tool_replay::{
 };
 use tool_threads::{run_lives, serve_set, serve_set_of};
 
-/// Replays the schedule in the input. If `broken` names a broken list (a list without one of its checks), replays the
-/// schedule on that list.
+/// Replays the schedule in the input on the list that the schedule names or, if `broken` is not `None`, on that broken
+/// list (a list without one of its checks). Returns the exit status.
 fn replay<R: Read, W: Write, E: Write>(
     alloc: Global,
     broken: Option<BrokenList>,
@@ -40,7 +40,8 @@ fn replay<R: Read, W: Write, E: Write>(
     }
 }
 
-/// Judges the recording in the input.
+/// Judges the recording in the input and returns the exit status. If the recording is refused, the output advises the
+/// user to judge a file instead of a pipe.
 fn judge<R: Read, W: Write, E: Write>(
     alloc: Global,
     input: &mut R,
@@ -55,6 +56,7 @@ fn judge<R: Read, W: Write, E: Write>(
 }
 
 /// Judges the recording in the input and prints only the verdict, without a contradiction, advice or an explanation.
+/// Returns the exit status.
 fn judge_verdict<R: Read, W: Write, E: Write>(
     alloc: Global,
     input: &mut R,
@@ -68,8 +70,8 @@ fn judge_verdict<R: Read, W: Write, E: Write>(
     deliver(made, output, stderr)
 }
 
-/// Judges the recording in `file`, which is already open. If the recording is refused, reads the file at `path` again
-/// and prints an explanation.
+/// Judges the recording in `file`, which is already open, and returns the exit status. If the recording is refused,
+/// reads the file at `path` again and prints an explanation.
 fn judge_file<H: Files, R: Read, W: Write, E: Write>(
     rt: &H,
     alloc: Global,
