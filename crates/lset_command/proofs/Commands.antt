@@ -1,4 +1,4 @@
--- Lemmas: some settings of a clap command do not affect how a command line is parsed.
+-- Lemmas: how a command line is parsed does not depend on some settings of a clap command, such as `bin_name`, the name of its executable.
 use Rattle.std.proofs.Common.{◌≡◌, sym, subst, false, IfOk, Result, Ok, Err}
 use Rattle.std.specs.declared.alloc.AllocError.{AllocError}
 use Rattle.clap.specs.Words.{App}

@@ -54,11 +54,11 @@ app_in row = fold with_argument (new_app row.1) row.2
 abbrev pub with_command : App → TableRow → App
 with_command a row = with_subcommand a (app_in row).top
 
--- The table of the program's commands: the rows of the constant `COMMANDS` without the help texts.
+-- The rows of the constant `COMMANDS` without the help texts: each command, its name and its arguments.
 abbrev pub table : List TableRow
 table = map (λ row. (row.0, row.1.now, map (λ argument. (argument.0.now, argument.1)) row.3.now)) COMMANDS.now
 
--- The rules of the whole program, which has a version and all subcommands. The words to parse do not start with the
+-- clap's rules for the whole program, which has a version and all subcommands. The words to parse do not start with the
 -- program's name.
 abbrev pub listset : App
 listset = fold with_command (on_top (λ s. record s { no_binary_name = true; has_version = true }) (new_app (codes "listset"))) table
@@ -79,20 +79,19 @@ row_of row = (row.0, row.1.now, map argument_of row.3.now)
 
 -- ---- Commands as values of clap's type
 
--- Holds if `a` describes the clap command `c`, and no argument of `c` is global.
+-- Holds if `a` describes the clap command `c`, and no argument of `c` is also accepted by the subcommands (`global`).
 abbrev pub IsApp : clap.Command → App → Type 0
 IsApp c a = (app_of c ≡ a) × ((out-Command c).has_globals ≡ false)
 
--- Holds if `a` describes the clap command in `made`, or if `made` is a failed allocation.
+-- Holds if `made` is a clap command that `a` describes, or if an allocation failed.
 abbrev pub Makes : Result clap.Command AllocError → App → Type 0
 Makes made a = IfOk made (λ c. IsApp c a)
 
--- Holds if the command `new` is the command `old` with the argument `arg` added, or if creating a command failed.
+-- Holds if the clap command `new` is `old` with the argument `arg` added, or if an allocation failed.
 abbrev pub MakesWithArg : Result clap.Command AllocError → Arg → Result clap.Command AllocError → Type 0
 MakesWithArg old arg new = (a : App) (r : Rule) → Makes old a → rule_of arg ≡ r → arg.global ≡ false → Makes new (with_rule a r)
 
--- Holds if the third command is the first command with the second added as a subcommand, or if creating a command
--- failed.
+-- Holds if the clap command `new` is `old` with the subcommand `sub` added, or if an allocation failed.
 abbrev pub MakesWithSubcommand : Result clap.Command AllocError → Result clap.Command AllocError → Result clap.Command AllocError →
     Type 0
 MakesWithSubcommand old sub new = (a b : App) → Makes old a → Makes sub b → Makes new (with_subcommand a b.top)

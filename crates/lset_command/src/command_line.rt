@@ -33,15 +33,15 @@ pub struct Options {
     pub file: Option<String>,
     /// Whether `show` draws an SVG.
     pub svg: bool,
-    /// The first moment (number of an event in the run) that `show` draws.
+    /// The first moment that `show` draws. (A moment is the number of a step or of a call's start in the run.)
     pub from: Option<String>,
-    /// The last moment (number of an event in the run) that `show` draws.
+    /// The last moment that `show` draws. (A moment is the number of a step or of a call's start in the run.)
     pub to: Option<String>,
-    /// The maximum length of the rows that `show` draws, in characters.
+    /// The maximum width of the picture that `show` draws as text, in characters.
     pub width: Option<String>,
     /// Whether `judge` prints only the verdict, without an explanation.
     pub brief: bool,
-    /// The value of `--only`: `judge` prints only the calls on the key that the option names.
+    /// The value of `--only`: the key whose calls alone `judge` prints.
     pub only: Option<String>,
     /// Whether `trace` prints the chain of nodes.
     pub chain: bool,
@@ -70,7 +70,7 @@ impl Words {
     }
 }
 
-// Creates an argument that `clap` accepts as missing.
+// Creates an argument without a name on the command line, such as FILE. `clap` also accepts a command line without it.
 fn value<'a>(alloc: Global, name: &'a str, help: &'a str) -> Arg<'a>
     ensures rule { rule_of result ≡ new_rule name.entry.now }
     ensures local { result.global ≡ false }
@@ -88,7 +88,7 @@ fn flag<'a>(alloc: Global, name: &'a str, help: &'a str) -> Arg<'a>
         .help(help)
 }
 
-// Creates an option with one value.
+// Creates an option with one value: `--NAME VALUE`.
 fn value_option<'a>(alloc: Global, name: &'a str, value_name: &'a str, help: &'a str) -> Arg<'a>
     ensures rule { rule_of result ≡ option_rule name.entry.now }
     ensures local { result.global ≡ false }
@@ -99,8 +99,8 @@ fn value_option<'a>(alloc: Global, name: &'a str, value_name: &'a str, help: &'a
         .help(help)
 }
 
-// Adds an argument to `command` if `command` is not an error. The callers use this function instead of `?`: an early
-// return drops all arguments, and most of the proof would be about dropping them.
+// Adds `arg` to `command`, or returns the error if `command` is an error. With `?` in the callers instead, each early
+// return would drop all arguments, and most of the proof would be about dropping them.
 fn and_arg<'a>(
     command: Result<clap::Command<'a>, AllocError>,
     arg: Arg<'a>,
@@ -110,7 +110,7 @@ fn and_arg<'a>(
     command?.arg(arg)
 }
 
-// Adds a subcommand to `command` if neither of the two is an error.
+// Adds `subcommand` to `command`. If one of them is an error, returns the error.
 fn and_subcommand<'a>(
     command: Result<clap::Command<'a>, AllocError>,
     subcommand: Result<clap::Command<'a>, AllocError>,
@@ -134,7 +134,7 @@ fn arg_of<'a>(alloc: Global, row: &'a ArgumentRow, helps: Helps<'a>) -> Arg<'a>
     }
 }
 
-// Adds an argument to `command` for each row of the table, if `command` is not an error.
+// Adds an argument to `command` for each row of the table. If `command` is an error, returns the error.
 fn with_arguments<'a>(
     alloc: Global,
     command: Result<clap::Command<'a>, AllocError>,
@@ -160,7 +160,7 @@ fn with_usage<'a>(command: clap::Command<'a>, usage: Option<&'a str>) -> clap::C
     }
 }
 
-// If `name` is `faults`, replaces clap's help text.
+// Replaces clap's help text by `helps.faults` if `name` is `faults`.
 fn with_help<'a>(command: clap::Command<'a>, name: &str, helps: Helps<'a>) -> clap::Command<'a>
     ensures { (a : App) → IsApp command.entry a → IsApp result a }
 {
@@ -195,7 +195,7 @@ fn command_of<'a>(
     with_arguments(alloc, Ok(command), row.3, helps)
 }
 
-// Adds a subcommand to `program` for each row of the table, if `program` is not an error.
+// Adds a subcommand to `program` for each row of the table. If `program` is an error, returns the error.
 fn with_commands<'a>(
     alloc: Global,
     program: Result<clap::Command<'a>, AllocError>,
@@ -235,7 +235,8 @@ fn is_option(name: &str) -> bool
     )
 }
 
-// Appends the values that `clap` found for an argument, if any.
+// Appends the values that `clap` found for the argument `name`. Appends nothing if `name` is a flag or an option, or if
+// no value was found.
 fn push_values(
     alloc: Global,
     values: &mut Vec<String>,
@@ -326,7 +327,7 @@ fn no_options() -> Options
     }
 }
 
-// Returns the command named `name`, or the default command if no row of `rows` has that name.
+// Returns the command named `name`, or `Replay`, the default command, if no row of `rows` has that name.
 fn command_in(name: &str, rows: &[CommandRow]) -> Command
     ensures { result ≡ command_in name.now (map row_of rows.now) }
 {

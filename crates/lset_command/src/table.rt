@@ -1,6 +1,6 @@
-//! The table of the program's commands. The parser of the command line, the help texts, and the definition in `specs/`
-//! are derived from the table. (The rows are tuples, because a definition in `specs/` cannot read a constant of a
-//! struct that contains a reference.)
+//! The table of the program's commands. The command-line parser, the help texts and the definition in `specs/` are
+//! derived from the table. (The rows are tuples, because a definition in `specs/` cannot read a constant of a struct
+//! that contains a reference.)
 
 /// A command of the program.
 #[derive(Clone, Copy)]
