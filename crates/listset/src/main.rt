@@ -30,13 +30,13 @@ fn texts(alloc: Global, given: &[String]) -> Result<Vec<&str>, AllocError> {
     Ok(words)
 }
 
-/// Exits because an argument is not UTF-8.
+/// Prints that an argument is not UTF-8, and returns exit status 2.
 fn end_without_text(rt: &HostRuntime) -> ExitCode {
     let _whole = put(&mut rt.stderr(), NOT_UTF8);
     ExitCode::from(2)
 }
 
-/// Exits because an allocation failed while the program read its arguments.
+/// Prints that memory ran out while the program read its arguments, and returns the exit status.
 fn end_without_memory(rt: &HostRuntime) -> ExitCode {
     let (output, stderr) = (&mut io::writer(rt), &mut rt.stderr());
     ExitCode::from(deliver(Err(Trouble::Memory), output, stderr))
@@ -60,8 +60,8 @@ fn asks_for_origin(words: &[&str]) -> bool {
     words.len() == 2 && words[0] == "--version" && words[1] == "--long"
 }
 
-// Passes the runtime to other functions directly: only a runtime that is passed directly can start threads and open
-// sockets.
+// Passes `&rt` itself to other functions: a function that receives the runtime in another way cannot start threads or
+// open sockets.
 fn main(rt: HostRuntime) -> ExitCode {
     let given = match words_given(&rt) {
         Ok(given) => given,
