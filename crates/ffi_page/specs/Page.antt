@@ -16,8 +16,8 @@ abbrev pub status_of : Made → ℕ
 status_of (Ok answer) = answer.status
 status_of (Err t) = trouble.status_of t
 
--- Holds if the text is at the start of the buffer and the rest of the buffer is unchanged or, if the text does not fit,
--- the whole buffer is unchanged.
+-- Holds if the text was copied to the start of the buffer and the rest of the buffer is unchanged. If the text does not
+-- fit, holds if the whole buffer is unchanged.
 abbrev pub Handed : List ℕ → List ℕ → List ℕ → Type 0
 Handed text old new =
     ((length text ≤ length old) × (new ≡ text ++ drop (length text) old)) ⊎ ((length old < length text) × (new ≡ old))

@@ -6,7 +6,7 @@ use tool_facts::RunReader;
 use tool_judge::{judge_bytes, with_count};
 use tool_why::{Diagnosis, Explained, diagnose, diagnosis_record, explain};
 
-/// Returns an empty answer.
+/// Returns an empty answer with status 0.
 fn nothing(alloc: Global) -> Answer {
     Answer {
         text: Vec::new(alloc),
@@ -14,8 +14,8 @@ fn nothing(alloc: Global) -> Answer {
     }
 }
 
-/// Returns the diagnosis of recorded calls. Returns `None` if a line has the wrong form, or if some order explains the
-/// calls. Does not check any other rule for recordings.
+/// Returns the diagnosis of recorded calls, or `None` if a line has the wrong form or if some order explains the calls.
+/// Does not check the other rules for recordings, for example that keys increase.
 fn diagnosis_of(alloc: Global, text: &[u8]) -> Result<Option<Diagnosis>, AllocError> {
     let mut reader = RunReader::new(alloc);
     reader.feed(text)?;
@@ -26,8 +26,8 @@ fn diagnosis_of(alloc: Global, text: &[u8]) -> Result<Option<Diagnosis>, AllocEr
 }
 
 /// Returns the diagnosis of recorded calls as a record (lines with a name and values), with status 1. If a line has the
-/// wrong form, or if some order explains the calls, returns an empty answer with status 0. Does not check any other
-/// rule for recordings.
+/// wrong form, or if some order explains the calls, returns an empty answer with status 0. Does not check the other
+/// rules for recordings, for example that keys increase.
 pub fn diagnose_recording(alloc: Global, text: &[u8]) -> Result<Answer, Trouble> {
     match diagnosis_of(alloc, text)? {
         Some(diagnosis) => Ok(Answer {
@@ -38,8 +38,8 @@ pub fn diagnose_recording(alloc: Global, text: &[u8]) -> Result<Answer, Trouble>
     }
 }
 
-/// Returns the lines that `judge FILE` prints below a verdict, with status 1. `used` is the number of lines of the
-/// verdict.
+/// Returns the lines that `judge FILE` prints below a verdict of `used` lines, with status 1. If `input` cannot be
+/// explained, returns an empty answer with status 0.
 fn explain_below<R: Read>(alloc: Global, input: &mut R, used: usize) -> Result<Answer, Trouble> {
     match explain(alloc, input, used)? {
         Some(Explained { count, text }) => Ok(Answer {
@@ -76,7 +76,8 @@ pub fn diagnose_text(alloc: Global, text: &[u8]) -> Result<Answer, Trouble> {
 
 /// Returns the lines that `judge FILE` prints below a verdict of `used` lines, with status 1. Reads the recording from
 /// the file with the descriptor `file`. If the file cannot be read, a line has the wrong form, or some order explains
-/// the calls, returns an empty answer with status 0. Does not check any other rule for recordings.
+/// the calls, returns an empty answer with status 0. Does not check the other rules for recordings, for example that
+/// keys increase.
 pub fn diagnose_file(alloc: Global, file: i32, used: usize) -> Result<Answer, Trouble> {
     let mut input = HostInput { file };
     explain_below(alloc, &mut input, used)

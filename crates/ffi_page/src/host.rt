@@ -1,7 +1,7 @@
 use libc::read;
 use std::io::{self, ErrorKind, Read};
 
-/// An open file of the host, identified by its file descriptor.
+/// An open file of the process, identified by its file descriptor.
 #[derive(Drop)]
 pub struct HostInput {
     pub file: i32,

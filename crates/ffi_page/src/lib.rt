@@ -67,7 +67,7 @@ pub extern "C" fn listset_judge(
 
 /// Judges the recording in the file with the descriptor `file` (0 is standard input), as `listset_judge` does. The
 /// recording can have any length. Reads the file in pieces to the end or to the first error, and blocks while reading.
-/// If `room` is too short, the answer is lost; 8,192 bytes are enough.
+/// If `room` is too short, the text is lost and the file must be read again from its start; 8,192 bytes are enough.
 #[unsafe(no_mangle)]
 pub extern "C" fn listset_judge_from(
     alloc: Global,

@@ -3,7 +3,8 @@ ghost use Rattle.ffi_page.specs.Page.{words_in};
 
 use std::alloc::{AllocError, Global};
 
-/// Splits bytes at zero bytes into arguments. (An argument on a command line cannot contain a zero byte.)
+/// Splits bytes at zero bytes into arguments, because an argument on a command line cannot contain a zero byte. Invalid
+/// UTF-8 is replaced by U+FFFD.
 pub fn words_in(alloc: Global, bytes: &[u8]) -> Result<Vec<String>, AllocError>
     ensures { IfOk result (λ words. map string_bytes words.items ≡ words_in bytes.now) }
 {

@@ -6,7 +6,8 @@ use tool_judge::ShowJudged;
 use tool_replay::{ReplayBroken, Trace, print_example, read_example_request};
 use tool_show::{Show, read_show};
 
-/// Reads the three options of `show` from `words`, beginning at index `first`. The error names the first wrong option.
+/// Reads the three options of `show` (first moment, last moment and width) from `words`, beginning at index `first`.
+/// The error names the first wrong option.
 fn show_by(svg: bool, words: &[String], first: usize) -> Result<Show, ValueName> {
     let from = option_at(words, first);
     let to = option_at(words, first.saturating_add(1));
@@ -14,8 +15,9 @@ fn show_by(svg: bool, words: &[String], first: usize) -> Result<Show, ValueName>
     read_show(svg, from, to, width)
 }
 
-/// Draws a schedule or a report as text or, if `svg` is true, as an SVG. The options limit the moments (positions in
-/// the history) to draw, and the width. Returns the errors of `ShowJudged`, and `Bad` if an option is wrong.
+/// Draws a schedule or a report as text or, if `svg` is true, as an SVG. The options are the first and the last moment
+/// to draw (numbers of events in the run), and the width. Returns the errors of `ShowJudged`, and `Bad` if an option is
+/// wrong.
 pub fn draw_text(alloc: Global, text: &[u8], svg: bool, options: &[u8]) -> Result<Answer, Trouble> {
     let words = words_in(alloc, options)?;
     let show = show_by(svg, &words, 0)?;
@@ -23,7 +25,8 @@ pub fn draw_text(alloc: Global, text: &[u8], svg: bool, options: &[u8]) -> Resul
 }
 
 /// Runs a command on a schedule and a broken list (a list without one of its checks). The first of `words` is the
-/// command. The remaining words are options that limit the moments (positions in the history) to draw, and the width.
+/// command; `show` and `show_svg` then take the options of `draw_text`. The error is `Bad` if the command, the list's
+/// name or an option is wrong.
 pub fn run_broken(
     alloc: Global,
     name: &[u8],
@@ -56,7 +59,8 @@ fn trace(alloc: Global, broken: BrokenList, text: &[u8], chains: bool) -> Result
     answer_text(alloc, &Trace { chains, lacks }, text)
 }
 
-/// Returns the answer of the command `example`.
+/// Returns the output of the command `example`: the list of examples if `name` is `None`, otherwise the example's
+/// schedule or, if `broken` is true, its report of a broken list (a list without one of its checks).
 pub fn example_by(alloc: Global, name: Option<&[u8]>, broken: bool) -> Result<Answer, Trouble> {
     let request = read_example_request(name, broken)?;
     print_example(alloc, request)

@@ -1,4 +1,4 @@
-//! Writes verdicts as records. Each line of a record consists of a name and values.
+//! Writes verdicts as records for a program to read. Each line of a record consists of a name and values.
 
 use lset_judge::{Clash, Refusal, StreamCall, Verdict};
 use lset_picture::{Refusal as OrderRefusal, picture_of_report};
@@ -10,7 +10,8 @@ use std::alloc::{AllocError, Global};
 use tool_base::{Answer, Input, Trouble};
 use tool_judge::{Claim, claim_on, put_call};
 
-/// Writes the line of one call of a contradiction. Writes nothing if `made` is `None`.
+/// Writes the line of one of the two calls that contradict each other; `side` is `first` or `second`. Writes nothing if
+/// `made` is `None`: the key's state at the start or at the end then takes the place of the call.
 fn put_side(out: &mut String, side: &str, made: Option<StreamCall>) -> Result<(), AllocError> {
     let Some(call) = made else {
         return Ok(());
@@ -19,8 +20,8 @@ fn put_side(out: &mut String, side: &str, made: Option<StreamCall>) -> Result<()
     put_call(out, call)
 }
 
-/// Writes the lines of a contradiction: whether the first call (or the key's opening state) leaves the key present, and
-/// the two calls.
+/// Writes the lines of a contradiction between two calls: whether the first call (or, without one, the key's state at
+/// the start) leaves the key present, and the two calls.
 fn put_clash(out: &mut String, clash: Clash) -> Result<(), AllocError> {
     let was = clash.was == Presence::Present;
     writeln!(out, "clash {was}")?;
@@ -28,8 +29,8 @@ fn put_clash(out: &mut String, clash: Clash) -> Result<(), AllocError> {
     put_side(out, "second", clash.second)
 }
 
-/// Writes the lines of a verdict that no order explains the calls: the key; the moment (a time in the recording) up to
-/// which no order exists, if the refusal has one; and the contradiction, if one was found.
+/// Writes the lines of the verdict that no order explains the calls: the key; the moment by which the calls on the key
+/// already have no order, if `refusal` has one; and the contradiction, if one was found.
 fn put_none(out: &mut String, refusal: Refusal, clash: Option<Clash>) -> Result<(), AllocError> {
     let key = refusal.key.0;
     writeln!(out, "verdict none\nkey {key}")?;
@@ -42,7 +43,7 @@ fn put_none(out: &mut String, refusal: Refusal, clash: Option<Clash>) -> Result<
     }
 }
 
-/// Writes the keys of a set.
+/// Writes the line `set K ..` with the keys of a set.
 fn put_set(out: &mut String, keys: &[u32]) -> Result<(), AllocError> {
     out.push_str("set")?;
     for key in keys {
@@ -51,7 +52,8 @@ fn put_set(out: &mut String, keys: &[u32]) -> Result<(), AllocError> {
     out.push_str("\n")
 }
 
-/// Writes the first error of an order and, for `SetReply` and `WrongSet`, the keys of the set at the error.
+/// Writes the first error of a report's order. For `SetReply` and `WrongSet`, also writes the keys of the set at that
+/// point of the order.
 fn put_order(out: &mut String, refusal: &OrderRefusal) -> Result<(), AllocError> {
     match refusal {
         OrderRefusal::Unknown { call, .. } => writeln!(out, "order Unknown {call}"),
@@ -85,7 +87,7 @@ fn put_order(out: &mut String, refusal: &OrderRefusal) -> Result<(), AllocError>
     }
 }
 
-/// Writes whether some order other than the one in the report explains the calls.
+/// Writes whether some order other than the one in the report explains the report's calls.
 fn put_claim(out: &mut String, claim: Claim) -> Result<(), AllocError> {
     match claim {
         Claim::NotIncreasing => out.push_str("verdict none\n"),
