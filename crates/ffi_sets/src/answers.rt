@@ -1,5 +1,5 @@
-//! Makes calls for C from seats (one thread's access to the set), and converts replies and errors to the numbers that C
-//! functions return.
+//! Makes calls for C, and converts replies and errors to the numbers that C functions return. Each call is made from a
+//! seat (one thread's access to the set).
 ghost use Rattle.std.specs.Prelude.{◌≡◌, true, false};
 ghost use Rattle.ffi_sets.specs.Calls.{HasMade, code_of};
 

@@ -1,5 +1,4 @@
-//! The numbers that the C functions return. `listset.h` has constants for them. A seat is one thread's access to the
-//! set. A receipt contains the events that a seat has seen.
+//! The numbers that the C functions return. `listset.h` has constants for them.
 
 /// The function succeeded.
 pub const DONE: u8 = 0;
@@ -19,20 +18,21 @@ pub const OUT_OF_MEMORY: u8 = 13;
 /// No kind of list has the given number.
 pub const BAD_KIND: u8 = 14;
 
-/// A `CSeat` (a handle that C code keeps) that must be empty is not empty.
+/// The handle (`CSeat`) in which a function should store its result is not empty.
 pub const IS_SEAT: u8 = 15;
 
-/// The set cannot be closed: some of its seats (one for each thread) were split off and not merged back.
+/// The set cannot be closed: some of its seats (one for each thread) are not in the given handle, because they were
+/// split off and not merged back.
 pub const SEATS_OUT: u8 = 16;
 
 /// No seat can be split off the given seat (one thread's access to the set).
 pub const NO_MORE: u8 = 17;
 
-/// The arguments are neither two seats nor a seat and a receipt, or their lists or numbers differ. (A receipt contains
-/// the events that a seat, one thread's access to the set, has seen.)
+/// The arguments are neither two seats nor a seat and a receipt, or they belong to different kinds of list or to sets
+/// with different numbers. (A receipt contains the events that a seat, one thread's access to the set, has seen.)
 pub const NO_GATHER: u8 = 18;
 
-/// On a coarse, fine or optimistic list, a `contains` can block.
+/// No call was made, because `contains` on a coarse, fine or optimistic list can block.
 pub const MAY_BLOCK: u8 = 254;
 
 /// The given `CSeat` (a handle that C code keeps) owns no seat (one thread's access to the set).

@@ -12,8 +12,9 @@ use lset_live::OpenFault;
 use lset_words::{Call, Key, Reply};
 use std::alloc::Global;
 
-/// Opens a set of the list `kind`: 0 coarse, 1 fine, 2 optimistic, 3 lazy, 4 lock-free. Returns `None` for any other
-/// number. Returns an error if the other arguments are out of range or an allocation fails. Allocates.
+/// Opens a set of the list `kind`: 0 coarse, 1 fine, 2 optimistic, 3 lazy, 4 lock-free. `number` is the number that the
+/// caller gives the set. Returns `None` if `kind` is any other number, and an error if another argument is out of range
+/// or an allocation fails. Allocates.
 pub fn open_held(
     alloc: Global,
     kind: u8,
@@ -80,8 +81,8 @@ pub fn receipt_held(held: &mut Held) -> Option<Held>
 }
 
 /// Passes the receipt `given` (the events that a seat has seen) to the seat (one thread's access to the set) in `into`.
-/// Returns `None` on success. If `into` has no seat, `given` is no receipt, or their lists or numbers differ, changes
-/// nothing and returns `given`.
+/// Returns `None` on success. If `into` has no seat, `given` is no receipt, or the two differ in the kind of list or
+/// the set's number, changes nothing and returns `given`.
 pub fn heed_held(into: &mut Held, given: Held) -> Option<Held>
     requires { Gathers into.old given }
     ensures { IfNone result (HasHeededHeld into.old given into.new) }
@@ -137,7 +138,8 @@ pub fn split_held(held: &mut Held, alloc: Global) -> Result<Held, u8> {
 }
 
 /// Merges the seat (one thread's access to the set) in `from` into the seat in `into`. Returns `None` on success. If
-/// `into` or `from` has no seat, or their lists or numbers differ, changes nothing and returns `from`.
+/// `into` or `from` has no seat, or the two differ in the kind of list or the set's number, changes nothing and returns
+/// `from`.
 pub fn gather_held(alloc: Global, into: &mut Held, from: Held) -> Option<Held>
     requires { Gathers into.old from }
 {
@@ -154,8 +156,8 @@ pub fn gather_held(alloc: Global, into: &mut Held, from: Held) -> Option<Held>
 }
 
 /// Closes the set in `held` and returns the set's final keys. On an error, returns `held`, unchanged, and the number of
-/// the error: `NO_SEAT` if `held` has no seat (one thread's access to the set), `SEATS_OUT` if some seats were split
-/// off and not merged back, `OUT_OF_MEMORY` if an allocation failed.
+/// the error: `NO_SEAT` if `held` has no seat (one thread's access to the set), `SEATS_OUT` if `held` does not contain
+/// all seats of the set, `OUT_OF_MEMORY` if an allocation failed.
 pub fn close_held(alloc: Global, held: Held) -> Result<Vec<u32>, (Held, u8)> {
     match held {
         Held::Coarse(of) => match of.close(alloc) {

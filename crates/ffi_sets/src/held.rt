@@ -26,7 +26,7 @@ pub struct SeatOfSet<M: Bounded> {
     ghost spare_of: { AreOf (arc_value set) spare.items } by { spare_of_prop spare.items (arc_value set) },
 }
 
-/// A receipt for the events that a seat (one thread's access to the set) has seen, with the number that the caller gave
+/// A receipt (the events that a seat, one thread's access to the set, has seen), with the number that the caller gave
 /// the set.
 #[derive(Drop)]
 pub struct ReceiptOfSet<M: Machine> {

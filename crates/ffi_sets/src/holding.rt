@@ -18,7 +18,8 @@ use std::alloc::Global;
 use std::mem::replace;
 use std::sync::Arc;
 
-/// Opens a set and returns a seat (one thread's access to the set). All other seats can be split off the returned seat.
+/// Opens a set and returns one of its seats (a seat is one thread's access to the set). All other seats can be split
+/// off the returned seat. `number` is the number that the caller gives the set.
 pub fn open_of<M: Bounded>(
     alloc: Global,
     seats: u32,
@@ -200,9 +201,9 @@ impl<M: Bounded> SeatOfSet<M> {
     }
 
     /// Closes the set and returns its final keys. On an error, returns `self` and the number of the error: `SEATS_OUT`
-    /// if some seats of the set (one for each thread) were split off and not merged back, `OUT_OF_MEMORY` if no vector
-    /// for the set's maximum number of keys can be allocated. `OUT_OF_MEMORY` is also returned if the set has another
-    /// owner, which happens in no run.
+    /// if `self` does not contain all seats of the set (one for each thread), `OUT_OF_MEMORY` if no vector for the
+    /// set's maximum number of keys can be allocated. (`OUT_OF_MEMORY` would also be returned if another handle shared
+    /// the set, which cannot happen when all seats are in `self`.)
     pub fn close(self, alloc: Global) -> Result<Vec<u32>, (SeatOfSet<M>, u8)> {
         if !self.has_all() {
             return Err((self, SEATS_OUT));

@@ -44,8 +44,8 @@ use std::mem::replace;
 /// Opens a set of the list `kind`: 0 coarse, 1 fine, 2 optimistic, 3 lazy, 4 lock-free. The set has 1 to 64 `seats`
 /// (one for each thread), a `quota` of 0 to 16,384 successful adds for each seat, and at most 1,048,576 opening `keys`
 /// in strictly increasing order. Stores one seat in the handle `out`, which must be empty. All other seats can be split
-/// off the stored seat. No other open set may have the same `number`, because `gather_seats` uses it to compare the
-/// sets of two seats.
+/// off the stored seat. No other open set may have the same `number`, because `gather_seats` and `take_receipt` compare
+/// sets by their numbers.
 ///
 /// Returns `DONE`. On an error, changes nothing and returns the error: `IS_SEAT` if `out` is not empty, `BAD_KIND`,
 /// `BAD_SEATS`, `BAD_QUOTA`, `BAD_KEYS`, or `OUT_OF_MEMORY` if an allocation failed. Does not block.
@@ -276,7 +276,7 @@ pub fn gather_seats(alloc: Global, into: &mut CSeat, from: &mut CSeat) -> u8
 /// off, or were merged back. Afterwards, the handle owns a closed set with the final keys.
 ///
 /// Returns `DONE`. On an error, changes nothing and returns the first error that applies: `NO_SEAT` if the handle
-/// `seat` owns no seat, `SEATS_OUT` if some seats were split off and not merged back, `OUT_OF_MEMORY` if an allocation
+/// `seat` owns no seat, `SEATS_OUT` if it does not contain all seats of the set, `OUT_OF_MEMORY` if an allocation
 /// failed. Does not block.
 pub fn close_set(alloc: Global, seat: &mut CSeat) -> u8 {
     let Some(mut held) = take(alloc, seat) else {
