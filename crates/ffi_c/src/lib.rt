@@ -19,8 +19,8 @@ use std::alloc::Global;
 /// Opens a set of the list `kind`: 0 coarse, 1 fine, 2 optimistic, 3 lazy, 4 lock-free. The set has 1 to 64 `seats`
 /// (one for each thread), a `quota` of 0 to 16,384 successful adds for each seat, and at most 1,048,576 opening `keys`
 /// in strictly increasing order. Stores one seat in the handle `out`, which must be empty. All other seats can be split
-/// off the stored seat. No other open set may have the number `number`, because `listset_gather` uses the number to
-/// compare the sets of two seats.
+/// off the stored seat. No other open set may have the number `number`, because `listset_gather` and `listset_after`
+/// compare sets by their numbers.
 ///
 /// Returns `DONE`. On an error, changes nothing and returns the error: `IS_SEAT` if `out` is not empty, `BAD_KIND`,
 /// `BAD_SEATS`, `BAD_QUOTA`, `BAD_KEYS`, or `OUT_OF_MEMORY` if an allocation failed. Does not block.
@@ -48,9 +48,9 @@ pub extern "C" fn listset_split(alloc: Global, seat: &mut CSeat, out: &mut CSeat
     ffi_sets::split_seat(alloc, seat, out)
 }
 
-/// Adds `key` to the set. Returns 1 if the key was absent, 0 if it was present, and 2 if it is absent but the seat has
-/// used up its quota of adds. Returns 255 if the handle `seat` owns no seat (one thread's access to a set). Blocks
-/// while another thread holds a lock that the call needs. Does not allocate.
+/// Adds `key` to the set. Returns 1 if the key was absent and has been added, 0 if it was present, and 2 if it was
+/// absent but the seat has used up its quota of adds. Returns 255 if the handle `seat` owns no seat (one thread's
+/// access to a set). Blocks while another thread holds a lock that the call needs. Does not allocate.
 #[unsafe(no_mangle)]
 pub extern "C" fn listset_add(alloc: Global, seat: &mut CSeat, key: u32) -> u8
     ensures { HasMade seat.old.full seat.old.held (Add (record { 0 = key })) result seat.new.full seat.new.held }
@@ -130,7 +130,7 @@ pub extern "C" fn listset_receipt_of(alloc: Global, seat: &mut CSeat, out: &mut 
 /// belong to the same set.
 ///
 /// Returns `DONE`. On an error, changes nothing and returns `NO_SEAT` if `seat` or `given` is empty, or `NO_GATHER` if
-/// `seat` and `given` differ in the kind of list or in the set number. Does not block or allocate.
+/// they are not a seat and a receipt with the same kind of list and the same set number. Does not block or allocate.
 #[unsafe(no_mangle)]
 pub extern "C" fn listset_after(alloc: Global, seat: &mut CSeat, given: &mut CSeat) -> u8
     requires { GathersAt seat.old.full seat.old.held given.old.full given.old.held }
@@ -151,7 +151,7 @@ pub extern "C" fn listset_seats_within(alloc: Global, seat: &mut CSeat, all: &mu
 /// to the same set.
 ///
 /// Returns `DONE`. On an error, changes nothing and returns `NO_SEAT` if `into` or `from` is empty, or `NO_GATHER` if
-/// `into` and `from` differ in the kind of list or in the set number. Does not block or allocate.
+/// they are not two seats with the same kind of list and the same set number. Does not block or allocate.
 #[unsafe(no_mangle)]
 pub extern "C" fn listset_gather(alloc: Global, into: &mut CSeat, from: &mut CSeat) -> u8
     requires { GathersAt into.old.full into.old.held from.old.full from.old.held }
@@ -163,7 +163,7 @@ pub extern "C" fn listset_gather(alloc: Global, into: &mut CSeat, from: &mut CSe
 /// back. Afterwards, the handle owns a closed set with the final keys.
 ///
 /// Returns `DONE`. On an error, changes nothing and returns the first error that applies: `NO_SEAT` if the handle
-/// `seat` owns no seat, `SEATS_OUT` if some seats were split off and not merged back, `OUT_OF_MEMORY` if an allocation
+/// `seat` owns no seat, `SEATS_OUT` if it does not contain all seats of the set, `OUT_OF_MEMORY` if an allocation
 /// failed. Does not block.
 #[unsafe(no_mangle)]
 pub extern "C" fn listset_close(alloc: Global, seat: &mut CSeat) -> u8 {
