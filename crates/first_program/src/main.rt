@@ -79,8 +79,8 @@ fn two_lives<R: Threads + Wait + Sync>(rt: &R, alloc: Global) -> Result<(Outcome
     Ok((left, again))
 }
 
-/// Adds a key through a seat (per-thread handle to the set). Returns the seat and a receipt. The receipt contains the
-/// events that the seat has seen, including the seat's own `add`.
+/// Adds a key through a seat (a thread's handle to the set). Returns the seat, and a receipt that contains the events
+/// that the seat has seen, including the seat's own `add`.
 fn add_and_tell<M: Running, R: Wait>(
     rt: &R,
     set: &LiveSet<M>,
@@ -136,7 +136,7 @@ fn replay_text(alloc: Global, text: &str) -> Result<Report>
 fn main(rt: HostRuntime) -> Result<()> {
     let alloc = rt.alloc();
     one_thread(&rt, alloc)?;
-    // `main` passes `rt` to the functions directly: only functions that receive `rt` directly can start threads.
+    // `main` passes `&rt` itself: a function that receives the runtime in another way cannot start threads.
     let (left, again) = two_lives(&rt, alloc)?;
     println!(rt;
         "the replies {:?} leave the keys {:?}",
