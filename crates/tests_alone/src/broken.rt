@@ -7,7 +7,7 @@ use lset_replay::{Steps, calls_of};
 use lset_schedule::read_schedule;
 use lset_text::{call_word, kind_word};
 
-/// The maximum number of runs on each list. At least one run must be refused.
+/// The maximum number of runs on each broken list. At least one of them must be refused.
 const RUNS: u64 = 2_000;
 
 const EVENTS: u32 = 120;
@@ -52,8 +52,8 @@ fn drawn_schedule(alloc: Global, broken: BrokenList, seed: u64) -> Result<String
     Ok(text)
 }
 
-/// Runs a random schedule on a broken list (a list without one of its checks). Returns `true` if the order of the run
-/// is refused.
+/// Runs a random schedule on a broken list (a list without one of its checks). Returns `true` if all events could be
+/// executed and `check_order` refuses the order of the run.
 fn is_run_refused(alloc: Global, broken: BrokenList, seed: u64) -> Result<bool, Fail> {
     let text = drawn_schedule(alloc, broken, seed)?;
     let schedule = read_schedule(alloc, text.as_bytes())?;

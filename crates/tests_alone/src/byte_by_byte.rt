@@ -7,7 +7,7 @@ use tool_base::{Answer, deliver};
 use tool_judge::judge_input;
 use tool_replay::tool_check;
 
-/// The number of calls in an input. The calls do not overlap.
+/// The number of calls in a recording or a report. The calls do not overlap.
 const CALLS: u32 = 4_000;
 
 /// A reader that returns its text one byte at a time.
@@ -57,7 +57,7 @@ fn a_recording_comes_byte_by_byte(rt: HostRuntime) -> Result<(), Fail> {
     }
 }
 
-/// The order of the report is empty, so `check` refuses the order: call 0 is missing.
+/// The report's order is empty, so `check` must refuse it: call 0 is missing.
 #[test]
 fn a_report_comes_byte_by_byte(rt: HostRuntime) -> Result<(), Fail> {
     let alloc = rt.alloc();

@@ -1,5 +1,5 @@
-//! Tests of contradictions found by counting: some calls require that a key changes back more often than other calls
-//! could have changed it.
+//! Tests of contradictions found by counting. The replies to some calls require that a key is added (or removed) more
+//! often than there are calls that could have added (or removed) it.
 
 use crate::prelude::*;
 use crate::test_histories::{FIVE, reply_of};
@@ -96,7 +96,7 @@ fn any_call(random: &mut Pcg32, thread: u32, one: u64, other: u64) -> StreamCall
     }
 }
 
-/// Returns a few random calls on key 5, ordered by start. The moments (times) of the calls are counted from 1.
+/// Returns two to eight random calls on key 5, ordered by start. The moments (times) of the calls are counted from 1.
 fn any_calls(alloc: Global, random: &mut Pcg32) -> Result<Vec<StreamCall>, AllocError> {
     let count = 2 + random.next_u32() % 7;
     let mut moments: Vec<u64> = Vec::new(alloc);
@@ -135,8 +135,8 @@ fn is_explained(
     Ok(matches!(judge.close(keys_of(left))?, Verdict::Linearizable))
 }
 
-/// Returns `true` if all calls in `count` are among `calls` and prove a contradiction: fewer calls can change the key
-/// back than are needed.
+/// Returns `true` if all calls in `count` are among `calls`, and if `count` proves a contradiction: the key must change
+/// back more often than there are calls that can change it back.
 fn names_enough(calls: &[StreamCall], count: &Count) -> bool {
     count.calls.iter().all(|call| calls.contains(call))
         && count.backs.iter().all(|call| calls.contains(call))

@@ -114,9 +114,8 @@ impl Writer {
         }
     }
 
-    /// Returns `true` if the writer received a prefix of the text, with at least one byte in every call before the
-    /// failing call, and was not called again. No flush may precede the failure. The final write of a piece of text can
-    /// have fewer bytes than the writer accepts.
+    /// Returns `true` if no call followed the failed call, and if each call before it wrote at least one byte of
+    /// `text`, in order. (A flush before the failed call would be a call without a byte.)
     pub fn stopped_within(&self, text: &[u8]) -> bool {
         let calls = self.plan.fails_at;
         let bytes = self.taken.len();

@@ -10,7 +10,7 @@ use lset_text::cut;
 use tool_replay::tool_gen;
 use tool_threads::tool_run;
 
-/// The arguments of a run of the program, and its input.
+/// The arguments of a run of the program, and its standard input.
 type Row = (&'static [&'static str], &'static str);
 
 const SCHEDULE: &str =
@@ -46,7 +46,7 @@ const LOOK: &str =
 /// The output of a server that ended with the final key 7.
 const PRINTED: &str = "listening 127.0.0.1:4711\nsessions 1\ncalls 1\nkey 7\n";
 
-/// Runs of the program: first the runs that write to the output, then the runs that only write an error line.
+/// Runs of the program: first the runs that write to the output, then the runs that only write an error line to stderr.
 const ROWS: [Row; 31] = [
     (&["replay"], SCHEDULE),
     (&["check"], REPORT),
@@ -166,7 +166,7 @@ impl Device {
         }
     }
 
-    /// Returns the number of calls that a run made on the reader or writer `self`.
+    /// Returns the number of reads, or of writes and flushes, that a run made on the reader or writer `self`.
     fn calls(self, run: &Run) -> usize {
         match self {
             Device::Input => run.input.calls,
@@ -203,8 +203,8 @@ impl Device {
     }
 }
 
-/// Runs the program repeatedly. In run number n, call number n of the reader or writer fails. Stops when a run ends
-/// without a failure. Returns the number of runs with a failure.
+/// Runs the program several times: in run n (from 0), the n-th read or write of `device` fails. Stops at the first run
+/// without a failure, and returns the number of runs before it.
 fn each_call_fails<R: Host>(
     rt: &R,
     alloc: Global,
@@ -277,8 +277,8 @@ fn the_status_stays_if_a_device_and_the_line_about_it_fail(rt: HostRuntime) {
 const TRIES: &str = "listset-schedule 1\nlist coarse\nthreads 2\nquota 4\n\
     begin 0 add 5\ngo 0 1\nbegin 1 add 7\ngo 1 2000\n";
 
-/// The output accepts up to 4,096 bytes per write. After a failed write, the output must contain a prefix of the trace
-/// and must not be called again.
+/// The output accepts up to 4,096 bytes per write. After a failed write, the output must contain a prefix of the trace,
+/// and the program must not write to it again.
 #[test]
 fn a_failed_write_of_a_long_trace_leaves_a_prefix(rt: HostRuntime) -> Result<(), Fail> {
     let row: Row = (&["trace"], TRIES);

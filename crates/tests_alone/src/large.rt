@@ -121,7 +121,7 @@ fn a_fault_at_the_end_of_a_long_order_is_found(rt: HostRuntime) -> Result<(), Fa
     Ok(())
 }
 
-/// The number of keys. Each key has one call.
+/// The number of keys in the next test, which makes one call on each key.
 const MANY_KEYS: u32 = 500_000;
 
 /// Judges two histories. In the first, all keys are added, but no key is a final key. In the second, all keys are
@@ -138,7 +138,7 @@ fn the_first_of_many_wrong_keys_is_named(rt: HostRuntime) -> Result<(), Fail> {
     Ok(())
 }
 
-/// The number of threads. Each thread adds its own key, and no call ends.
+/// The number of threads in the next test. Each thread adds its own key, and no call ends.
 const MANY_PENDING: u32 = 100_000;
 
 #[test]

@@ -1,4 +1,4 @@
-//! Tests of library functions that allocate, for each size from 0 to 200. All functions must succeed and return the
+//! Tests of library functions that allocate, for each size from 0 to 200. Each function must succeed and return the
 //! correct result.
 
 use crate::prelude::*;
@@ -38,8 +38,8 @@ fn lists_open_at_each_size(rt: HostRuntime) -> Result<(), Fail> {
     Ok(())
 }
 
-/// Reads and writes a schedule, replays it, and writes and reads the report. Both texts must be unchanged, and the
-/// order must explain the run. Returns the number of calls.
+/// Reads a schedule from a text and writes it, replays it, and writes and reads the report. Both texts must stay the
+/// same, and the report's order must explain the run. Returns the number of calls.
 fn is_replayed<R: Abort>(rt: &R, alloc: Global, text: &[u8]) -> Result<usize, Fail> {
     let schedule = read_schedule(alloc, text)?;
     assert!(rt; write_schedule(alloc, &schedule)?.as_slice() == text);

@@ -1,5 +1,5 @@
-//! Tests of servers that cannot write their output. The first line of the output contains the port. The digits of the
-//! port are ignored, because the port differs between runs.
+//! Tests of servers that cannot write their output. The first line of the output contains the port, which differs
+//! between runs: the tests ignore its digits.
 use crate::failing_devices::{CANNOT_WRITE, Failure, Plan, Way, Writer, planned};
 use crate::prelude::*;
 use lset_dispatch::run_words;
@@ -14,15 +14,15 @@ const ONE_SESSION: &str = "sessions 1\ncalls 1\nkey 7\n";
 /// An upper limit for the number of writes and flushes of a server on its output.
 const MOST_CALLS: usize = 100;
 
-/// The failures to try, each with the number of bytes that one call transfers.
+/// The failures to try, each with the maximum number of bytes that one write accepts.
 const WAYS: [Way; 3] = [
     (Failure::Interrupted, 1),
     (Failure::BrokenPipe, 3),
     (Failure::Nothing, 7),
 ];
 
-/// Connects a client and sends a call and `QUIT`. The client needs no thread, because it sends both lines before the
-/// server accepts the connection.
+/// Connects a client and sends a call and `QUIT`. The client needs no thread of its own, because it sends both lines
+/// before the server accepts the connection.
 fn client<R: Host>(rt: &R, port: u16) -> io::Result<TcpStream> {
     let mut stream = TcpStream::connect(rt, ("127.0.0.1", port))?;
     stream.write_all(b"ADD 7\nQUIT\n")?;
@@ -39,7 +39,7 @@ fn port_in(text: &[u8]) -> Option<u16> {
         .ok()
 }
 
-/// The output of a server. A flush after the first line connects a client.
+/// The output of a server. When the server flushes the line with its port, a client connects to that port.
 #[derive(Drop)]
 struct Door<'r, R> {
     rt: &'r R,
@@ -64,7 +64,7 @@ impl<R: Host> Write for Door<'_, R> {
     }
 }
 
-/// Returns `true` if the client received both answers, and then the end of the connection.
+/// Returns `true` if the client received the answers to its call and to `QUIT`, and then the end of the connection.
 fn is_answered(client: Option<TcpStream>) -> bool {
     let Some(mut stream) = client else {
         return false;
@@ -152,8 +152,8 @@ fn output_fails<R: Host>(rt: &R, alloc: Global, plan: Plan) -> Result<bool, Fail
     Ok(true)
 }
 
-/// Runs servers repeatedly. In run number n, call number n of the output fails. Stops when a run ends without a
-/// failure. Returns the number of runs with a failure.
+/// Runs a server several times: in run n (from 0), the n-th write or flush of its output fails. Stops at the first run
+/// without a failure, and returns the number of runs before it.
 fn each_call_fails<R: Host>(rt: &R, alloc: Global, way: Way) -> Result<usize, Fail> {
     for fails_at in 0..MOST_CALLS {
         if !output_fails(rt, alloc, planned(way, fails_at))? {
