@@ -1,5 +1,5 @@
-//! Tests of calls with a bounded number of rounds in each loop. Each loop must need the expected number of rounds, and
-//! a call must give up at a lock that is never released.
+//! Tests of calls that may make only a bounded number of rounds in each loop. A call must need the expected number of
+//! rounds, and must give up at a lock that is never released.
 
 use crate::opened::two_seats_on;
 use crate::pauses::Count;
@@ -25,7 +25,7 @@ fn reply_of<M: Bounded, R: Abort, N: Rounds>(rt: &R, alloc: Global, call: Call) 
     Some(reply)
 }
 
-/// Asserts that the walks to the keys 25 and 30 need three rounds of a loop.
+/// Asserts that an `add` of 25 and a `remove` of 30 need three rounds to find their place in the list.
 fn has_rounds<M: Bounded, R: Abort>(rt: &R, alloc: Global) {
     for call in [Call::Add(Key(25)), Call::Remove(Key(30))] {
         assert!(rt; reply_of::<M, R, UpTo<2>>(rt, alloc, call).is_none());
@@ -42,7 +42,7 @@ fn a_call_gives_up_after_its_rounds_and_not_before(rt: HostRuntime) {
     at_each_list!(has_rounds, rt);
 }
 
-/// Asserts that `contains` walks through the whole list even with a bound of one round.
+/// Asserts that `contains` searches the whole list even with a bound of one round.
 fn walks_on<M: Bounded, R: Abort>(rt: &R, alloc: Global) {
     let (last, none) = (Call::Contains(Key(50)), Call::Contains(Key(55)));
     assert!(rt; reply_of::<M, R, UpTo<1>>(rt, alloc, last) == Some(Reply::True));

@@ -13,7 +13,7 @@ struct Seen {
 /// A text that the session reads at once, and the total length of the answers to the lines that end in the text.
 type Turn<'a> = (&'a [u8], u64);
 
-/// An input that returns one text per read. Each read checks that all lines of the earlier texts were answered.
+/// An input that returns one text per read. At each read, it checks that all lines of the earlier texts were answered.
 #[derive(Drop)]
 struct Asking<'a> {
     turns: &'a [Turn<'a>],
@@ -96,7 +96,8 @@ fn are_answered_in_both<R: Host>(rt: &R, alloc: Global, turns: &[Turn<'_>], call
     are_answered_in_time(rt, alloc, turns, calls, false);
 }
 
-/// The session reads one line, then as many lines as the buffer has bytes, then a part of a line.
+/// Three cases: each read returns one line, as many lines as the buffer has bytes, or the end of a line and the start
+/// of the next.
 #[test]
 fn answers_are_written_before_each_read(rt: HostRuntime) {
     let texts: &[Turn<'_>] = &[(b"\n", 4), (&[b'\n'; 4096], 4 * 4096), (b"\nA", 4)];

@@ -26,8 +26,8 @@ pub fn asks<R: Host + Net<Listener = TcpListener, Stream = TcpStream>>(
     is_answered(&mut stream, text, answers) && matches!(stream.read(&mut [0u8; 1]), Ok(0))
 }
 
-/// Connects, sends a line, and waits until both clients have received their answers. Then sends `QUIT`. Returns `true`
-/// if all answers arrived.
+/// Connects, sends a line, and waits until two clients, this one included, have received their answers (`met` counts
+/// them). Then sends `QUIT`. Returns `true` if all answers arrived.
 pub fn meets<R: Host + Net<Listener = TcpListener, Stream = TcpStream>>(
     rt: &R,
     port: u16,

@@ -40,8 +40,8 @@ pub fn calls<M: Running, R: Clock + Wait, P: Pause>(
     reply
 }
 
-/// A meeting of up to 64 threads. When a thread arrives for the first time, it waits for all other threads. `took` is
-/// true if a thread had to wait for a lock and then acquired the lock.
+/// A meeting of up to 64 threads: a thread that arrives for the first time waits for all other threads. `took` is true
+/// if a thread had to wait for a lock and then acquired the lock.
 #[derive(Drop)]
 pub struct Meeting<'a, R> {
     rt: &'a R,
@@ -65,8 +65,8 @@ impl<'a, R: Clock> Meeting<'a, R> {
         }
     }
 
-    /// Registers that a thread has arrived, and waits for all other threads. Returns `true` if all threads arrive, or
-    /// if `thread` has arrived before.
+    /// Registers that a thread has arrived, and waits for all other threads. Returns `false` if some thread does not
+    /// arrive in time. Returns `true` at once if `thread` has arrived before.
     pub fn come(&self, thread: u32) -> bool {
         if self.came[(thread % 64) as usize].swap(true, Ordering::SeqCst) {
             return true;

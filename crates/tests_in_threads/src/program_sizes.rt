@@ -71,7 +71,7 @@ impl Draws {
     }
 }
 
-/// A rough limit on the number of nodes that all walks of a run visit. The limit keeps runs short.
+/// A rough limit on the number of nodes that all calls of a run visit together. The limit keeps runs short.
 const MOST_PASSED: u64 = 5_000_000;
 
 impl Sizes {
@@ -85,7 +85,7 @@ impl Sizes {
         }
     }
 
-    /// Returns the number of calls of a thread. Threads make fewer calls if walks can be long.
+    /// Returns the number of calls of a thread. If the list can have many nodes, threads make fewer calls.
     fn calls_of(&self, thread: u32) -> u32 {
         let slots = u64::from(self.threads) * u64::from(self.quota);
         let added = slots.min(u64::from(self.last)).min(u64::from(self.calls));
@@ -95,7 +95,7 @@ impl Sizes {
         (calls / threads).saturating_add(u32::from(thread < calls % threads))
     }
 
-    /// Returns a key near `drawn` that belongs to the thread.
+    /// Returns a key near `drawn` that only this thread uses.
     fn own_key(&self, drawn: u32, thread: u32) -> Key {
         let others = drawn.checked_rem(self.threads).unwrap_or(0);
         let first = drawn.wrapping_sub(others);
@@ -347,7 +347,7 @@ const PAST_ALL: [(Call, Reply); 5] = [
     (Call::Ceiling(LAST), Reply::Nothing),
 ];
 
-/// Asserts that calls can walk through a set of the maximum size, in which every node has a key.
+/// Asserts that calls work on a set of the maximum size, in which every node has a key.
 fn is_filled<M: Running, R: Host>(rt: &R, alloc: Global) {
     let mut opening = Vec::new(alloc);
     for number in 0..MOST_OPENING {

@@ -1,11 +1,12 @@
-//! Tests of sessions in which a read or a write fails.
+//! Tests of sessions (a client's request lines, and the answers to them) in which a read or a write fails.
 use crate::prelude::*;
 use crate::session_devices::{FailingReader, FailingWriter};
 use crate::session_lines::{
     ANSWERS, CEILINGS, LINES, end, held, held_buffered, one_seat, was_held,
 };
 
-/// Asserts that a session ends when write number `at` fails, and that the session has made `calls` calls by then.
+/// Asserts that a session ends when write number `at` (from 1) fails, after `calls` calls, and that it has written a
+/// prefix of `answers`.
 fn write_fails<R: Host>(rt: &R, alloc: Global, lines: &[u8], answers: &[u8], at: u64, calls: u64) {
     let (set, mut seat) = one_seat(rt, alloc);
     let mut writer = FailingWriter::new(alloc, at);
@@ -16,7 +17,7 @@ fn write_fails<R: Host>(rt: &R, alloc: Global, lines: &[u8], answers: &[u8], at:
 }
 
 /// Asserts that a session ends when any of its writes fails. Each entry of `rows` states a range of writes (by the
-/// numbers of its first and final write), and the number of calls before the writes in the range.
+/// numbers of its first and final write), and how many calls the session has made when one of these writes fails.
 fn writes_fail<R: Host>(
     rt: &R,
     alloc: Global,
@@ -41,8 +42,8 @@ fn a_failed_write_ends_the_session(rt: HostRuntime) {
     writes_fail(&rt, rt.alloc(), lines, answers, &rows);
 }
 
-/// Asserts that a session ends when read number `at` fails. All lines that were read before must have been answered,
-/// even if answers are buffered.
+/// Asserts that a session ends when read number `at` (from 1) fails. All lines that were read before must have been
+/// answered, even if answers are buffered.
 fn read_fails<R: Host>(rt: &R, alloc: Global, lines: &[u8], at: u64, answers: &[u8], calls: u64) {
     let ended = end(EndReason::ReadFault, calls);
     let mut reader = FailingReader::new(lines, at);

@@ -22,7 +22,7 @@ pub fn one_seat<R: Abort>(rt: &R, alloc: Global) -> (LiveSet<LazyList>, Seat<Laz
     (set, seat)
 }
 
-/// Runs a session on a new set. Returns the answers and the end of the session.
+/// Runs a session on a new set. Returns the answers, the reason for the session's end, and the number of calls.
 pub fn held<R: Host, I: Source>(rt: &R, alloc: Global, reader: &mut I) -> (Vec<u8>, Ended) {
     let (set, mut seat) = one_seat(rt, alloc);
     let mut written = Vec::new(alloc);
@@ -30,7 +30,8 @@ pub fn held<R: Host, I: Source>(rt: &R, alloc: Global, reader: &mut I) -> (Vec<u
     (written, ended)
 }
 
-/// Runs a session with buffered answers on a new set. Returns the answers and the end of the session.
+/// Runs a session with buffered answers on a new set. Returns the answers, the reason for the session's end, and the
+/// number of calls.
 pub fn held_buffered<R: Host, I: Source + Drop>(
     rt: &R,
     alloc: Global,
@@ -56,8 +57,8 @@ pub fn was_held<R: Abort>(rt: &R, session: &(Vec<u8>, Ended), answers: &[u8], en
 /// A text with lines, the answers to the lines, the reason for the session's end, and the number of calls.
 type Row = (&'static [u8], &'static [u8], EndReason, u64);
 
-/// Asserts the answers to each text, each time on a new set. The answers must be the same if they are buffered, and if
-/// the text arrives in pieces of any size.
+/// Asserts the answers to each text, each time on a new set. The answers must be the same if the text arrives one byte
+/// at a time, and if the answers are buffered.
 fn are_answered<R: Host>(rt: &R, alloc: Global, rows: &[Row]) {
     for &(text, answers, why, calls) in rows {
         let ended = end(why, calls);
@@ -193,8 +194,8 @@ fn a_session_calls_from_a_gathered_seat(rt: HostRuntime) {
 /// The number of lines `CONTAINS 7`. The answer to each line is `FALSE`.
 const MANY: u64 = 6_000;
 
-/// Asserts that a session makes at most one write for each answer, and that a session with buffered answers makes only
-/// a few writes.
+/// Asserts that a session makes few reads and at most one write for each answer. If the answers are buffered (`waits`),
+/// the session must also make few writes.
 fn makes_few<R: Host>(rt: &R, alloc: Global, text: &[u8], waits: bool) {
     let (set, mut seat) = one_seat(rt, alloc);
     let mut reader = GenerousReader { text, reads: 0 };

@@ -1,6 +1,6 @@
 //! Tests of two calls at the same time, from two seats (per-thread handles to the set). One call stops between two of
-//! its steps until the other call has ended or waits. Each case runs twice: with the loops of the list, and with the
-//! interpreter of the list's step table.
+//! its steps until the other call has ended, or has failed three times to take a step. Each case runs twice: with the
+//! loops of the list, and with the interpreter of the list's step table.
 
 use crate::meeting::{calls, comes};
 use crate::opened::two_seats_on;
@@ -9,9 +9,8 @@ use crate::prelude::*;
 /// A step number that is never reached.
 const NEVER: u64 = u64::MAX;
 
-/// The state of a test thread: the step (counted from 0) after which the thread stops, how many steps its call has
-/// reported to the `Pause`, how many of the reported steps failed, whether the thread has stopped, and whether its call
-/// has ended.
+/// A test thread: the step (counted from 0) after which it stops, how many steps its call has reported to the `Pause`,
+/// how many of these steps failed, whether the thread has stopped, and whether its call has ended.
 #[derive(Drop)]
 struct Told {
     stops_at: u64,
@@ -261,7 +260,8 @@ fn a_ceiling_misses_a_key_added_before_its_position(rt: HostRuntime) {
 }
 
 /// Asserts that seat 0 attempts at least three times to acquire a lock that seat 1 holds. (A seat is one thread's
-/// handle to the set.) Seat 1 acquires the lock, the lock of the list or of the list's head, in step number `locks_at`.
+/// handle to the set.) Seat 1 acquires the lock of the list, or of the list's head, in step `locks_at` (counted from
+/// 0).
 fn waits_at_a_lock<M: Running + Send + Sync, R: Host>(rt: &R, alloc: Global, locks_at: u64) {
     let (set, zero, one) = two_seats_on::<M, R>(rt, alloc, &[]);
     let stopping = Stopping::new(rt, NEVER, locks_at);
@@ -279,8 +279,8 @@ fn a_call_waits_for_a_lock_that_another_seat_holds(rt: HostRuntime) {
     waits_at_a_lock::<LazyList, HostRuntime>(&rt, rt.alloc(), 2);
 }
 
-/// Waits until the call of the other seat (per-thread handle to the set) has been stopped. Then looks for the key 10
-/// with both `contains` functions, and for the smallest key above 10. Returns the replies.
+/// Waits until the call of the other seat (per-thread handle to the set) has stopped. Then looks for the key 10 with
+/// `contains_now` and `contains`, and for the smallest key above 10. Returns the replies.
 fn reads<M: RunningReads, R: Clock + Wait>(
     rt: &R,
     set: &LiveSet<M>,
@@ -316,8 +316,9 @@ fn reads_beside<M: RunningReads + Send + Sync, R: Host>(
     found
 }
 
-/// Asserts that seat 0 (per-thread handle to the set) finds the key 10 if the call of seat 1 stopped before it marked
-/// the node, and does not find the key otherwise.
+/// Asserts that seat 0 (per-thread handle to the set) finds the key 10 if the `remove` of seat 1 stops after step
+/// `before`, when it has not marked the node, and does not find the key if the `remove` stops after step `behind`, when
+/// it has marked the node.
 fn answers_beside<M: RunningReads + Send + Sync, R: Host>(
     rt: &R,
     alloc: Global,
