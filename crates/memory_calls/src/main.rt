@@ -1,13 +1,14 @@
-//! Calls library functions that allocate, and compares their results with the expected results. Prints the name of the
-//! call that returned `Memory` (or `Spawn`, if no thread could be created). The program makes that call again, and the
-//! result must be as if no allocation had failed.
+//! Calls library functions that allocate, and compares their results with the expected results. If a call returns
+//! `Memory` (or `Spawn`, if no thread could be created), makes the call again and prints the call's name at the end.
+//! All later results must be as if no allocation had failed.
 //!
 //! If the program is run by hand, no allocation fails. `tests/failed_allocations.py` makes the allocation with a fixed
 //! number fail. The program's input is the number of blocks that it allocates before its first call. With a different
 //! number in each run, a different allocation of the calls fails in each run.
 #![tactic(auto)]
 
-/// Makes a call, and repeats the call once if it returns `Memory`. Returns the result of the last attempt.
+/// Makes a call, and repeats the call once if it returns `Memory` for the first time in the run. Returns the result of
+/// the last attempt.
 macro_rules! answer {
     ($calls:ident, $name:expr, $memory:pat, $call:expr) => {{
         $calls.name = $name;
@@ -59,7 +60,7 @@ fn take_blocks(alloc: Global, count: u32) -> Result<(), AllocError> {
 
 /// Returns the two parts of the line that the program prints after all calls had the expected results. If a call
 /// returned `Memory`, the line names the call. Otherwise allocates `blocks` blocks; if one of these allocations fails,
-/// the line states that the failing allocation comes after all calls.
+/// the line states that the allocation that fails comes after all calls.
 fn told(alloc: Global, calls: &Calls, blocks: u32) -> (&'static str, &'static str) {
     match calls.refused {
         Some(name) => (name, " asked for memory"),

@@ -37,8 +37,8 @@ impl Calls {
         true
     }
 
-    /// Records the name of the next call and allocates a block. The allocation of the block, and all later allocations
-    /// up to the next announcement, count as allocations of the announced call.
+    /// Records the name of the next call and allocates a block. This allocation, and all later ones up to the next
+    /// announcement, count as allocations of the announced call.
     pub fn announce(&mut self, alloc: Global, name: &'static str) -> Result<(), AllocError> {
         self.name = name;
         if Box::new(alloc, 0).is_ok() || self.may_be_refused() {

@@ -8,7 +8,7 @@ use std::io::{self, Read, Write};
 use std::net::Shutdown;
 
 /// Opens a set and returns it with its seats (per-thread handles to the set). Makes a second attempt if the first one
-/// fails.
+/// returns `Memory`.
 fn open_seats(
     alloc: Global,
     calls: &mut Calls,
@@ -37,7 +37,7 @@ fn two_programs(alloc: Global) -> Result<Vec<Vec<Call>>, AllocError> {
 }
 
 /// Records why `work` failed. Returns the set and the seats (per-thread handles to the set) that `work` returned with
-/// its error or, if `work` returned none, a new set with its seats.
+/// its error or, if it returned none, a new set with its seats.
 fn after_refusal(
     alloc: Global,
     calls: &mut Calls,
@@ -56,7 +56,7 @@ fn after_refusal(
     }
 }
 
-/// Runs the programs again, on the set and the seats (per-thread handles to the set) that the first run returned.
+/// Runs the programs again, on the set and the seats (per-thread handles to the set) that `after_refusal` returned.
 fn work_again<R: Host>(
     rt: &R,
     alloc: Global,
@@ -106,7 +106,8 @@ fn is_served(served: &Served, stream: &mut TcpStream) -> Result<()> {
     check(served.keys.as_slice() == [3, 7].as_slice())
 }
 
-/// Serves one client. Returns an error if the server fails.
+/// Serves one client. Returns `None` on success, and the cause if the server fails. Returns an error if the client
+/// cannot connect or receives wrong answers.
 fn serve_client<R: Host + Net<Listener = TcpListener, Stream = TcpStream>>(
     rt: &R,
     alloc: Global,

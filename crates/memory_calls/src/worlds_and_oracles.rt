@@ -59,7 +59,7 @@ pub fn oracles(alloc: Global, calls: &mut Calls) -> Result<()> {
     oracle_has(alloc, &opened, calls, &KEYS)
 }
 
-/// Begins and ends a call that looks for a key in an empty set.
+/// Records a `contains` that begins and ends, and returns false because the set is empty.
 fn looks(alloc: Global, history: &mut History, calls: &mut Calls, number: u32) -> Result<()> {
     let (call, begun) = (Call::Contains(Key(number)), 2 * number + 1);
     let id = answer!(
