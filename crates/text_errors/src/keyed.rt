@@ -1,4 +1,4 @@
-//! Finds errors in the opening keys (the keys at the start) that `serve` reads.
+//! Finds errors in opening keys for `serve` (the keys that the served set has at the start).
 
 use crate::lined::{Lines, count_fields, field_or_empty, number_at};
 use lset_text::Cause;

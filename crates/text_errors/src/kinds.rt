@@ -47,7 +47,7 @@ impl TextKind {
     }
 }
 
-/// The first error of a text: the name and the kind of the file, and the line with the error.
+/// Where the first error of a text is: the name and the kind of the file, and the line with the error.
 #[derive(Clone, Copy)]
 pub struct Place<'a> {
     /// The name of the file, as typed in commands.

@@ -1,4 +1,4 @@
-//! Explains errors in recorded calls.
+//! Explains errors in the lines of a recording (a file of recorded calls for `judge`).
 
 use crate::kinds::Place;
 use crate::lined::{Lines, count_fields, field, field_or_empty, put_quoted};
@@ -21,7 +21,7 @@ pub(crate) fn is_half_pending(line: &[u8]) -> bool {
     (end == b"-".as_slice()) != (reply == b"-".as_slice())
 }
 
-/// Explains that a line is not a valid line of a recording.
+/// Explains why a line cannot be at its place in a recording.
 pub(crate) fn put_recording_form(
     out: &mut String,
     lines: &Lines<'_>,
