@@ -173,10 +173,11 @@ pub extern "C" fn listset_why_from(
 
 /// Checks a report and writes the verdict as a record. If the report's order explains its calls, the record is `verdict
 /// own`. Otherwise the status is 1 and the record consists of the following parts:
-/// - `order ERROR CALL ..`, the order's first error with details: either the reply in the order, the call's place in
-///   the order and the set's reply; or the call's start, and the number and the end of a call that had already ended at
-///   that start;
-/// - `set K ..`, only for `SetReply` and `WrongSet`;
+/// - `order ERROR CALL ..`, the order's first error with the number of a call (`WrongSet` has no call). `HistoryReply`
+///   adds the call's reply in the order; `SetReply` adds this reply, the call's place in the order, and the set's
+///   reply; `TooEarly` adds the call's start, and the number and the end of a call that comes later in the order but
+///   had already ended at that start;
+/// - `set K ..`, the set's keys at the error, only for `SetReply` and `WrongSet`;
 /// - `verdict another`, `verdict unknown` or `verdict none`, which state whether an order other than the report's
 ///   explains the calls;
 /// - after `verdict none`: `reply N` if no set returns the reply of call N, nothing if the final keys are not in
