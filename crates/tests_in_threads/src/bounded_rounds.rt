@@ -25,7 +25,8 @@ fn reply_of<M: Bounded, R: Abort, N: Rounds>(rt: &R, alloc: Global, call: Call) 
     Some(reply)
 }
 
-/// Asserts that an `add` of 25 and a `remove` of 30 need three rounds to find their place in the list.
+/// Asserts that an `add` of 25 and a `remove` of 30 need three rounds to find their place in the list, and that a
+/// `ceiling` of 25 needs more than one.
 fn has_rounds<M: Bounded, R: Abort>(rt: &R, alloc: Global) {
     for call in [Call::Add(Key(25)), Call::Remove(Key(30))] {
         assert!(rt; reply_of::<M, R, UpTo<2>>(rt, alloc, call).is_none());

@@ -10,7 +10,8 @@ struct Seen {
     in_time: Cell<bool>,
 }
 
-/// A text that the session reads at once, and the total length of the answers to the lines that end in the text.
+/// A text that the session reads at once, and the total length in bytes of the answers to the lines that end in the
+/// text.
 type Turn<'a> = (&'a [u8], u64);
 
 /// An input that returns one text per read. At each read, it checks that all lines of the earlier texts were answered.
@@ -106,7 +107,8 @@ fn answers_are_written_before_each_read(rt: HostRuntime) {
     }
 }
 
-/// Texts, each with the length of the answers to it. On a set that can add 4 keys, every kind of answer occurs.
+/// Texts, each with the length of the answers to it in bytes. On a set that can add 4 keys, the answers are of every
+/// kind that does not end the session.
 const OF_EACH_ANSWER: [Turn<'static>; 9] = [
     (b"CEILING 0\n", 5),
     (b"ADD 4294967295\n", 5),
@@ -119,7 +121,8 @@ const OF_EACH_ANSWER: [Turn<'static>; 9] = [
     (b"MOVE 7\n", 4),
 ];
 
-/// A client that waits for each answer must receive every kind of answer before it sends the next line.
+/// A client that waits for each answer must receive the answer before it sends its next line, whatever kind of answer
+/// it is.
 #[test]
 fn each_kind_of_answer_is_written_before_the_next_read(rt: HostRuntime) {
     are_answered_in_both(&rt, rt.alloc(), &OF_EACH_ANSWER, 10);

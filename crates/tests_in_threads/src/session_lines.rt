@@ -191,7 +191,7 @@ fn a_session_calls_from_a_gathered_seat(rt: HostRuntime) {
     );
 }
 
-/// The number of lines `CONTAINS 7`. The answer to each line is `FALSE`.
+/// The number of request lines `CONTAINS 7` in a long session. The answer to each line is `FALSE`.
 const MANY: u64 = 6_000;
 
 /// Asserts that a session makes few reads and at most one write for each answer. If the answers are buffered (`waits`),
