@@ -1,5 +1,5 @@
-//! Makes all calls of sets in threads, from opening a set to reading its final keys, on each of the five lists. A seat
-//! is one thread's handle to the set.
+//! Makes every kind of call on a set that threads can share, from opening the set to reading its final keys, on each of
+//! the five lists. A seat is one thread's handle to the set.
 
 use crate::prelude::*;
 use lset_coarse::CoarseList;
@@ -123,7 +123,7 @@ fn pass_receipts<M: Running>(
     Ok(())
 }
 
-/// Runs a session that reads its lines from memory. Every kind of answer except `FULL` occurs.
+/// Runs a session that reads its request lines from memory: four calls, a wrong line, and `QUIT`.
 fn answer_session<M: Running, R: Wait>(
     rt: &R,
     alloc: Global,
