@@ -14,8 +14,8 @@ const MOST_MOMENT_OF_REPORT: u64 = 4_294_967_295;
 /// The maximum number of steps in one line of a schedule.
 const MOST_STEPS: u64 = 10_000;
 
-/// The largest row number in a line `go THREAD to ROW` of a draft (a schedule that can state where a thread stops). The
-/// row is a row of the list's step table.
+/// The largest row of a list's step table that a line `go THREAD to ROW` of a draft (a schedule that can state where a
+/// thread stops) can name.
 const MOST_ROW: u64 = 255;
 
 /// A field that must be a number: its name in messages, its index in the line (counted from 0), and its range.
