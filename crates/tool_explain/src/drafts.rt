@@ -94,7 +94,7 @@ fn held_lock<'a>(trace: &Lines<'a>) -> Option<(&'a str, &'a str)> {
 }
 
 /// Explains why a thread does not reach the stop that a line of a draft names, in `go THREAD to ROW` or `go THREAD
-/// out`: the thread waits for a lock, its call ends first, or its call needs more than 10,000 steps.
+/// out`: the thread waits for a lock, the thread's call ends first, or the call needs more than 10,000 steps.
 pub(crate) fn put_lock(
     alloc: Global,
     out: &mut String,

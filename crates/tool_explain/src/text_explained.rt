@@ -47,8 +47,8 @@ fn put_too_long(out: &mut String, file: &str, text: &[u8]) -> Result<(), AllocEr
     put_shortening(out, file, kind)
 }
 
-/// Explains how to shorten a text of the kind `kind`. If no command reads such a text, says so, or how to see its
-/// beginning.
+/// Explains how to shorten a text of the kind `kind`. If no command reads a text of this kind, says that, or how to see
+/// the beginning of the text.
 fn put_shortening(out: &mut String, file: &str, kind: TextKind) -> Result<(), AllocError> {
     match kind {
         TextKind::Schedule | TextKind::Draft => writeln!(
@@ -116,8 +116,8 @@ fn said_of_keys(alloc: Global, lines: &Lines<'_>) -> Result<Answer, Trouble> {
     }
 }
 
-/// Prints that no line of a text has an error, and which commands can read the text. If the command that read the text
-/// ended with a status other than 0, first prints line 1 of the command's output, such as `not linearizable`.
+/// Prints that no line of a text has an error, and which commands can read the text. Between the two, prints line 1 of
+/// `answer`, such as `not linearizable`, if the status of `answer` is not 0.
 fn put_right(
     out: &mut String,
     lines: &Lines<'_>,
