@@ -77,8 +77,8 @@ fn summary_text(alloc: Global, counts: Counts, keys: &[u32]) -> Result<Vec<u8>, 
     Ok(out.into_bytes())
 }
 
-/// Runs all rounds and returns the output of `run`. The first set opens empty, and every later set with the final keys
-/// of the previous round; all are lists `M`.
+/// Runs all rounds on sets of the list `M`, and returns the output of `run`. The first set opens empty, and every later
+/// set with the final keys of the previous round.
 fn run_rounds<M: Running + Send + Sync, R: Threads + Wait + Sync>(
     rt: &R,
     alloc: Global,
