@@ -41,7 +41,7 @@ pub struct Options {
     pub width: Option<String>,
     /// Whether `judge` prints only the verdict, without an explanation.
     pub brief: bool,
-    /// The value of `--only`: the key whose calls alone `judge` prints.
+    /// The value of `--only`: a key. `judge` then prints only the calls on this key.
     pub only: Option<String>,
     /// Whether `trace` prints the chain of nodes.
     pub chain: bool,
@@ -70,7 +70,7 @@ impl Words {
     }
 }
 
-// Creates an argument without a name on the command line, such as FILE. `clap` also accepts a command line without it.
+// Creates an optional argument that is identified by its position, such as FILE.
 fn value<'a>(alloc: Global, name: &'a str, help: &'a str) -> Arg<'a>
     ensures rule { rule_of result ≡ new_rule name.entry.now }
     ensures local { result.global ≡ false }
