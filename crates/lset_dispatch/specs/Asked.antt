@@ -44,7 +44,7 @@ asked_by other values options = None
 abbrev pub asked : Choice → Option Asked
 asked choice = asked_by choice.command choice.values choice.options
 
--- Holds if the arguments of `gen` are in their ranges. Holds for every job of another command.
+-- Holds if the threads, the quota and the number of keys of a `gen` job are in their ranges. Holds for every other job.
 abbrev pub IsKnown : Job → Type 0
 IsKnown (Gen random) = IsAccepted random.threads random.quota random.keys
 IsKnown job = Unit {0}

@@ -31,7 +31,7 @@ fn refused_lines(made: &Result<Answer, Trouble>) -> usize {
 }
 
 /// Reads the recording again and returns the lines that explain why it is refused, or `None` if the second reading
-/// finds no refused recording. `used` is the number of lines of the verdict, which are printed above.
+/// finds no refused recording. `used` is the number of lines of the verdict above the explanation.
 fn explanation<R: Read>(
     alloc: Global,
     input: &mut R,
