@@ -13,7 +13,8 @@ fn add_of_six(thread: u32, begun: u64, ended: Option<(u64, Reply)>) -> StreamCal
     }
 }
 
-/// Calls on key 6, each with a reply that the judge accepts for no call of its kind.
+/// Calls on key 6, each with a reply that the judge does not accept for the call's operation. (The judge accepts no
+/// `ceiling`.)
 const NOT_PLAIN: [(Call, Reply); 5] = [
     (Call::Add(Key(6)), Reply::Full),
     (Call::Remove(Key(6)), Reply::Nothing),

@@ -121,7 +121,7 @@ fn a_fault_at_the_end_of_a_long_order_is_found(rt: HostRuntime) -> Result<(), Fa
     Ok(())
 }
 
-/// The number of keys in the next test, which makes one call on each key.
+/// The number of keys in the next test. Each of its histories has one call on each key.
 const MANY_KEYS: u32 = 500_000;
 
 /// Judges two histories. In the first, all keys are added, but no key is a final key. In the second, all keys are
