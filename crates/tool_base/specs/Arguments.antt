@@ -20,7 +20,7 @@ kind_at values index = option_and_then kind_of (slice_get values index)
 abbrev pub number_at : List (List ℕ) → ℕ → ℕ → ℕ → Option ℕ
 number_at values index low high = option_and_then (number_in low high) (slice_get values index)
 
--- Returns the request that the arguments in `values` state, or the first argument that is missing or wrong.
+-- Parses the arguments of the command `gen`. The error is the first argument that is missing or wrong.
 unfoldable pub random_request_of : List (List ℕ) → Result RandomRequest ValueName
 random_request_of values = do
   kind ← or_fail name.Kind (kind_at values 0)

@@ -25,8 +25,8 @@ view (Err t) = Err t
 abbrev pub Outcome : Type 0
 Outcome = Result ℕ Trouble
 
--- Holds if writing a result to an output can have the given outcome. The two lists of bytes are the contents of the
--- output before and after the write.
+-- Holds if writing the result of a command to an output can have the given outcome. The two lists of bytes, if known,
+-- are the contents of the output before and after the write.
 abbrev pub Delivers : Made → Option (List ℕ) → Option (List ℕ) → Outcome → Type 0
 -- If no write fails, the whole text of an answer is written.
 Delivers (Ok answer) old new (Ok status) = (status ≡ answer.status) × Appends old new answer.text
@@ -49,9 +49,8 @@ line_of (Err t) = trouble_text t
 abbrev pub AppendsFront : Option (List ℕ) → Option (List ℕ) → List ℕ → Type 0
 AppendsFront old new text = (front : List ℕ) × (rest : List ℕ) × (text ≡ front ++ rest) × Appends old new front
 
--- Holds if a command delivers its result to an output and to stderr. The text of an answer goes to the output. An
--- error, including a failed write to the output, is printed on stderr as one line. If a write fails, only a prefix of
--- the text has been written. The exit status is the status of the outcome.
+-- Holds if a command delivers its result with the given exit status. The text of an answer is written to the output. An
+-- error, or a failed write to the output, is printed as one line on stderr. If a write fails, only a prefix is written.
 abbrev pub IsDelivered : Made → Option (List ℕ) → Option (List ℕ) → Option (List ℕ) → Option (List ℕ) → ℕ → Type 0
 IsDelivered made output_old output_new faults_old faults_new status =
     (outcome : Outcome) × Delivers made output_old output_new outcome
@@ -80,6 +79,7 @@ OnText Makes bytes made = ((t : Trouble) × (made ≡ Err t) × IsTooLong bytes 
 abbrev pub OnInput : (List ℕ → Made → Type 0) → List ℕ → Made → Type 0
 OnInput Makes bytes made = (made ≡ Err CannotRead) ⊎ ((made ≡ Err Memory) ⊎ OnText Makes bytes made)
 
--- Holds if `read` contains all bytes of an input or, if the input is longer than `LONGEST`, more than `LONGEST` bytes.
+-- Holds if an input with the bytes `all` can be read as `read`: completely or, if the input has more than `LONGEST`
+-- bytes, with more than `LONGEST` bytes in `read`.
 abbrev pub IsReadOf : List ℕ → List ℕ → Type 0
 IsReadOf read all = (read ≡ all) ⊎ ((LONGEST < length read) × (LONGEST < length all))

@@ -11,7 +11,7 @@ use arrayvec::ArrayString;
 use itoa::Buffer;
 use std::io::Write;
 
-/// The maximum length of an error line, in bytes.
+/// The maximum length, in bytes, of the line that the program prints on stderr for an error. Includes the newline.
 pub(crate) const LONGEST_LINE: usize = 64;
 
 /// The result of a command: the text for the output, and the exit status if the text is written completely.
@@ -35,7 +35,7 @@ impl Answer {
     }
 }
 
-/// Joins four strings and a newline into one line. The line must fit into `LONGEST_LINE` bytes.
+/// Concatenates four strings and a newline. The result has at most `LONGEST_LINE` bytes.
 fn line_with(front: &str, number: &str, sign: &str, name: &str) -> ArrayString<LONGEST_LINE>
     requires { length front.now + length number.now + length sign.now + length name.now < LONGEST_LINE }
     ensures { result.bytes ≡ front.now ++ number.now ++ sign.now ++ name.now ++ codes "\n" }
@@ -72,8 +72,8 @@ pub fn line_of(trouble: Trouble) -> ArrayString<LONGEST_LINE>
 /// Finishes a command: writes the answer's text to `output`, or the one-line error message to `stderr`. Returns the
 /// exit status.
 ///
-/// If a write to `output` fails or writes no byte, it is not retried, and the error becomes `CannotWrite`. A failed
-/// write to `stderr` is not retried either, and does not change the exit status.
+/// A failed write to `output`, or a write of no bytes, is not retried; its error is `CannotWrite`. A failed write to
+/// `stderr` is not retried either, and does not change the exit status.
 pub fn deliver<W: Write, E: Write>(
     made: Result<Answer, Trouble>,
     output: &mut W,

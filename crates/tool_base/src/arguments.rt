@@ -33,7 +33,7 @@ pub struct RandomRequest {
     pub quota: u32,
     /// The number of calls, 0 to `MOST_CALLS_ASKED`.
     pub calls: u32,
-    /// The number of different keys in the calls, at least 1. The keys are the numbers from 0 to `keys - 1`.
+    /// The number of keys from which the calls choose, at least 1. The keys are the numbers from 0 to `keys - 1`.
     pub keys: u32,
     /// The random seed; any number is allowed.
     pub seed: u64,

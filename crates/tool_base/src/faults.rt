@@ -137,7 +137,7 @@ pub struct FaultName {
 /// The kinds of lines in `FAULTS` after the heading.
 #[derive(Clone, Copy, PartialEq, Eq)]
 enum FaultLine {
-    /// The title of a section, or the empty line before it.
+    /// The title of a section, or the empty line before the title.
     Title,
     /// The first line about a cause or a message. The line begins with the name of the cause or message.
     Entry,
@@ -146,7 +146,6 @@ enum FaultLine {
 }
 
 impl FaultLine {
-    /// Returns the kind of a line of `FAULTS`.
     fn of(line: &[u8]) -> FaultLine {
         match line {
             [b' ', b' ', b' ', ..] => FaultLine::More,
@@ -165,8 +164,9 @@ fn from_name(line: &[u8]) -> &[u8] {
     line.strip_prefix(b"line 1: ").unwrap_or(line)
 }
 
-/// Returns `name` as written in a line of `FAULTS`, if the line (without its prefix) starts with `name`, ignoring case.
-/// Otherwise returns `None`.
+/// Returns `name` as spelled in a line of `FAULTS`, if the line (without a prefix such as `listset: `) begins with
+/// `name`, ignoring case. Returns `None` if the line begins with other words, or if `name` is empty or ends within a
+/// word.
 fn name_of_line<'a>(line: &'a [u8], name: &[u8]) -> Option<&'a [u8]> {
     let line = from_name(line);
     let (first, rest) = (line.get(..name.len())?, line.get(name.len()..)?);
@@ -178,7 +178,8 @@ fn name_of_line<'a>(line: &'a [u8], name: &[u8]) -> Option<&'a [u8]> {
     }
 }
 
-/// Returns the name in an argument of `faults`. The argument is a cause, a message, or a whole error line.
+/// Extracts the name to look up from the argument of the command `faults`, such as `Idle` from the error line `listset:
+/// line 4: Idle`. Returns an argument that is not an error line unchanged.
 fn name_in(word: &[u8]) -> &[u8] {
     let word = word.strip_prefix(b"listset: ").unwrap_or(word);
     if word.starts_with(b"bad ") {
@@ -212,8 +213,8 @@ pub fn read_fault_name(word: &[u8]) -> Result<FaultName, ValueName> {
     Err(ValueName::Cause)
 }
 
-/// Appends a line of `FAULTS`, preceded by the title of the line's section. `title` must be empty if `out` already
-/// contains the title.
+/// Appends `line`, a line of `FAULTS`. If `title` (the title of the line's section) is not empty, appends the title
+/// before the line.
 fn put_line(out: &mut Vec<u8>, title: &[u8], line: &[u8]) -> Result<(), AllocError> {
     if !title.is_empty() {
         if !out.is_empty() {
@@ -227,8 +228,8 @@ fn put_line(out: &mut Vec<u8>, title: &[u8], line: &[u8]) -> Result<(), AllocErr
     Ok(())
 }
 
-/// Appends the lines of `FAULTS` about a name. If `name` is the title of a section, appends the whole section. From
-/// each other section, appends only the entries with that name, below the section's title.
+/// Appends the lines of `FAULTS` about `name`. If `name` is the title of a section, appends the whole section. From any
+/// other section, appends the title and the entries that begin with `name`, or nothing if there is no such entry.
 fn put_named(out: &mut Vec<u8>, name: &[u8]) -> Result<(), AllocError> {
     let (mut title, mut is_whole, mut is_told) = (b"".as_slice(), false, false);
     for line in FAULTS.lines().skip_while(|line| !line.is_empty()) {

@@ -35,8 +35,9 @@ fn answer_input<T: Tool, R: Read>(alloc: Global, tool: &T, input: &mut R) -> Res
     answer_text(alloc, tool, &bytes)
 }
 
-/// Runs a command: reads all of `input`, then writes the answer to `output`. If an error occurs, writes one line about
-/// the error to `stderr` instead, and nothing to `output`.
+/// Runs a command: reads all of `input`, then writes the answer to `output`. If an error occurs before the first write,
+/// writes one line about the error to `stderr` and nothing to `output`. If a write to `output` fails, `output` can
+/// contain a prefix of the answer, and the line is about the failed write.
 ///
 /// Returns the exit status: the answer's status, 2 if an argument or option is wrong, 3 if an allocation failed, 1 for
 /// any other error. A failed write to `stderr` does not change the exit status. Allocates. Blocks while reading and

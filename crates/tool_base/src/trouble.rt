@@ -22,7 +22,7 @@ pub enum ValueName {
     Port,
     Sessions,
     Name,
-    /// The argument NAME of `example --broken`, if the example has no report of a broken list (a list without one of
+    /// The argument NAME of `example --broken` is an example without a report of a broken list (a list without one of
     /// its checks).
     Unbroken,
     Lacks,
@@ -40,9 +40,9 @@ pub enum SystemCause {
     /// The number of programs (the calls of one thread each) differs from the number of seats, or some seats of the set
     /// are missing. (A seat is a thread's handle to the set.)
     Programs,
-    /// The gate, which decides before each call whether the call is made, refused a call.
+    /// The gate, a callback that is asked before each call, did not permit a call.
     Gate,
-    /// A round (the calls on one set) left more final keys than the set of the next round can open with.
+    /// After a round (the calls on one set), the set had more keys than a set for the next round can open with.
     Opening,
     /// Some seats of the set are missing. (A seat is a thread's handle to the set.)
     Seats,
@@ -71,11 +71,11 @@ pub enum Trouble {
     Line(u64, Cause),
     /// An argument or an option of the command line is missing or wrong.
     Bad(ValueName),
-    /// The system refused a listening socket.
+    /// The system did not let the program listen on the port.
     CannotListen,
-    /// Not all programs of `run` were completed. A program is the sequence of calls of one thread.
+    /// A thread of `run` could not start or complete its calls, or the set could not be opened.
     Work(SystemCause),
-    /// Not all sessions of `serve` were completed. A session is the connection of one client.
+    /// The command `serve` could not serve all of its connections.
     Serve(SystemCause),
 }
 
