@@ -9,10 +9,8 @@ use lset_schedule::read_schedule;
 use std::alloc::Global;
 use tool_base::{Answer, Trouble, ValueName};
 
-/// The first line of a report in version 1 of the format.
 const TITLE_ONE: &[u8] = b"listset-report 1\n";
 
-/// The first line of a report in version 2 of the format.
 const TITLE_TWO: &[u8] = b"listset-report 2\n";
 
 /// The options of the command `show`.
