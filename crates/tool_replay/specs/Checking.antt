@@ -47,7 +47,8 @@ answer_of (Some fault) = record { text = refusal_text fault; status = 1 }
 abbrev pub IsAnswerOn : ReportValue → AnswerValue → Type 0
 IsAnswerOn r answer = (verdict : Option OrderFault) × IsVerdict r verdict × (answer ≡ answer_of verdict)
 
--- Holds if `t` is the first error of the text. The argument before `t` is the result of reading the text.
+-- Holds if the first argument, the result of reading a text as a report, is an error, and `t` is the program's error
+-- for it.
 abbrev pub IsFirstFault : Result ReportValue LineFault → Trouble → Type 0
 IsFirstFault (Err fault) t = t ≡ of_line_fault fault
 IsFirstFault (Ok r) t = ⊥

@@ -17,7 +17,7 @@ out_kind = (word (codes "go") ∷ any ∷ word (codes "out") ∷ [], λ t. Out t
 abbrev pub to_kind : LineKind DraftLine
 to_kind = (word (codes "go") ∷ any ∷ word (codes "to") ∷ number 1 MOST_ROW ∷ [], λ t. To t.1.0 t.1.1.1.0)
 
--- Returns the minimum number of events to which the line can expand.
+-- Returns the smallest number of events that can result when a line of a draft is expanded into a line of a schedule.
 abbrev pub smallest_count : DraftLine → ℕ
 smallest_count (Plain line) = event_count line
 smallest_count (Out thread) = 1
@@ -26,10 +26,11 @@ smallest_count (To thread row) = 1
 abbrev pub drafts : EventLines DraftLine
 drafts = record { kinds = out_kind ∷ to_kind ∷ map (kind_as Plain) events.kinds; count = smallest_count }
 
--- Holds if a line with the fields `fields` does not state where a thread stops.
+-- Holds if a line with the fields `fields` has neither the form `go T out` nor the form `go T to ROW`. Only these two
+-- forms state where a thread stops.
 abbrev pub IsPlain : List (List ℕ) → Type 0
 IsPlain fields = (v : Version) → (have_form v out_kind.0 fields ≡ false) × (have_form v to_kind.0 fields ≡ false)
 
--- Holds if a line with the fields `fields` states where a thread stops, and `read` is the result of reading the line.
+-- Holds if `read` is the result of reading a draft's line with the fields `fields`, whatever the version of the format.
 abbrev pub Stops : List (List ℕ) → Result DraftLine Cause → Type 0
 Stops fields read = (v : Version) → first_of v Event drafts.kinds fields ≡ read

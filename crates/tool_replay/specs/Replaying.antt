@@ -31,7 +31,8 @@ of_replay (replay.Busy number) = Line number cause.Busy
 of_replay (replay.Idle number) = Line number cause.Idle
 of_replay replay.Memory = Memory
 
--- Holds if `t` is the first error of the text or, if the text is a schedule, the error of replaying that schedule.
+-- Holds if `t` is the correct error of the command `replay`. The first argument is the result of reading the input as a
+-- schedule: the input's first error, or a schedule with an event that is not enabled.
 abbrev pub IsFirstFault : Result Plan LineFault → Trouble → Type 0
 IsFirstFault (Err fault) t = t ≡ of_line_fault fault
 IsFirstFault (Ok p) t = (refusal : ReplayFault) × (t ≡ of_replay refusal) × IsRefusal (table_of p.kind) (opening_in p) (events_of p) refusal

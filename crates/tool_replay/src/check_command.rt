@@ -67,8 +67,9 @@ impl Tool for Check {
 /// Implements the command `check`: reads a report from `input`, checks its order, and writes the answer to `output`.
 /// The order must be a linearization of the report's calls (Herlihy and Wing) and leave exactly its final keys.
 ///
-/// If an error occurs, writes one line to `faults` and nothing to `output`. Returns the exit status: 0 if `ok` was
-/// written, 3 if an allocation failed, otherwise 1. Allocates. Blocks while reading and writing.
+/// If an error occurs before the first write, writes one line to `faults` and nothing to `output`. If a write to
+/// `output` fails, `output` can contain a prefix of the answer. Returns the exit status: 0 if `ok` was written, 3 if an
+/// allocation failed, otherwise 1. Allocates. Blocks while reading and writing.
 pub fn tool_check<R: Read, W: Write, F: Write>(
     alloc: Global,
     input: &mut R,

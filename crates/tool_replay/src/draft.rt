@@ -1,7 +1,7 @@
 use lset_schedule::{Body, Line};
 
-/// The largest row of a step table that a line of a draft can name. (A draft is a schedule that can state where a
-/// thread stops.)
+/// The largest number of a row (a step in a list's step table) that a line of a draft can name. A draft is a schedule
+/// that can state where a thread stops.
 pub const MOST_ROW: u32 = 255;
 
 /// A line of a draft (a schedule that can state where a thread stops). `Plain` is a line of a schedule. `Out(thread)`

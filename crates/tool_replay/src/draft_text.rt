@@ -7,7 +7,6 @@ use lset_schedule::{EventLine, Line, Version, read_text};
 use lset_text::{Cause, LineFault, cut, number};
 use std::alloc::Global;
 
-/// The first line of a draft.
 const TITLE: &str = "listset-draft 2";
 
 fn out(word: &[u8], thread: &[u8], place: &[u8]) -> Option<Result<DraftLine, Cause>>
@@ -42,7 +41,8 @@ fn to(word: &[u8], thread: &[u8], place: &[u8], row: &[u8]) -> Option<Result<Dra
     }
 }
 
-/// Parses a line `go T out` or `go T to ROW`. Returns `None` for any other line.
+/// Parses a line `go T out` or `go T to ROW`. Returns `None` for any other line, and the error `Number` if T or ROW is
+/// not a number in range.
 fn stop(line: &[u8]) -> Option<Result<DraftLine, Cause>>
     ensures { MatchOption result (IsPlain (cut_at 32 line.now)) (Stops (cut_at 32 line.now)) }
 {

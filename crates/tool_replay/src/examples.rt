@@ -2,7 +2,7 @@ use crate::example_texts as texts;
 use lset_words::Kind;
 
 /// A well-known interleaving of calls on one of the five lists. An example shows why the list needs a certain step or
-/// check. Most examples are from Herlihy and Shavit's chapter on linked lists, adapted to the library's step tables.
+/// check. Most examples are from Herlihy and Shavit's chapter on linked lists, adapted to the lists of this library.
 #[derive(Clone, Copy)]
 pub(crate) struct Example {
     /// The example's name, as typed in `example NAME`.
@@ -13,12 +13,12 @@ pub(crate) struct Example {
     pub about: &'static str,
     /// The schedule's text.
     pub schedule: &'static str,
-    /// A report that the list would produce without the check that the example is about. `check` refuses the report,
-    /// because no order explains its calls and final keys. Only six examples have a broken report.
+    /// The report that the schedule would have on a list without the check that the example is about. `check` refuses
+    /// the report, because no order explains its calls and final keys. Six examples have one; for the others the field
+    /// is `None`.
     pub broken_report: Option<&'static str>,
 }
 
-/// All examples, grouped by list.
 const ALL: &[Example] = &[
     Example {
         name: "failed-tries",

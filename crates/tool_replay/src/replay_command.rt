@@ -62,8 +62,9 @@ impl Tool for ReplayBroken {
 
 /// Implements the command `replay`: reads a schedule from `input`, replays it, and writes the report to `output`.
 ///
-/// If an error occurs, writes one line to `faults` and nothing to `output`. Returns the exit status: 0 if the report
-/// was written, 3 if an allocation failed, otherwise 1. Allocates. Blocks while reading and writing.
+/// If an error occurs before the first write, writes one line to `faults` and nothing to `output`. If a write to
+/// `output` fails, `output` can contain a prefix of the answer. Returns the exit status: 0 if the report was written, 3
+/// if an allocation failed, otherwise 1. Allocates. Blocks while reading and writing.
 pub fn tool_replay<R: Read, W: Write, F: Write>(
     alloc: Global,
     input: &mut R,

@@ -1,12 +1,12 @@
-//! Steps a thread a given number of times, or until it is at a given row of its step table.
+//! Executes a given number of steps of a thread, or steps until the thread is at a given row of its step table (the
+//! table of a list's atomic steps).
 
 use lset_replay::Steps;
 use lset_steps::{Event, Machine, World};
 use lset_text::Cause;
 
-/// Steps a thread, at least once and at most `most` times, until it is at row `row` of its step table. Returns the
-/// number of steps. Row 0 means that the call has ended. Returns the error `Waits` if the thread is not at row `row`
-/// after `most` steps.
+/// Executes steps of a thread until its next step is row `row` of the step table (for row 0, until its call has ended).
+/// Returns the number of steps, at least 1, or the error `Waits` if `most` steps do not suffice.
 pub(crate) fn steps_to<M: Machine>(
     world: &mut World<M>,
     thread: u32,
@@ -24,7 +24,7 @@ pub(crate) fn steps_to<M: Machine>(
     Err(Cause::Waits)
 }
 
-/// Makes `steps` steps of a thread.
+/// Executes `steps` steps of a thread. At the first step that is not enabled, stops and returns the cause.
 pub(crate) fn take_steps<M: Machine>(
     world: &mut World<M>,
     thread: u32,

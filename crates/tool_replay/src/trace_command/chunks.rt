@@ -1,12 +1,12 @@
-//! A buffer of fixed size for the text of a trace. The longest line of an event fits into the buffer, so writing that
-//! line does not allocate.
+//! A buffer of fixed size for the text of a trace. The buffer is emptied before it is too full for the next line, so
+//! appending a line does not allocate.
 use arrayvec::ArrayString;
 use itoa::Buffer;
 
-/// The capacity of the buffer, in bytes.
+/// The capacity of a `Chunk`, in bytes.
 const ROOM: usize = 16_384;
 
-/// An upper bound, in bytes, for the line of an event and for one key in the line of a chain.
+/// An upper bound, in bytes, for the line of an event, and for one key in a line that lists the nodes.
 const MOST_OF_LINE: usize = 1_024;
 
 /// The part of a trace that has not been written to its destination yet.

@@ -19,7 +19,8 @@ fn put_reply(out: &mut Chunk, reply: Reply) {
     }
 }
 
-/// Appends a description of a memory access to `out`: the word, and the value that was loaded or stored.
+/// Appends an access to a shared word, such as `exchange n2.link from tail to n3 saw tail`. `seen` is the value that a
+/// load or an exchange found.
 fn put_access(out: &mut Chunk, action: Action, seen: u64) {
     let (verb, index) = match action {
         Action::Load(index) => ("load ", index),
@@ -46,7 +47,8 @@ fn put_access(out: &mut Chunk, action: Action, seen: u64) {
     put_value(out, word, seen);
 }
 
-/// Appends the name and the new value of a register that holds a node. Appends nothing if the value did not change.
+/// Appends the name and the new value of a register (a private variable of a thread) that contains a node. Appends
+/// nothing if the value did not change.
 fn put_node_change(out: &mut Chunk, name: &str, before: u64, after: u64) {
     if before != after {
         put(out, name);
@@ -54,7 +56,8 @@ fn put_node_change(out: &mut Chunk, name: &str, before: u64, after: u64) {
     }
 }
 
-/// Appends the name and the new value of a register that holds a key. Appends nothing if the value did not change.
+/// Appends the name and the new value of a register (a private variable of a thread) that contains a key. Appends
+/// nothing if the value did not change.
 fn put_key_change(out: &mut Chunk, name: &str, before: u64, after: u64) {
     if before != after {
         put(out, name);
@@ -62,7 +65,7 @@ fn put_key_change(out: &mut Chunk, name: &str, before: u64, after: u64) {
     }
 }
 
-/// Appends each changed register of a thread's private state, with the register's new value.
+/// Appends the name and the new value of each register (private variable) of a thread that the event changed.
 fn put_changes(out: &mut Chunk, before: &Local, after: &Local) {
     put_node_change(out, " pred ", before.pred, after.pred);
     put_node_change(out, " curr ", before.curr, after.curr);
@@ -97,7 +100,8 @@ fn put_begin(out: &mut Chunk, call: Call, number: u32) {
     put_call(out, number);
 }
 
-/// Appends the event's effect, the row of the step table that the thread reached, and the registers that changed.
+/// Appends what the event did, the row of the step table that the thread reached and, unless the event began a call,
+/// the registers (private variables of the thread) that changed.
 fn put_deed(out: &mut Chunk, event: &TracedEvent) {
     match event.deed {
         Deed::Begin(call) => put_begin(out, call, event.call),

@@ -18,7 +18,8 @@ pub(crate) enum TableWord {
 }
 
 impl TableWord {
-    /// Returns the name of the word with index `index`, which can exceed every index of the list.
+    /// Returns the meaning of the shared word with index `index`. Words 0 to 2 belong to the list, and each node has
+    /// the next three words. The index can be beyond the last node.
     pub fn at(index: u64) -> TableWord {
         let Some(past) = index.checked_sub(3) else {
             return match index {
@@ -86,8 +87,8 @@ pub(crate) fn put_name(out: &mut Chunk, word: TableWord) {
     put(out, field);
 }
 
-/// Appends the value of a word in the notation for that kind of word. A link is written as the number of the next node,
-/// with a star if the link is marked.
+/// Appends the value of a word in the notation for that kind of word. A link is written as the next node (`head`,
+/// `tail`, or `n` with its number), with a star if the link is marked.
 pub(crate) fn put_value(out: &mut Chunk, word: TableWord, value: u64) {
     match word {
         TableWord::Key(_) => put_key(out, value),

@@ -11,7 +11,6 @@ use std::alloc::{AllocError, Global};
 use std::io::Write;
 use tool_base::{Trouble, put as put_out};
 
-/// The first line of a trace.
 const TITLE: &str = "listset-trace 1";
 
 /// A destination for text that is written piece by piece.
@@ -54,7 +53,6 @@ fn put_list(out: &mut String, kind: Kind, lacks: Option<&str>) -> Result<(), All
     }
 }
 
-/// Appends the lines `threads N` and `quota N`.
 fn put_limits(out: &mut String, threads: u32, quota: u32) -> Result<(), AllocError> {
     writeln!(out, "threads {threads}\nquota {quota}")
 }
@@ -101,7 +99,8 @@ impl<S: Sink> Lines<'_, S> {
         }
     }
 
-    /// Appends the last line: `end` or, if an event was refused, the number of the event's line and the cause.
+    /// Appends the last line, and passes the rest of the text to the destination. The last line is `end` or, if an
+    /// event was refused, the number of the event's line and the cause.
     pub fn end(&mut self, refused: Option<(u64, &str)>) -> Result<(), Trouble> {
         self.pour_full()?;
         match refused {
@@ -130,7 +129,8 @@ impl<S: Sink> Lines<'_, S> {
         Ok(())
     }
 
-    /// Appends the line of a chain: the keys of its nodes, with a star after the keys of marked nodes.
+    /// Appends a line with the keys of all nodes in the list, from head to tail, with a star after the key of a marked
+    /// node.
     fn add_chain(&mut self, chain: &[ChainKey]) -> Result<(), Trouble> {
         put(&mut self.chunk, "chain");
         for place in chain {

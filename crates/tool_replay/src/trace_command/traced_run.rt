@@ -17,8 +17,8 @@ use lset_words::Kind;
 use std::alloc::Global;
 use tool_base::Trouble;
 
-/// Writes the trace of a run from its first event. Returns 1 if an event is refused, otherwise 0. A refused event ends
-/// the trace.
+/// Executes the events of a schedule, and writes the part of the trace after the header. Returns the exit status: 1 if
+/// an event is not enabled (the trace ends there), otherwise 0.
 fn trace<W: Steps + Drop, S: Sink>(
     schedule: &Schedule,
     run: TracedRun<W>,
@@ -44,7 +44,7 @@ fn trace<W: Steps + Drop, S: Sink>(
     Ok(0)
 }
 
-/// Traces a schedule on the list with step table `M`.
+/// Writes the trace of a schedule on the list with step table `M`, and returns the exit status.
 fn trace_on<M: Machine, S: Sink>(
     alloc: Global,
     schedule: &Schedule,
@@ -59,8 +59,8 @@ fn trace_on<M: Machine, S: Sink>(
     trace(schedule, run, sink)
 }
 
-/// Traces a schedule on the list that the schedule names. Uses a `match` instead of `on_list`, because a task of
-/// `on_list` cannot contain `sink`.
+/// Writes the trace of a schedule on the list that the schedule names. Uses a `match` instead of `on_list`, because a
+/// task of `on_list` cannot contain `sink`.
 fn trace_named<S: Sink>(
     alloc: Global,
     schedule: &Schedule,
@@ -78,8 +78,8 @@ fn trace_named<S: Sink>(
     }
 }
 
-/// Reads a schedule from `text` and traces it to the destination. Returns 1 if an event is refused, otherwise 0. A
-/// refused event ends the trace.
+/// Reads a schedule from `text` and writes its trace to the destination `sink`. Returns the exit status: 1 if an event
+/// is not enabled (the trace ends there), otherwise 0.
 pub(crate) fn trace_into<S: Sink>(
     alloc: Global,
     options: Trace,
