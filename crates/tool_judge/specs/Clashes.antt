@@ -126,9 +126,8 @@ abbrev pub nor_text : Presence → List ℕ
 nor_text Present = codes ", and no such add overlaps "
 nor_text Absent = codes ", and no such remove overlaps "
 
--- `turned_there` and `turned_back` are parts of the text about two overlapping calls: no call can change the key
--- between the two calls. `turned_there` covers the case that the first call takes effect first, `turned_back` the case
--- that the second does.
+-- Two parts of the text about two overlapping calls: no call changes the key between the two calls. `turned_there` is
+-- for the case that the first call takes effect first, `turned_back` for the case that the second call does.
 unfoldable pub turned_there : ℕ → Presence → ℕ → ℕ → List ℕ
 turned_there key need from to = no_change key need ++ codes "that returned true or is pending overlaps " ++ between from to
 

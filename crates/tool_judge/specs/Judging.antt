@@ -43,7 +43,7 @@ refused_text r clash = refused_lines r ++ clash_text r.key.0 clash
 abbrev pub Begins : List ℕ → List ℕ → Type 0
 Begins head text = (more : List ℕ) × (text ≡ head ++ more)
 
--- Holds if `judge` may print `answer` for a verdict on `calls` calls. The text begins with the lines of the verdict,
+-- Holds if `judge` can print `answer` for a verdict on `calls` calls. The text begins with the lines of the verdict,
 -- and further lines can follow. The status is 0 for `Linearizable` and 1 for `NotLinearizable`.
 abbrev pub IsAnswerTo : Verdict → ℕ → AnswerValue → Type 0
 IsAnswerTo Linearizable calls answer = Begins (ok_line calls) answer.text × (answer.status ≡ 0)
@@ -66,19 +66,19 @@ pub record IsAnswerOn (detail : Detail) (c : Recording) (answer : AnswerValue) :
   pub verdict_is : IsVerdictOnRecording c verdict
   pub answer_is : IsAnswerTo (shown_in detail verdict) (length c.calls) answer
 
--- Holds if `judge` may end with the result `made` for the bytes of an input. The result is a correct answer for the
+-- Holds if `judge` can return the result `made` for the bytes of an input. The result is a correct answer for the
 -- recording in the bytes, the error of the first wrong line with its cause, `CannotRead` for a failed read, or `Memory`
 -- for a failed allocation.
 abbrev pub JudgesIn : Detail → List ℕ → Made → Type 0
 JudgesIn detail bytes (Ok answer) = (c : Recording) × Says bytes (Ok c) × (bytes ≡ recording_text c) × IsAnswerOn detail c answer
 JudgesIn detail bytes (Err t) = (t ≡ CannotRead) ⊎ ((t ≡ Memory) ⊎ ((fault : LineFault) × Says bytes (Err fault) × (t ≡ of_line_fault fault)))
 
--- Holds if `judge` may end with the result `made` for the bytes of an input. An answer `not linearizable` must show the
+-- Holds if `judge` can return the result `made` for the bytes of an input. An answer `not linearizable` must show the
 -- contradiction if the judge found one.
 abbrev pub Judges : List ℕ → Made → Type 0
 Judges bytes made = JudgesIn Whole bytes made
 
--- Holds if `judge --brief` may end with the result `made` for the bytes of an input. The text of an answer `not
--- linearizable` begins with its two lines; the contradiction need not follow.
+-- Holds if `judge --brief` can return the result `made` for the bytes of an input. An answer `not linearizable` begins
+-- with its first two lines, and need not show a contradiction.
 abbrev pub JudgesBriefly : List ℕ → Made → Type 0
 JudgesBriefly bytes made = JudgesIn Brief bytes made

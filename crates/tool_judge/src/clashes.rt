@@ -137,7 +137,7 @@ fn call_text(alloc: Global, made: StreamCall) -> Result<Vec<u8>, AllocError>
     Ok(text)
 }
 
-/// Returns the words about the state (present or absent) in which the first call leaves the key.
+/// Returns the end of line 1 of a contradiction: the state (present or absent) in which the first call leaves the key.
 fn leaves_text(alloc: Global, key: u32, was: Presence) -> Result<Vec<u8>, AllocError>
     ensures { IfOk result (λ text. text.items ≡ lines.leaves_text key was) }
 {
@@ -153,7 +153,8 @@ fn leaves_text(alloc: Global, key: u32, was: Presence) -> Result<Vec<u8>, AllocE
     }
 }
 
-/// Returns the words about the state (present or absent) in which the second call needs the key to be.
+/// Returns the end of line 2 of a contradiction: the state (present or absent) that the second call needs the key to
+/// have.
 fn needs_text(alloc: Global, key: u32, need: Presence) -> Result<Vec<u8>, AllocError>
     ensures { IfOk result (λ text. text.items ≡ lines.needs_text key need) }
 {
@@ -169,7 +170,7 @@ fn needs_text(alloc: Global, key: u32, need: Presence) -> Result<Vec<u8>, AllocE
     }
 }
 
-/// Returns the line about the key's state at the start.
+/// Returns line 1 of a contradiction with the opening state: the key's state before the first call.
 fn opening_text(alloc: Global, key: u32, was: Presence) -> Result<Vec<u8>, AllocError>
     ensures { IfOk result (λ text. text.items ≡ lines.opening_text key was) }
 {
@@ -185,7 +186,7 @@ fn opening_text(alloc: Global, key: u32, was: Presence) -> Result<Vec<u8>, Alloc
     }
 }
 
-/// Returns the line about the key's state at the end.
+/// Returns line 2 of a contradiction with the final state: the key's state after the last call.
 fn final_text(alloc: Global, key: u32, need: Presence) -> Result<Vec<u8>, AllocError>
     ensures { IfOk result (λ text. text.items ≡ lines.final_text key need) }
 {
@@ -201,8 +202,8 @@ fn final_text(alloc: Global, key: u32, need: Presence) -> Result<Vec<u8>, AllocE
     }
 }
 
-/// Returns line 1 of 3: the first call, and the state in which it leaves the key. If `first` is `None`, the line states
-/// the key's first state instead.
+/// Returns line 1 of a contradiction: the first call, and the state in which it leaves the key. If `first` is `None`,
+/// the line states the key's opening state instead.
 fn first_line(
     alloc: Global,
     key: u32,
@@ -222,8 +223,8 @@ fn first_line(
     }
 }
 
-/// Returns line 2 of 3: the second call, and the state in which it needs the key to be. If `second` is `None`, the line
-/// states the key's final state instead.
+/// Returns line 2 of a contradiction: the second call, and the state that it needs the key to have. If `second` is
+/// `None`, the line states the key's final state instead.
 fn second_line(
     alloc: Global,
     key: u32,
@@ -243,7 +244,8 @@ fn second_line(
     }
 }
 
-/// Returns the words for an absent call: there is no `add` or `remove` that would bring the key into the state `need`.
+/// Returns the start of line 3 of a contradiction: `and no add K` if a call would have to make the key present, or `and
+/// no remove K` if a call would have to make it absent.
 fn no_change(alloc: Global, key: u32, need: Presence) -> Result<Vec<u8>, AllocError>
     ensures { IfOk result (λ text. text.items ≡ lines.no_change key need) }
 {
@@ -282,8 +284,8 @@ fn ends_text(alloc: Global, from: u64) -> Result<Vec<u8>, AllocError>
     Ok(text.into_bytes())
 }
 
-/// Returns the words for the period in which no call changes the key: between two calls, before the second call, or
-/// after the first.
+/// Returns the end of line 3 of a contradiction: in which period no call changes the key. Without a first call, the
+/// period starts with the recording; without a second call, it lasts until the recording ends.
 fn time_text(
     alloc: Global,
     first: Option<StreamCall>,
@@ -299,7 +301,7 @@ fn time_text(
     }
 }
 
-/// Returns line 3 of 3: no call changes the key between the two calls.
+/// Returns line 3 of a contradiction: no call brings the key into the state `need` between the two calls.
 fn third_line(
     alloc: Global,
     key: u32,
@@ -366,8 +368,8 @@ fn needs_and_leaves(
     Ok(text)
 }
 
-/// Returns the words for the case that the second of two overlapping calls takes effect first: no `add` or `remove`
-/// that would bring the key into the state `need` overlaps the period that the text names next.
+/// Returns `, and no such add overlaps ` or `, and no such remove overlaps `. An `add` would bring the key into the
+/// state present, a `remove` into absent.
 fn nor_text(alloc: Global, need: Presence) -> Result<Vec<u8>, AllocError>
     ensures { IfOk result (λ text. text.items ≡ lines.nor_text need) }
 {
@@ -377,8 +379,8 @@ fn nor_text(alloc: Global, need: Presence) -> Result<Vec<u8>, AllocError>
     }
 }
 
-/// Returns the words for the case that the first call takes effect first: no call that could bring the key into the
-/// state `need` overlaps the time from `from` to `to`.
+/// Returns the words that state that no call that would bring the key into the state `need` overlaps the time from
+/// `from` to `to`. They are for the case that the first of two overlapping calls takes effect first.
 #[tactic(auto, unfolding(crate::specs::Clashes::turned_there))]
 fn turned_there(
     alloc: Global,
@@ -395,8 +397,8 @@ fn turned_there(
     Ok(text)
 }
 
-/// Returns the words for the case that the second call takes effect first: no call that could bring the key into the
-/// state `back` overlaps the time from `from` to `to`.
+/// Returns the words that state that no call that would bring the key into the state `back` overlaps the time from
+/// `from` to `to`. They are for the case that the second of two overlapping calls takes effect first.
 #[tactic(auto, unfolding(crate::specs::Clashes::turned_back))]
 fn turned_back(alloc: Global, back: Presence, from: u64, to: u64) -> Result<Vec<u8>, AllocError>
     ensures { IfOk result (λ text. text.items ≡ lines.turned_back back from to) }
@@ -439,7 +441,8 @@ fn turned_second(
     Ok(text)
 }
 
-/// Returns the lines about two overlapping calls that contradict each other, whichever call takes effect first.
+/// Returns the three lines of a contradiction between two overlapping calls. Whichever call takes effect first leaves
+/// the key in a state that the other does not accept, and no call can change the state in between.
 fn lines_turned(
     alloc: Global,
     key: u32,

@@ -3,10 +3,11 @@ use lset_text::{call_word, reply_word};
 use lset_words::{Call, Presence};
 use std::alloc::{AllocError, Global};
 
-/// The maximum number of calls in a list that is printed in full.
+/// The maximum number of calls that are all printed. From a longer list of calls, some are left out.
 const NAMED: usize = 4;
 
-/// The number of calls that are printed from the start of a longer list, and also from its end.
+/// If the first line of a contradiction has more than `NAMED` calls, how many of them are printed from the start, and
+/// how many from the end.
 const NAMED_OF_MANY: usize = 2;
 
 /// Writes a call's thread, start and end.
@@ -101,8 +102,8 @@ fn put_calls(out: &mut String, count: &Count) -> Result<(), AllocError> {
     Ok(())
 }
 
-/// Writes how many times the key must change back between the calls of a contradiction by counting, and between which
-/// moments (times in the recording).
+/// Writes the line about the changes that the listed calls need, such as `need key 5 to become absent 2 times between
+/// 10 and 40,`. The numbers 10 and 40 are moments (times in the recording).
 fn put_need(out: &mut String, count: &Count) -> Result<(), AllocError> {
     let (key, state) = (count.key.0, state_word(other(count.was)));
     write!(out, "  need key {key} to become {state}")?;
@@ -119,7 +120,8 @@ fn put_need(out: &mut String, count: &Count) -> Result<(), AllocError> {
     Ok(())
 }
 
-/// Writes the period that a call must overlap if it changes the key back.
+/// Writes the period in which other calls could change the key back, such as ` overlap 10 to 40`. Writes nothing if the
+/// period is the whole recording.
 fn put_stretch(out: &mut String, count: &Count, is_one: bool) -> Result<(), AllocError> {
     let s = if is_one { "s" } else { "" };
     match (count.since, count.until) {
@@ -131,8 +133,8 @@ fn put_stretch(out: &mut String, count: &Count, is_one: bool) -> Result<(), Allo
     Ok(())
 }
 
-/// Writes the calls that could have changed the key back. In a contradiction by counting, there are fewer such calls
-/// than needed.
+/// Writes the line about the calls that could change the key back, such as `and only 1 remove 5 that returned true or
+/// is pending overlaps 10 to 40: thread 1, 12 to 20`.
 fn put_backs(out: &mut String, count: &Count) -> Result<(), AllocError> {
     let (word, key) = (call_word(maker(count, other(count.was))), count.key.0);
     let all = count.backs.len();

@@ -32,7 +32,7 @@ fn without_clash(verdict: Verdict) -> Verdict
     }
 }
 
-/// Removes the parts of the answer `said` that are not printed at the level `detail`.
+/// Removes the contradiction from the answer `said` if `detail` is `Brief`.
 fn in_detail(said: RecordingAnswer, detail: Detail) -> RecordingAnswer
     ensures verdict { result.verdict ≡ shown_in detail said.verdict }
     ensures calls { result.calls ≡ said.calls }

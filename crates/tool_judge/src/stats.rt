@@ -8,10 +8,10 @@ use std::collections::{BTreeMap, BTreeSet};
 use std::io::Read;
 use tool_base::{Answer, READ_SIZE, Trouble};
 
-/// The end of a pending call: a value that is greater than every end in a recording.
+/// Stands for the end of a pending call. Greater than every end in a recording.
 const NEVER: u64 = u64::MAX;
 
-/// Counts of the calls of one operation.
+/// How many calls of one operation returned true, returned false, or are pending.
 #[derive(Clone, Copy)]
 struct Replies {
     returned_true: u64,
@@ -60,9 +60,9 @@ const NO_SPAN: Span = Span {
 };
 
 impl Span {
-    /// Adds a call to the summary. Returns how many of two calls, the added one and the one before it, are newly found
-    /// to overlap another call. No earlier call can be newly found: if an earlier call overlaps the added one, then it
-    /// also overlaps the call that began after it.
+    /// Adds a call. Returns how many calls are found to overlap another call for the first time: the added call, the
+    /// one before it, both or neither. Any earlier call that overlaps the added call also overlaps the call after
+    /// itself, and was counted then.
     fn add(&mut self, begun: u64, end: u64) -> u64 {
         let overlaps = self.end > begun;
         let last_overlaps = self.last_end > begun && !self.is_counted;
@@ -75,7 +75,8 @@ impl Span {
     }
 }
 
-/// Counts of the calls so far. The size in memory grows with the numbers of keys, threads and pending calls.
+/// Counts of the calls read so far. The memory grows with the numbers of different keys, threads and pending calls, not
+/// with the number of calls.
 #[derive(Drop)]
 struct Counts {
     adds: Replies,
@@ -86,7 +87,8 @@ struct Counts {
     whole: Span,
     overlapping: u64,
     overlapping_of_key: u64,
-    /// The ends of the calls that are pending when the most recent call begins.
+    /// The ends of the calls that are pending just after the most recent call began, including that call. A call that
+    /// never ended has the end `NEVER`.
     ends: Vec<u64>,
     most_pending: usize,
 }
@@ -158,7 +160,7 @@ impl Counts {
     }
 }
 
-/// Writes the line with the counts of one operation.
+/// Writes the three lines with the counts of one operation.
 fn put_replies(out: &mut String, word: &str, replies: Replies) -> Result<(), AllocError> {
     let Replies {
         returned_true,

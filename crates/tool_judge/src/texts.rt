@@ -28,7 +28,7 @@ fn is_few(overlapped: u64, calls: u64) -> bool {
 }
 
 /// Returns the lines after `ok N calls`: the number of calls that overlap a change of their key, advice if there are
-/// few such calls, and a remark if the recording was cut off.
+/// few such calls and `detail` is `Whole`, and a remark if the recording was cut off.
 fn notes(
     alloc: Global,
     calls: u64,
@@ -62,7 +62,7 @@ pub(crate) fn ok_text(
     Ok(text)
 }
 
-/// Returns the line `not linearizable`, and the beginning of the second line up to the key.
+/// Returns line 1 of the answer `not linearizable`, and line 2 up to the key.
 fn calls_of_key(alloc: Global, key: u32) -> Result<Vec<u8>, AllocError>
     ensures { IfOk result (λ text. text.items ≡ calls_of_key key) }
 {
@@ -70,8 +70,9 @@ fn calls_of_key(alloc: Global, key: u32) -> Result<Vec<u8>, AllocError>
     Ok(text.into_bytes())
 }
 
-/// Returns the rest of the second line. If `moment` (a time in the recording) is given, the line states that no order
-/// explains the key's calls up to `moment`. Otherwise it states that no order ends with the key's final state.
+/// Returns the end of line 2 of the answer `not linearizable`. If `moment` (a time in the recording) is given, the line
+/// states that no order explains the key's calls up to `moment`, otherwise that no order ends with the key's final
+/// state.
 fn extent(alloc: Global, moment: Option<u64>) -> Result<Vec<u8>, AllocError>
     ensures { IfOk result (λ text. text.items ≡ extent moment) }
 {
@@ -124,9 +125,8 @@ fn end_of(clash: Option<Clash>) -> Option<u64> {
     Some(end)
 }
 
-/// Returns a note if the second call of the contradiction ended after the moment (a time in the recording) of the
-/// refusal: this contradiction is the first that the judge found, but the calls up to the moment already have no order.
-/// Otherwise returns an empty string.
+/// Returns a note for a contradiction whose second call ended after the moment (a time in the recording) up to which
+/// the calls have no order. Otherwise returns an empty string.
 fn later_note(alloc: Global, refusal: Refusal, clash: Option<Clash>) -> Result<String, AllocError> {
     match (refusal.moment, end_of(clash)) {
         (Some(moment), Some(end)) if moment < end => format!(in alloc;
