@@ -40,7 +40,7 @@ drop_more [] (suc k) next rest e = absurd (cc)
 drop_more (x ∷ es) zero next rest e = cc
 drop_more (x ∷ es) (suc k) next rest e = drop_more es k next rest e
 
--- A default line, for an index that is out of range.
+-- A line for a lookup with an index that is out of range.
 abbrev pub no_line : Line
 no_line = line.Begin 0 (call.Add (record { 0 = 0 }))
 

@@ -1,4 +1,5 @@
--- Proof: every enabled event of a run can be recorded, and the recorder still describes the run after the event.
+-- Proof: a recorder, which collects the calls of a run, can record each enabled event, and then describes the run up to
+-- that event.
 use Rattle.std.proofs.Common.{◌≡◌, ℕ, suc, ◌+◌, ◌<◌, ◌⊎◌, inl, inr, List, sym, refl, subst, ap, ◌∙◌, add-one, arith}
 use Rattle.lset_words.specs.Account.{Account, Enters}
 use Rattle.lset_words.specs.Words.{Opening, Opens, sizes}
@@ -97,7 +98,7 @@ module _ (T : Table) (op : Opening) (events : List LineEvent) (k : ℕ) (w : Wor
   stopped cause.Memory w' made = tt
   stopped c w' made = made
 
-  -- The next event of a run can be recorded. The proof uses the account of the run (a description of how each event
+  -- Lemma: the next event can be recorded. The proof uses the account of the run (a description of how each event
   -- changes the keys in the set).
   module _ (accounts : TellsKeys T) where
     open shown T op events use {log, contents, counts}
@@ -126,7 +127,8 @@ module _ (T : Table) (op : Opening) (events : List LineEvent) (k : ℕ) (w : Wor
 
 -- ---- Lemmas about the loop that executes the events
 
--- Holds if all events before `rest` were executed and recorded.
+-- Holds if all events before those in `rest` were executed in the world `w` (the words and threads of a list) and
+-- recorded in `r`.
 pub record IsOnWay (T : Table) (op : Opening) (events rest : List LineEvent) (w : WorldState) (r : Recorder) : Type 0 where
   pub ahead : IsAhead events r.last rest
   pub followed : HasFollowed T op events r.last w r

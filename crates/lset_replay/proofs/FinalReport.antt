@@ -191,7 +191,8 @@ replay_is T accounts p w r order keys h o c =
 module _ (T : Table) (headline : PlacementExplainsRuns T) (op : Opening) (events : List Event) (history : List CallRecord)
     (order : List Placed) (keys : List ℕ)
     (h : IsReportOf T op events history order keys) where
-  -- The order in the report explains the run: the order consists of the calls, sorted by their linearization points.
+  -- Lemma: the order in the report explains the run. Only one order is sorted by the linearization points, and
+  -- `PlacementExplainsRuns` states that this order explains the run.
   run_explained : ExplainsRun T op (event_at events) (length events) order
   run_explained =
       let found : (o : List Placed) × ExplainsRun T op (event_at events) (length events) o

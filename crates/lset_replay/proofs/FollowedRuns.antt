@@ -18,8 +18,8 @@ use Rattle.lset_replay.proofs.ReplayKept.{Follows}
 use Rattle.lset_replay.proofs.KeyChanges.{HoldsKeys}
 use Rattle.lset_replay.proofs.RecorderReady.{follows}
 
--- A run without its words and private states. It has a log (the effect of each event). For each moment (number of
--- events so far), it has the keys in the set and the number of keys that each thread has added.
+-- What a run does to the set, without the shared words and private states: the effect of each event (`log`) and, after
+-- each number of events, the keys in the set (`contents`) and how many keys each thread has added (`counts`).
 pub record Shown : Type 1 where
   pub log : Log
   pub contents : Contents

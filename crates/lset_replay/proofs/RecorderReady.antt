@@ -1,4 +1,4 @@
--- Proof: in every run of a list, the recorder can record the next event.
+-- Proof: in every run of a list, the next event satisfies the conditions for recording it.
 use Rattle.std.proofs.Common.{◌≡◌, ℕ, zero, suc, ◌<◌, ◌≤◌, ◌^◌, Bool, true, false, List, [], ◌∷◌, get_or, sym, refl, subst, ap, ◌∙◌, arith, ◌&&◌, length}
 use Rattle.std.specs.Prelude.{All, if◌then◌else◌, Contains as InList, ◌==◌, Option, None, is_none, IfSome}
 use Rattle.std.proofs.lemmas.List.Elements.{All-from_get_or, All-map}

@@ -1,4 +1,5 @@
--- The invariant of a recorder: its history, pending calls and linearization points describe the run so far.
+-- The invariant of a recorder, which collects the calls of a run: its history, pending calls and linearization points
+-- describe the events recorded so far.
 use Rattle.std.proofs.lemmas.Grind.{common_steps}
 use Rattle.std.proofs.Common.{◌≡◌, ◌≢◌, ℕ, suc, ◌<◌, ◌≤◌, true, false, inl, inr, List, [], ◌∷◌, ◌++◌, length, map, sym, refl}
 use Rattle.std.proofs.Common.{subst, ap, ◌∙◌, arith, length-set, get_or-set_same, get_or-set_other}
@@ -30,7 +31,7 @@ use Rattle.lset_replay.proofs.KeyChanges.{Tells, changes_by, quiet_keys}
 pub record IsWatched (log : Log) (contents : Contents) (counts : Counts) (k t : ℕ) (o : OpenCall) : Type 0 where
   pub here : OpenNumber (calls_at log k) t o.number o.call o.begun
   pub since : o.begun ≤ k
-  -- From the start of the pending call until the call changes the set, the call's thread adds no key.
+  -- As long as the pending call has not changed the set, its thread has added no key since the start of the call.
   pub steady : has_changed log t k ≡ false → (m : ℕ) → o.begun ≤ m → m ≤ k → counts m t ≡ counts k t
 
 -- Holds if `p` is the linearization point of a call. If the call changed the set, the point is the moment (event
@@ -138,8 +139,9 @@ module _ (m t : ℕ) where
 pub calls_are : (log : Log) (k : ℕ) (e : Entry) → log k ≡ e → calls_at log (suc k) ≡ calls_after (suc k) e (calls_at log k)
 calls_are log k e at = ap (λ z. calls_after (suc k) z (calls_at log k)) at
 
--- Lemmas about a pending call of thread `u`. `IsWatched` still holds for the call after the next event, if `u` adds no
--- key before the call changes the set.
+-- Lemmas: if `IsWatched` holds after `k` events for the pending call `o` of thread `u`, and the call is still pending
+-- after `k + 1` events, `IsWatched` holds then too. By the premise `quiet`, thread `u` adds no key in event `k + 1`
+-- unless the call has changed the set.
 module _ (log : Log) (contents : Contents) (counts : Counts) (k u : ℕ) (o : OpenCall)
     (quiet : has_changed log u (suc k) ≡ false → (has_changed log u k ≡ false) × (counts (suc k) u ≡ counts k u))
     (w : IsWatched log contents counts k u o) where

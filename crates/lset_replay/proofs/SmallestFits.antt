@@ -1,5 +1,5 @@
--- Proof: the reply of a call that changes nothing is first correct when the call's key is first present or first
--- absent, as the reply requires.
+-- Proof: for a call that changes nothing, the first moment (number of events) when its reply is correct is the first
+-- moment that passes the test in `fit`.
 use Rattle.std.proofs.Common.{◌≡◌, ℕ, List, true, false, ◌<◌, ◌≤◌, sym, refl, subst, ◌∙◌, arith}
 use Rattle.std.specs.Prelude.{Option, Some, None}
 use Rattle.lset_words.specs.declared.Call.{Call}

@@ -1,4 +1,5 @@
--- Proof: after the next step, the recorder still describes the run.
+-- Proof: if a recorder, which collects the calls of a run, describes the first `k` events, then it describes the first
+-- `k + 1` events after recording a step.
 use Rattle.std.proofs.Common.{◌≡◌, ℕ, suc, ◌<◌, ◌≤◌, true, false, ◌||◌, ◌&&◌, inl, inr, List, length, map, set, sym, refl}
 use Rattle.std.proofs.Common.{subst, ap, ◌∙◌, arith, get_or-set_same, get_or-set_other}
 use Rattle.std.specs.Prelude.{All, ◌-◌, Option, Some, None, is_none}
@@ -104,11 +105,11 @@ module _ (op : Opening) (last : ℕ) (log : Log) (contents : Contents) (counts :
   number : OpenNumber (calls_at log k) t number_here watching.call watching.begun
   number = open_now.2.here
 
-  -- The recorder's content after the change that the call makes.
+  -- The recorder's content after the change of the step, if the step changes the set.
   abbrev changed : Trace
   changed = changed_on (suc k) t ch s
 
-  -- The recorder's content after the change and the end of the call.
+  -- The recorder's content after the change and after the end of the call, if the step ends the call.
   abbrev kept : Trace
   kept = ended_on (suc k) t r changed
 

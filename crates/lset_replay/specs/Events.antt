@@ -22,8 +22,8 @@ events_from number (l ∷ ls) = events_of_line number l ++ events_from (number +
 abbrev pub events_of : Plan → List LineEvent
 events_of p = events_from (first_event_line p) p.lines
 
--- Holds if a schedule can be replayed: its sizes and its opening keys (the keys at the start) are within the limits,
--- and it has at most `MOST_EVENTS` events. The events can be arbitrary.
+-- Holds if a schedule is within the limits of a replay: its sizes, its opening keys (the keys at the start), and its
+-- number of events, at most `MOST_EVENTS`. The events need not be enabled.
 pub record IsInLimits (p : Plan) : Type 0 where
   pub opens : Opens (opening_in p)
   pub few : sum_by event_count p.lines ≤ MOST_EVENTS

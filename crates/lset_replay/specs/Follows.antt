@@ -1,5 +1,5 @@
--- The invariant of a replay: the recorder and the world (the shared words of the list and the private states of its
--- threads) match the events executed so far.
+-- The invariant of a replay: the recorder, which collects the calls, and the world (the shared words of the list and
+-- the private states of its threads) match the events executed so far.
 use Rattle.std.specs.Prelude.{◌≡◌, ℕ, ◌<◌, List, length, Result}
 use Rattle.lset_text.specs.declared.causes.Cause.{Cause}
 use Rattle.lset_text.specs.declared.causes.Cause.TheVariants as cause
@@ -35,7 +35,7 @@ pub record HasFollowed (T : Table) (op : Opening) (events : List LineEvent) (k :
   pub opening_is : r.history.opening ≡ op
   pub counted : r.last ≡ k
 
--- Holds if `next` is event number `k`. Events are counted from 0.
+-- Holds if `next` is the event with index `k`, counted from 0.
 pub record ComesNext (es : List LineEvent) (k : ℕ) (next : LineEvent) : Type 0 where
   pub known : k < length es
   pub event_is : event_at (only_events es) k ≡ next.event

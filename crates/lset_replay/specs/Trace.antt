@@ -1,4 +1,4 @@
--- The content of a recorder after some events, computed from the effects of the events.
+-- The content of a recorder, which collects the calls of a run, computed from the effects of the events.
 use Rattle.std.specs.Prelude.{◌≡◌, ℕ, zero, suc, ◌-◌, ◌<◌, ◌≤◌, Bool, true, false, not, List, [], ◌∷◌, ◌++◌, length, replicate}
 use Rattle.std.specs.Prelude.{Option, Some, None, slice_index_or, slice_set, IsSomeAnd}
 use Rattle.lset_words.specs.declared.Call.{Call}
@@ -64,8 +64,8 @@ abbrev pub read_at : Option ℕ → ℕ → Reply → Linearized
 read_at None end reply = record { moment = end; reply = reply; change = false }
 read_at (Some moment) end reply = record { moment = moment; reply = reply; change = false }
 
--- Returns the linearization point of a completed call: the point of the change if the call changed the set, otherwise
--- the point that `read_at` returns.
+-- Returns the linearization point of a completed call: the known point `p` if the call changed the set, otherwise the
+-- point that `read_at` returns.
 abbrev pub settled : Option Linearized → Option ℕ → ℕ → Reply → Option Linearized
 settled (Some p) moment end reply = Some p
 settled None moment end reply = Some (read_at moment end reply)

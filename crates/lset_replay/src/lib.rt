@@ -16,7 +16,7 @@ mod recorder; // the state of a `Recorder`
 mod recording; // how a `Recorder` records an event
 mod replaying; // `replay`, and the loop over the events
 mod run_calls; // `calls_of`, the calls for a picture
-mod start; // the world before the first event
+mod start; // the state of a list before the first event
 mod steps; // `Steps`, for lists and broken lists
 mod traced; // an event as a trace shows it
 mod tracing; // `TracedRun`, a run event by event

@@ -4,8 +4,8 @@ ghost use Rattle.lset_history.specs.Changes.{moments_of};
 use crate::places::{Linearized, OpenCall};
 use lset_history::{Changes, History};
 
-/// A run as recorded so far: its history, the pending call of each thread, and the linearization point of each call (if
-/// the point is known). Also contains when keys were added and removed.
+/// The calls of a run up to the last event: the history, the pending call of each thread, the linearization point of
+/// each call (`None` while the point is unknown), and when each key was added or removed.
 #[derive(Drop)]
 pub(crate) struct Recorder {
     pub history: History,

@@ -85,7 +85,8 @@ impl Recorder {
         Some(place.moment)
     }
 
-    /// Returns the pending call of a thread. Returns the error `Lost` if the thread has no pending call.
+    /// Returns the pending call of a thread. Returns the error `Lost` if the thread does not exist or has no pending
+    /// call.
     fn open_call(&self, thread: u32) -> Result<OpenCall, Cause>
         ensures is { IfOk result (λ o. (thread < length self.now.under_way.items)
             × (open_call_at self.now.under_way.items thread ≡ Some o) × (o.number < length self.now.places.items)) }
@@ -150,7 +151,8 @@ impl Recorder {
         Ok(())
     }
 
-    /// Returns the linearization point of the call `made`, which ends with the last event and returns `reply`.
+    /// Returns the linearization point of the call `made`, which ends with the last event and returns `reply`: its
+    /// change or, if the call changed nothing, the first moment when `reply` is correct.
     fn place_at_end(&self, made: OpenCall, reply: Reply) -> Linearized
         requires known { made.number < length self.now.places.items }
         requires begun { made.begun ≤ self.now.last }

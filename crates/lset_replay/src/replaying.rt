@@ -26,8 +26,7 @@ use lset_steps::laws::{has_account, listed_content};
 use lset_text::{Cause, LineFault};
 use std::alloc::Global;
 
-/// Converts the error that stopped a replay to a `ReplayFault`. On a list that is not broken, only a failed allocation
-/// reaches the last arm.
+/// Converts the error that stopped a replay to a `ReplayFault`. `Memory` is the only cause that reaches the last arm.
 fn refusal(stopped: LineFault) -> ReplayFault
     ensures { (T : Table) (op : Opening) (events : List LineEvent) → IsStopped T op events stopped → IsRefusal T op events result }
 {
@@ -39,8 +38,9 @@ fn refusal(stopped: LineFault) -> ReplayFault
     }
 }
 
-/// Executes and records the events in `lines`, in order. `first` is the number of the first line. Stops at the first
-/// event that is not enabled, and returns the event's line and cause. The cause is `Memory` if an allocation failed.
+/// Executes and records the events in `lines`, in order. `first` is the line number of the first element of `lines`.
+/// Stops at the first event that is not enabled or cannot be recorded, and returns the event's line and cause. The
+/// cause is `Memory` if an allocation failed.
 pub(crate) fn follow<W: Steps>(
     world: &mut W,
     recorder: &mut Recorder,
@@ -72,7 +72,7 @@ pub(crate) fn follow<W: Steps>(
     Ok(())
 }
 
-/// Replays a schedule on the list with the step table `M` (its atomic steps).
+/// Implements `replay` for the list with the step table `M` (its atomic steps).
 fn replay_on<M: Machine>(alloc: Global, schedule: &Schedule) -> Result<Report, ReplayFault>
     requires { IsInLimits (view schedule.now) }
     ensures replays { Replays M.table (view schedule.now) result }

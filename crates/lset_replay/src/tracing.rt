@@ -101,8 +101,8 @@ impl<W: Steps + Drop> TracedRun<W> {
         Ok(told)
     }
 
-    /// Returns the private state of the event's thread before the event, and the action of the event. Returns `None` if
-    /// the thread does not exist or cannot take a step.
+    /// Returns the private state of the event's thread before the event, and what the event will do. Returns `None` if
+    /// the thread does not exist or, for a step, if the thread has no next memory access.
     fn look(&self, event: Event) -> Option<(Local, Deed)> {
         let deed = match event {
             Event::Begin(_, call) => Deed::Begin(call),

@@ -7,16 +7,16 @@ use Rattle.lset_replay.proofs.EventLists.{rest_of}
 use Rattle.lset_replay.proofs.EventSteps.{IsOnWay}
 use Rattle.lset_replay.proofs.replaying.follow.Given as goal
 
--- The invariant of the loop over the lines of a schedule, if W makes the steps of a list: all events of the first
--- `index` lines were executed and recorded.
+-- Invariant of the loop over the lines: if `W` executes events as a step table `T` defines, then all events of the
+-- first `index` lines were executed and recorded.
 abbrev pub invariant-loop-index : goal.invariant-loop-index
 invariant-loop-index g l = (T : Table) (state : g.row.W.Denot → WorldState) → AreSteps T g.row.W.Denot g.W.Steps.makes state
     → HasFollowed T l.fn.recorder.history.opening (events_from l.first l.lines) 0 (state l.fn.world) l.fn.recorder
     → IsOnWay T l.fn.recorder.history.opening (events_from l.first l.lines) (events_from (l.first + l.index) (drop l.index l.lines))
     (state l.world) l.recorder
 
--- If W makes the steps of a list, all events of the first `index` lines, and `_done` events of the next line, were
--- executed and recorded.
+-- Invariant of the loop over the events of one line: if `W` executes events as a step table `T` defines, then all
+-- events of the first `index` lines, and `_done` events of the next line, were executed and recorded.
 abbrev pub invariant-loop-done : goal.invariant-loop-done
 invariant-loop-done g l = (T : Table) (state : g.row.W.Denot → WorldState) → AreSteps T g.row.W.Denot g.W.Steps.makes state
     → HasFollowed T l.fn.recorder.history.opening (events_from l.first l.lines) 0 (state l.fn.world) l.fn.recorder
