@@ -4,7 +4,8 @@ use crate::picture::Picture;
 use crate::refusal::Refusal;
 use lset_words::CallRecord;
 
-/// Returns the smallest key that is in only one of the two lists. Both lists must be in strictly increasing order.
+/// Returns the smallest key that is in only one of the two lists, or `None` if the lists are equal. Both lists must be
+/// in strictly increasing order.
 fn first_apart(keys: &[u32], others: &[u32]) -> Option<u32> {
     for (key, other) in keys.iter().zip(others.iter()) {
         if key != other {
@@ -19,7 +20,8 @@ fn first_apart(keys: &[u32], others: &[u32]) -> Option<u32> {
     rest.copied()
 }
 
-/// Returns the moment (a position in the history, from 1) when the first call on `key` starts.
+/// Returns the moment (a position in the history, from 1) when the first call on `key` starts, or `None` if there is no
+/// such call.
 fn first_begun(calls: &[CallRecord], key: u32) -> Option<u32> {
     for made in calls {
         if made.call.key().0 == key {
@@ -29,10 +31,9 @@ fn first_begun(calls: &[CallRecord], key: u32) -> Option<u32> {
     None
 }
 
-/// Returns the moment (a position in the history, from 1) at which the picture of a rejected order should start. If the
-/// reason for the rejection names one call, the picture starts with that call. If the reason names two calls, the
-/// picture starts with the call that had ended before the other call started. If the final keys are wrong, the picture
-/// starts with the first call on the smallest differing key.
+/// Returns the moment (a position in the history, from 1) at which the picture of a rejected order starts: the start of
+/// the call that the reason names or, of two named calls, of the one that had ended first. If the final keys are wrong,
+/// it is the start of the first call on the smallest differing key; `None` if there is no such call.
 pub(crate) fn clash_begins(picture: &Picture) -> Option<u32> {
     let calls = picture.history.calls();
     match &picture.refusal {

@@ -44,9 +44,9 @@ pub(crate) enum Side {
     After,
 }
 
-/// The columns of a picture, and what is left out. `known` is true if every linearization point is known. `from` and
-/// `last` are the first and the last drawn moment (positions in the history). `before` is true if something happens
-/// before `from`, and `after` is true if something happens after `last`.
+/// The columns of a picture, and what is left out. `known` is true if every linearization point is known. `from` is the
+/// first moment of the window, and `last` is the moment of the last column (both are positions in the history).
+/// `before` is true if something happens before `from`, and `after` is true if something happens after `last`.
 #[derive(Drop)]
 pub(crate) struct Drawing {
     pub columns: Vec<Column>,
@@ -177,7 +177,8 @@ pub(crate) fn put_signs(out: &mut String, marks: &[Mark], thread: u32) -> Result
     Ok(())
 }
 
-/// Returns the width of a column in characters: the width of its longest entry plus one space, at most `MOST_WIDTH`.
+/// Returns the width of a column in characters: enough for the moment, the set, and the signs of each thread, but at
+/// most `MOST_WIDTH`.
 fn width_of(alloc: Global, moment: u32, marks: &[Mark], set: &str) -> Result<usize, AllocError> {
     let mut most = format!(in alloc; "{moment} ")?.len();
     if set.len() >= most {

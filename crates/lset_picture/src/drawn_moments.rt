@@ -4,9 +4,9 @@ use crate::MOST_COLUMNS;
 use crate::picture::{Picture, Window, points_of};
 use std::alloc::{AllocError, Global};
 
-/// Returns whether every call in the picture starts, takes effect and ends before the moment `from` (a position in the
-/// history, counted from 1). A picture that starts at `from` would then be empty. Returns `false` for a picture without
-/// calls.
+/// Returns whether everything in the picture (each start and end of a call, and each linearization point) is before the
+/// moment `from`, a position in the history, counted from 1. A picture that starts at `from` would then be empty.
+/// Returns `false` for a picture without calls.
 pub fn is_past_the_last(picture: &Picture, from: u32) -> bool {
     let is_empty = picture.history.calls().is_empty() && points_of(picture).is_empty();
     !is_empty && next_moment(picture, u64::from(from)).is_none()
@@ -36,7 +36,8 @@ pub(crate) fn next_moment(picture: &Picture, from: u64) -> Option<u32> {
     best
 }
 
-/// Returns the moments (positions in the history) in `window` that have a column, at most `MOST_COLUMNS`.
+/// Returns the first `MOST_COLUMNS` moments in `window` (positions in the history) when a call starts, takes effect or
+/// ends.
 pub(crate) fn moments_shown(
     alloc: Global,
     picture: &Picture,

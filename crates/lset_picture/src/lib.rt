@@ -8,14 +8,14 @@
 mod beginning; // the moment at which a picture starts
 mod columns; // a column for each drawn moment
 mod drawn_clashes; // calls that contradict a rejected order
-mod drawn_moments; // moments at which something happens
+mod drawn_moments; // moments when a call starts, takes effect or ends
 mod drawn_sets; // the sets below the rows
 mod orders; // the lines above and below the rows
 mod picture; // the content of a picture
 mod pictured_report; // the picture of a report
 mod refusal; // the reasons to reject an order
-mod refusals; // a reason as text
-mod refusing; // finds the reason
+mod refusals; // the reason to reject an order, as text
+mod refusing; // finds the reason to reject an order
 mod sheet; // SVG elements and their positions
 mod style; // the style sheet of an SVG
 mod svg; // a picture as an SVG
@@ -34,5 +34,5 @@ const MOST_COLUMNS: usize = 64;
 /// The maximum number of keys that are printed for a set. The number of omitted keys is printed after them.
 const MOST_KEYS_SHOWN: usize = 8;
 
-/// The maximum width of a column, in characters. In a linearizable history, no entry of a column is wider.
+/// The maximum width of a column, in characters. No text in a column of a linearizable history is longer.
 const MOST_WIDTH: usize = 255;

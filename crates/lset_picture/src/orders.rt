@@ -92,8 +92,8 @@ fn side_of(standing: Standing, drawing: &Drawing) -> Option<Side> {
     }
 }
 
-/// Returns whether to print the entry `place`, whose call is not in the history. The entry is printed only if all
-/// moments (positions in the history) are drawn, or if the order was rejected because of the entry's call.
+/// Returns whether to print the entry `place` of the order, whose call is not in the history. The entry is printed only
+/// if all moments (positions in the history) are drawn, or if the order was rejected because of this call.
 fn is_told(picture: &Picture, drawing: &Drawing, place: Placed) -> bool {
     match &picture.refusal {
         _ if !drawing.is_cut() => true,
@@ -110,7 +110,8 @@ struct LeftOut {
     unknown: usize,
 }
 
-/// Writes the entries of the order that are drawn, and returns how many entries were left out.
+/// Writes the entries of the order that belong to the drawn moments (positions in the history), and returns how many
+/// entries were left out.
 fn put_places(
     out: &mut String,
     picture: &Picture,
@@ -139,7 +140,7 @@ fn put_places(
     })
 }
 
-/// Writes how many entries are left out.
+/// Writes a line about how many entries of the order were left out, or nothing if none was.
 fn put_left_out(out: &mut String, left: LeftOut) -> Result<(), AllocError> {
     let LeftOut {
         before,

@@ -27,7 +27,7 @@ fn put_unknown(out: &mut String, call: u32, calls: u32) -> Result<(), AllocError
     }
 }
 
-/// Writes the reply that a call has in the order.
+/// Writes the start of the reason for a wrong reply, such as `WrongReply 2: place 3 says true, and `.
 fn put_says(out: &mut String, call: u32, place: u64, says: Reply) -> Result<(), AllocError> {
     let word = reply_word(says);
     write!(out, "WrongReply {call}: place {place} says {word}, and ")

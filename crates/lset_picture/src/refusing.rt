@@ -22,7 +22,8 @@ fn record_of(history: &History, call: u32) -> Option<CallRecord> {
     history.calls().get(call as usize).copied()
 }
 
-/// Returns the sequential set after the calls in `places` were made one after another.
+/// Returns the sequential set after the calls in `places` were made one after another, from the opening keys on. Skips
+/// a call that is not in the history or whose thread does not exist.
 fn set_after(alloc: Global, history: &History, places: &[Placed]) -> Result<Oracle, AllocError>
     ensures { IfOk result (λ o. o.threads ≡ history.now.opening.threads) }
 {
@@ -57,8 +58,8 @@ fn missing(history: &History, call: u32) -> Option<Refusal> {
     })
 }
 
-/// Returns a reason to reject the order: the first call after `call` in the order that had ended before `call` started.
-/// Returns `None` if there is no such call.
+/// Finds the first call after `call` in the order that had ended before `call` started, which is a reason to reject the
+/// order. Returns `None` if there is no such call.
 fn too_early(history: &History, order: &[Placed], call: u32) -> Option<Refusal> {
     let begun = record_of(history, call)?.begun;
     let place = place_from(order, 0, call)?;
@@ -78,8 +79,9 @@ fn too_early(history: &History, order: &[Placed], call: u32) -> Option<Refusal> 
     None
 }
 
-/// Finds the reply that contradicts the reply of `call` in the order. It is the reply in the history or, if the history
-/// agrees with the order, the reply of the sequential set.
+/// Finds the reply that contradicts the reply of `call` in the order: the reply in the history or, if that is the same,
+/// the reply of the sequential set. Returns `None` if the order or the history does not contain `call`, or if the
+/// thread of `call` does not exist.
 fn wrong_reply(
     alloc: Global,
     history: &History,

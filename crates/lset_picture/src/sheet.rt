@@ -19,8 +19,8 @@ pub(crate) struct Spot {
     pub y: u64,
 }
 
-/// Returns the x position of a moment (a position in the history): the left margin plus the total width of the columns
-/// before the moment.
+/// Returns the x position, in pixels, of a moment (a position in the history): the left margin plus the total width of
+/// the columns before the moment.
 pub(crate) fn x_of(columns: &[Column], moment: u64) -> u64 {
     let mut x = 88u64;
     for column in columns {
@@ -31,22 +31,23 @@ pub(crate) fn x_of(columns: &[Column], moment: u64) -> u64 {
     x
 }
 
-/// Returns the x position of the right edge of the last column.
+/// Returns the x position, in pixels, of the right edge of the last column.
 pub(crate) fn right_edge(columns: &[Column]) -> u64 {
     x_of(columns, 4_294_967_296)
 }
 
-/// Returns the y position of a thread's row. The row of the set is directly below the row of the last thread.
+/// Returns the y position, in pixels, of a thread's row. `lane_y(threads)` is the y position of the row of the set.
 pub(crate) fn lane_y(thread: u32) -> u64 {
     40 * u64::from(thread) + 90
 }
 
-/// Returns the y position of line `number` in the text below the rows.
+/// Returns the y position, in pixels, of line `number` in the text below the rows, counted from 0.
 pub(crate) fn line_y(threads: u32, number: usize) -> u64 {
     40 * u64::from(threads) + 126 + 16 * number.min(1_000_000) as u64
 }
 
-/// Appends a text element that starts at `start` and has the given CSS classes.
+/// Appends a text element that starts at `start` and has the CSS class `class`. `clash` is empty, or the text ` clash`
+/// for a call that contradicts the order.
 pub(crate) fn put_text(
     out: &mut String,
     class: &str,

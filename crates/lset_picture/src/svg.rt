@@ -16,7 +16,7 @@ use std::alloc::{AllocError, Global};
 const LEGEND: &str =
     "filled: changes the set    open: changes nothing, its reply fits there    dashed: pending";
 
-/// The maximum width of the sheet, in characters. The sheet is as wide as its longest line of text, up to the maximum.
+/// How many characters of a line of text fit into the sheet at most. The columns can make the sheet wider.
 const MOST_CHARACTERS: usize = 255;
 
 /// The two lines above the rows: the heading, and the reason for rejecting the order (empty if the order is accepted).
@@ -26,7 +26,8 @@ struct Above<'a> {
     refusal: &'a str,
 }
 
-/// Starts the SVG with its title, style and background. The sheet is wide enough for the columns and the lines of text.
+/// Starts the SVG with its title, style and background. The sheet is wide enough for the columns, and for
+/// `MOST_CHARACTERS` characters of each line of text.
 fn put_sheet(
     out: &mut String,
     threads: u32,
@@ -169,8 +170,8 @@ fn put_end(
     put_text(out, thread_class(made.thread), clash, Spot { x, y }, &text)
 }
 
-/// Adds the bars of all calls that overlap the drawn moments (positions in the history). Calls that contradict the
-/// order are drawn thick and red.
+/// Adds a line, with its texts, for each call that overlaps the drawn moments (positions in the history). A call that
+/// contradicts the order gets the class ` clash`, so it is thick and red.
 fn put_bars(
     alloc: Global,
     out: &mut String,
@@ -229,7 +230,8 @@ fn put_points(
     Ok(())
 }
 
-/// Adds the rows in drawing order: labels, moments and sets, then the thin lines, the bars, and the circles on top.
+/// Adds the rows: the labels, the moments and the sets, then the thin lines from the linearization points down to the
+/// set, the lines of the calls, and the circles of the linearization points on top.
 fn put_rows(
     alloc: Global,
     out: &mut String,

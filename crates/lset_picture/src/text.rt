@@ -16,8 +16,8 @@ const LEGEND: &str = "* changes the set    o changes nothing, its reply fits the
 const LEGEND_OF_CUT: &str =
     "* changes the set    o changes nothing, its reply fits there    > ends later    < began earlier";
 
-/// Returns whether a thread's bar continues after the signs in `marks`. `before` is true if a bar was drawn up to the
-/// signs.
+/// Returns whether the bar of a thread (the dashes for its pending call) continues after the signs in `marks`. `before`
+/// is true if a bar was drawn up to the signs.
 fn goes_on(marks: &[Mark], thread: u32, before: bool) -> bool {
     let mut drawn = before;
     for mark in marks {
@@ -40,9 +40,8 @@ fn fill(row: &mut String, start: usize, width: usize, with: char) -> Result<(), 
     Ok(())
 }
 
-/// Appends a thread's cell in a column, and returns whether the bar continues past the column. `before` is true if a
-/// bar was drawn up to the column. In the first column, `<` marks a bar that started earlier, unless the cell has a
-/// sign.
+/// Appends the part of a thread's row that is in the column `column`. Returns whether the bar (the dashes for a pending
+/// call) continues past the column; `before` is true if a bar was drawn up to the column.
 fn put_cell(
     row: &mut String,
     column: &Column,
@@ -181,8 +180,8 @@ fn fit(
     Ok(())
 }
 
-/// Computes the columns for the moments (positions in the history) in `window`, and drops columns from the end until
-/// the rows fit.
+/// Computes the columns for the moments (positions in the history) in `window` that fit into `width` characters. If
+/// some do not fit and the order is rejected, the columns start at the call that the reason names.
 fn fitted(
     alloc: Global,
     picture: &Picture,
