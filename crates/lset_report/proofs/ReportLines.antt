@@ -69,8 +69,8 @@ IsNext v r l = IsLine v l × Reaches (section_after l) r
 abbrev Known : Version → ReportValue → LineKind Line → Type 0
 Known v r = Knows v pieces_of (IsNext v r)
 
--- Returns the line of a call that ends with `o` (a reply, and the moment of the reply as a position in the history).
--- `o` is `None` if the call is pending.
+-- Returns the line of a call. `o` is the end of the call: its moment (a position in the history) and its reply, or
+-- `None` if the call is pending.
 abbrev call_with : CallWord → ℕ → ℕ → ℕ → ℕ → Option (ℕ × Reply) → Line
 call_with w n t k b o = told.Call n (record { thread = t; call = with_key w (record { 0 = k }); begun = b; ended = o })
 

@@ -36,8 +36,8 @@ use Rattle.lset_report.specs.ReportReader.{so_far, state, IsFull}
 
 -- ---- Lemmas about the checks that each line must pass
 
--- Holds if a line can follow the report `r`. The section of the line must not be full, an opening key (a key at the
--- start) must be greater than the previous opening key, and a call must be able to follow the previous calls.
+-- Holds if a line can follow the lines of the report `r`: the line's section is not full, an opening key (a key at the
+-- start) is greater than the previous one, and a call can follow the previous calls.
 abbrev pub IsGood : ReportValue → Line → Type 0
 IsGood r (Opening k) = (length r.history.opening.keys < MOST_OPENING) × (is_above r.history.opening.keys k ≡ true)
 IsGood r (Call number x) =

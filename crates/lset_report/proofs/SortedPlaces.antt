@@ -1,5 +1,5 @@
--- Proof: sorting by linearization point is stable. If the entries are given in the order of their call numbers, the
--- result has the order that the definition [Placement] requires.
+-- Proof: if the entries of an order are given by increasing call number, a stable sort by linearization point yields
+-- the order that the definition [Placement] requires.
 use Rattle.std.proofs.Common.{◌≡◌, ℕ, ◌<◌, ◌≤◌, ◌⊎◌, inl, inr, Bool, true, false, not, ◌&&◌, List, [], ◌∷◌, refl, sym, ◌∙◌, arith}
 use Rattle.std.specs.Prelude.{◌==◌, if◌then◌else◌, AllPairs}
 use Rattle.std.specs.List.{filter, AllByRecursion}

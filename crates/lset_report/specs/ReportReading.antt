@@ -104,26 +104,28 @@ key_kind = (piece.word (codes "key") ∷ piece.any ∷ [], λ t. told.Key t.1.0)
 abbrev pub end_kind : LineKind ReportLine
 end_kind = (piece.word (codes "end") ∷ [], λ t. told.End)
 
--- Returns the kinds of lines that are allowed in the section of the final keys. The sections of a report have a fixed
--- order, and any section can be empty.
+-- Returns the kinds of lines that can come next in the section of the final keys: another key, or the last line `end`.
+-- (The sections of a report have a fixed order, and any section can be empty.)
 abbrev pub from_keys : List (LineKind ReportLine)
 from_keys = key_kind ∷ end_kind ∷ []
 
--- Returns the kinds of lines that are allowed in the section of the order.
+-- Returns the kinds of lines that can come next in the section of the order: another entry of the order, or a line of a
+-- later section.
 abbrev pub from_order : List (LineKind ReportLine)
 from_order = place_kind ∷ from_keys
 
--- Returns the kinds of lines that are allowed in the section of the calls.
+-- Returns the kinds of lines that can come next in the section of the calls: another call, pending or ended, or a line
+-- of a later section.
 abbrev pub from_calls : List (LineKind ReportLine)
 from_calls = open_kind ∷ ended_kind ∷ from_order
 
--- Returns the kinds of lines that are allowed in the section of opening keys (the keys at the start). Only version 2 of
--- the format has lines for opening keys.
+-- Returns the kinds of lines that can come next in the section of opening keys (the keys at the start): in version 2
+-- another opening key, and in either version a line of a later section.
 abbrev pub from_opening : Version → List (LineKind ReportLine)
 from_opening One = from_calls
 from_opening Two = opening_kind ∷ from_calls
 
--- Returns the kinds of lines that are allowed when the reader has reached the given section.
+-- Returns the kinds of lines that can come next when the reader has reached the given section.
 abbrev pub kinds : Version → Section → List (LineKind ReportLine)
 kinds version section.Opening = from_opening version
 kinds version section.Calls = from_calls
@@ -189,9 +191,9 @@ following r number x l = if is_next r number x then Ok l else Err wrong.History
 abbrev pub increasing : ReportValue → ℕ → ReportLine → Result ReportLine Cause
 increasing r k l = if is_above r.history.opening.keys k then Ok l else Err wrong.Opening
 
--- Returns the line if it can follow the report `r`, otherwise the cause of the error. The section of the line must not
--- be full. An opening key (a key at the start) must be greater than the previous opening key. A call must be able to
--- follow the previous calls.
+-- Returns the line if it can follow the lines of the report `r`. Otherwise returns the cause: `TooMany` if the line's
+-- section is full, `Opening` if an opening key (a key at the start) is not greater than the previous one, or `History`
+-- if a call cannot follow the previous calls.
 abbrev pub judged : ReportValue → ReportLine → Result ReportLine Cause
 judged r (told.Opening k) = counted MOST_OPENING (length r.history.opening.keys) (told.Opening k) >>= increasing r k
 judged r (told.Call number x) = counted MOST_CALLS (length r.history.calls) (told.Call number x) >>= following r number x

@@ -89,9 +89,9 @@ impl Reader {
         number as usize == self.calls.history.calls().len() && self.calls.may_follow(made)
     }
 
-    /// Returns the line if it can follow the lines read so far, otherwise the cause of the error. The section of the
-    /// line must not be full. An opening key (a key at the start) must be greater than the previous opening key, and a
-    /// call must be able to follow the previous calls.
+    /// Returns the line if it can follow the lines read so far. Otherwise returns the cause: `TooMany` if the line's
+    /// section is full, `Opening` if an opening key (a key at the start) is not greater than the previous one, or
+    /// `History` if a call cannot follow the previous calls.
     fn judged(&self, line: Line) -> Result<Line, Cause>
         ensures { result ≡ judged (so_far self.now) line }
     {

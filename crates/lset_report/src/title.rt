@@ -3,7 +3,6 @@ ghost use Rattle.lset_report.specs.Texts.{title};
 
 use lset_text::Version;
 
-/// The first line of a report in version 1 of the format.
 const TITLE_ONE: &str = "listset-report 1";
 
 /// The first line of a report in version 2 of the format, which adds opening keys (the keys at the start), and

@@ -72,9 +72,9 @@ impl CallsSoFar {
         }
     }
 
-    /// Returns whether the call `made` can follow the calls read so far. After the start of the last call, no call
-    /// starts, and only the last calls of threads end. Therefore the start and the end of `made` are compared only with
-    /// the ends of the threads' last calls. The other positions in the history are not stored.
+    /// Returns whether the call `made` can follow the calls read so far. After `last_begun`, the only positions of the
+    /// history that are taken are ends of threads' last calls, so the start and the end of `made` are compared only
+    /// with these ends.
     pub fn may_follow(&self, made: CallRecord) -> bool
         ensures { result ≡ may_follow self.now.history.opening.threads self.now.history.calls made }
     {
