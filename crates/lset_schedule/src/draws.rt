@@ -73,7 +73,8 @@ fn program(
     draw_calls(alloc, calls, keys, &mut rng)
 }
 
-/// Returns the layout of an initially empty set. Returns the first error that `generate` finds in the same arguments.
+/// Checks the arguments of `generate`, and returns the layout (the sizes) of an initially empty set for them. The error
+/// is the first that applies: `Threads`, `Quota` or `Keys`.
 pub(crate) fn layout_to_draw(threads: u32, quota: u32, keys: u32) -> Result<Layout, GenFault>
     ensures sizes { IfOk result (λ l. l ≡ record { threads = threads; quota = quota; opening = 0 }) }
     ensures accepted { IfOk result (λ _. IsAccepted threads quota keys) }

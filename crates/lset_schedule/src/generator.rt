@@ -62,8 +62,9 @@ fn is_over<M: Machine>(world: &World<M>, threads: u32, events: usize, left: u32)
     left == 0 && !has_open_call(world, threads)
 }
 
-/// Returns the event of a turn for `thread`: a step if the thread has a pending call, otherwise the start of a random
-/// call. Returns `None` if the thread has no pending call and `left`, the number of calls that can still begin, is 0.
+/// Returns the next event of `thread`, which was selected at random: a step if the thread has a pending call, otherwise
+/// the start of a random call. Returns `None` if the thread has no pending call and `left`, the number of calls that
+/// can still begin, is 0.
 fn next_event<M: Machine, R: Rng>(
     world: &World<M>,
     thread: u32,
@@ -94,7 +95,8 @@ fn make<M: Machine>(world: &mut World<M>, event: Event)
     let _told = world.step(event).unwrap();
 }
 
-/// Draws the lines of a random schedule, in at most 100,000 turns.
+/// Draws the lines of a random schedule, one event on each line. Selects a thread at random at most `MOST_TURNS` times,
+/// and draws at most one event of the thread each time.
 fn generated_lines<M: Machine, R: Rng>(
     alloc: Global,
     layout: Layout,

@@ -3,7 +3,7 @@
 #![tactic(auto)]
 
 mod body; // reads opening keys and event lines
-mod content; // the type `Body`, which holds them
+mod content; // the type `Body`: header, opening keys and event lines
 mod draws; // random calls, and `programs` of calls
 mod gen_fault; // the errors of `generate` and `programs`
 mod generator; // `generate`, which draws a random schedule
