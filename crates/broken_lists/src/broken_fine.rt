@@ -1,5 +1,5 @@
-//! Implements the steps of two broken FineLists (lists without one of their checks). In the first list, `remove` locks
-//! only one node. In the second list, walks unlock a node before they lock the next node.
+//! Implements the steps of two broken FineLists (lists without one of their checks). In the first list, `remove` does
+//! not lock the node that it unlinks. In the second list, a walk unlocks a node before it locks the next node.
 ghost use Rattle.lset_steps.specs.Rows.{IsSmall};
 
 use lset_fine::fed_by;
@@ -47,8 +47,8 @@ fn through_row_14(local: Local) -> Local {
     }
 }
 
-/// Returns a thread's state after a step of a FineList whose walk unlocks `pred` before it locks `curr`. Row 14 of the
-/// list's step table unlocks `pred`. `seen` is the value that the step read or wrote.
+/// Returns a thread's state after a step of a FineList whose walk unlocks `pred` before it locks `curr`. Only this list
+/// has row 14 in its step table, which unlocks `pred`. `seen` is the value that the step read or wrote.
 pub(crate) fn fed_pred_first(local: &Local, seen: u64) -> Fed
     requires { IsSmall local.now }
 {

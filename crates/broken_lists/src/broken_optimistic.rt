@@ -13,8 +13,8 @@ fn past_the_walk(local: Local) -> Local {
     }
 }
 
-/// Returns a thread's state after a step of an OptimisticList without a second walk. The validation only checks that
-/// `pred` links to `curr`.
+/// Returns a thread's state after a step of an OptimisticList without a second walk from the head. The validation (the
+/// check after both nodes are locked) only checks that `pred` links to `curr`.
 pub(crate) fn fed_without_walk(local: &Local, seen: u64) -> Fed
     requires { IsSmall local.now }
 {
@@ -25,8 +25,9 @@ pub(crate) fn fed_without_walk(local: &Local, seen: u64) -> Fed
     }
 }
 
-/// Returns a thread's state after its second walk has loaded a key, in an OptimisticList that compares keys instead of
-/// nodes. The second walk ends at the first key that is not smaller than the key of `pred`.
+/// Returns a thread's state after its second walk has loaded the key `seen`, in an OptimisticList that compares keys
+/// instead of nodes. The walk arrives if `seen` is the key of `pred`, fails if `seen` is greater, and continues if
+/// `seen` is smaller.
 pub(crate) fn arrived_by_key(seen: u64, local: &Local) -> Local {
     if local.pkey < seen {
         Local {

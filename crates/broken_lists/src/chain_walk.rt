@@ -8,7 +8,7 @@ use lset_words::{key_index, link_index};
 use std::alloc::{AllocError, Global};
 use std::collections::BTreeSet;
 
-/// An invalid node number, greater than any node number of a list. A walk along the links stops at `NO_NODE`.
+/// 2^32, which is greater than every node number and every key of a list. A walk along the links stops at this number.
 const NO_NODE: u64 = 1 << 32;
 
 /// A node that a walk along the links has reached: its key, its mark, and the number of the node to which it links.
@@ -23,7 +23,7 @@ fn word_at(words: &[u64], index: u64) -> u64 {
     words.get(index as usize).copied().unwrap_or(0)
 }
 
-/// Returns whether the list contains node `node`, and `node` is neither the head nor the tail.
+/// Returns whether the list has a node with the number `node` that is neither the head nor the tail.
 fn is_met(words: &[u64], node: u64) -> bool
     ensures { IsTrue result → node < 2 ^ 32 }
 {

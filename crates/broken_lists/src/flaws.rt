@@ -1,5 +1,5 @@
-//! Implements the steps of the broken lists (lists without one of their checks). In each `match`, the flaw is in the
-//! arm that does not call the function of the intact list.
+//! Implements the steps of the broken lists (lists without one of their checks). In each `match`, an arm without a flaw
+//! passes the arguments unchanged to the function of the intact list.
 //!
 //! Steps are defined for every thread state with small numbers (`IsSmall`), even for a state that no run reaches.
 //! `seen` is the value that a load read, a store wrote, or a compare-and-exchange found.
@@ -16,8 +16,8 @@ use lset_steps::rows::{begun as begun_at, lock_index};
 use lset_steps::{Action, Fed, Local};
 use lset_words::{Call, Key};
 
-/// Returns the value that a thread uses if it overlooks the mark at row `row` of its step table. At row `row`, the
-/// value is `seen` with the lowest bit (the mark) cleared. At any other row, the value is `seen` itself.
+/// Returns the value that a thread uses if it overlooks the mark at row `row` of its step table: `seen` without its
+/// lowest bit, the mark. At any other row, returns `seen` unchanged.
 fn without_mark(row: u8, local: &Local, seen: u64) -> u64 {
     if local.pc == row {
         2 * (seen / 2)

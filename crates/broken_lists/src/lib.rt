@@ -11,7 +11,7 @@ mod broken_optimistic; // the steps of broken OptimisticLists
 mod broken_reports; // reports of schedules on broken lists
 mod broken_runs; // creates a broken list for a schedule
 mod broken_world; // a broken list during a run
-mod chain_walk; // walks along the links of nodes
+mod chain_walk; // the nodes of a broken list, from head to tail
 mod flaws; // the steps of all broken lists
 mod lists; // the names of the broken lists
 

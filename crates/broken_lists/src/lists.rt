@@ -9,11 +9,11 @@ pub enum BrokenList {
     SecondLock,
     /// FineList: a walk unlocks `pred` before it locks `curr`.
     HandOverHand,
-    /// OptimisticList: the validation checks only that `pred` links to `curr`.
+    /// OptimisticList: the validation (the check of the two locked nodes) checks only that `pred` links to `curr`.
     SecondWalk,
     /// OptimisticList: the second walk compares keys instead of nodes.
     SameNode,
-    /// LazyList: the validation ignores marks.
+    /// LazyList: the validation (the check of the two locked nodes) ignores marks.
     MarksInValidation,
     /// LazyList: `contains` ignores the mark.
     MarkInContains,
@@ -23,7 +23,7 @@ pub enum BrokenList {
     Mark,
     /// LockFreeList: `add` replaces `pred`'s link even if `pred` is marked.
     MarkInAdd,
-    /// LockFreeList: `remove` also marks a node that another call has already marked.
+    /// LockFreeList: `remove` also succeeds if another call has already marked the node.
     MarkInRemove,
     /// LockFreeList: `contains` compares keys and ignores the mark.
     MarkAtKey,
