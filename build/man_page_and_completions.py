@@ -80,7 +80,7 @@ def quoted(text):
 
 
 def entry(name, text):
-    """Returns a list entry in roff: the name `it`, and the first line of the text about it."""
+    """Returns an entry of a list in roff: `name`, and `text` (the first line of its description) unless it is empty."""
     return [".TP", f"\\fB{quoted(name)}\\fR", *([quoted(text)] if text else [])]
 
 

@@ -1,5 +1,5 @@
 //! Tests of the number of steps that each call takes. A call reports every step to its `Pause`, except the step that
-//! determines the reply.
+//! ends the call.
 
 use crate::opened::two_seats;
 use crate::prelude::*;

@@ -1,6 +1,6 @@
 //! Tests of two calls at the same time, from two seats (per-thread handles to the set). One call stops between two of
-//! its steps until the other call has ended, or has failed three times to take a step. Each case runs twice: with the
-//! loops of the list, and with the interpreter of the list's step table.
+//! its steps until the other call has ended or waits (three of its compare-and-exchanges have failed). Each case runs
+//! twice: with the loops of the list, and with the interpreter of the list's step table.
 
 use crate::meeting::{calls, comes};
 use crate::opened::two_seats_on;
@@ -10,7 +10,8 @@ use crate::prelude::*;
 const NEVER: u64 = u64::MAX;
 
 /// A test thread: the step (counted from 0) after which it stops, how many steps its call has reported to the `Pause`,
-/// how many of these steps failed, whether the thread has stopped, and whether its call has ended.
+/// how many of these steps were failed compare-and-exchanges, whether the thread has stopped, and whether its call has
+/// ended.
 #[derive(Drop)]
 struct Told {
     stops_at: u64,
@@ -47,8 +48,8 @@ impl Told {
         self.failed.load(Ordering::SeqCst) >= 3
     }
 
-    /// Returns the number of reported steps, and the number of failed steps among them. The step that determines the
-    /// reply is not reported.
+    /// Returns the number of reported steps, and the number of failed steps among them. The step that ends the call is
+    /// not reported.
     fn counts(&self) -> (u64, u64) {
         let steps = self.steps.load(Ordering::SeqCst);
         (steps, self.failed.load(Ordering::SeqCst))
@@ -143,8 +144,8 @@ fn both_call<M: Running + Send + Sync, R: Host>(
 }
 
 /// A call from one seat (per-thread handle to the set) and its expected results. The fields are the call, the step
-/// after which the call stops (counted from 0), its reply, the number of its steps before the reply, and the number of
-/// failed steps among them.
+/// after which the call stops (counted from 0), its reply, the number of its steps before the last one, and the number
+/// of failed steps among them.
 type Part = (Call, u64, Reply, u64, u64);
 
 fn is_as_told<M: Running + Send + Sync, R: Host>(

@@ -57,7 +57,7 @@ export function readVerdict({ text }) {
   const callBehind = (word) => (find(word) === null ? null : callOfRecording(find(word).slice(`${word} `.length)));
   const why = {
     key: key === null ? null : Number(key),
-    moment, // the calls until this moment have no order; null: the calls have one, but no order leaves the key as recorded
+    moment, // the calls on the key up to this moment have no order; null if all its calls have one, but none that leaves the key in its recorded state
     // Two calls that contradict each other. `isPresent` is true if the first call leaves the key present. If `first` is null, the opening keys contradict the
     // second call. If `second` is null, the final keys contradict the first call.
     clash: was === null ? null : { isPresent: was === "true", first: callBehind("first"), second: callBehind("second") },

@@ -25,8 +25,8 @@ export function keepNow() {
   if (visit.isRead) setAddress();
 }
 
-// Adds an entry to the browser's history for a new task or place, but not for a step. If the state has no address, the entry stores the text of the state's
-// run.
+// Updates the address bar. A new task or place gets an entry of its own in the browser's history, a step does not. If the state has no address, the entry
+// stores the text of the state's run.
 function setAddress() {
   const address = addressHere();
   const entry = entryOf(now);

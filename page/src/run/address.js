@@ -114,7 +114,7 @@ export const warningOf = (link) =>
 
 // ---- Numbered runs: the engine generates a schedule from a number. All readers get the same run for the same number.
 const TRIES = 200;
-const MOST_TRIED_CALLS = 8; // of a seed; for more calls, the first generated schedule is used
+const MOST_TRIED_CALLS = 8; // calls of a seed; if it has more, the first generated schedule is used, interesting or not
 const MOST_SEEN = 60; // events; in a longer run, a reader cannot distinguish the events
 
 // Returns the seed of a numbered run that is small enough to judge by eye: five calls of two threads on two keys.
@@ -126,7 +126,8 @@ export function partsOfSeed(seed) {
   return { kind, threads, calls, keys, number };
 }
 
-// Returns the schedule of a seed: the first interesting schedule of those that the engine generates for the seed.
+// Returns the schedule of a seed. The engine generates up to TRIES schedules for the seed; the first interesting one is returned or, if none is interesting,
+// the last.
 export function scheduleOfSeed(ask, seed) {
   const { kind, threads, calls, keys, number } = partsOfSeed(seed);
   const tries = calls > MOST_TRIED_CALLS ? 1 : TRIES;
@@ -142,7 +143,8 @@ export function scheduleOfSeed(ask, seed) {
   return joined(text);
 }
 
-// Returns whether a run is interesting: it adds a key, it removes a key, and some call that is a `contains` or returns false overlaps a call of another thread.
+// Returns whether a run is interesting: all its calls return within MOST_SEEN events, it adds a key, it removes a key, and some call that changes nothing (a
+// `contains`, or a call that returns false) overlaps a call of another thread.
 function isWorthIt({ calls, changes, total }) {
   const puts = changes.some(({ put }) => put !== undefined) && changes.some(({ took }) => took !== undefined);
   const isBeside = (one, other) => one.thread !== other.thread && one.begun < other.ended && other.begun < one.ended;

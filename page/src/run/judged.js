@@ -35,7 +35,7 @@ export function repliesOf(exercise, { operation }) {
 export class OwnAnswer {
   constructor(exercise) {
     this.exercise = exercise;
-    this.points = new Map(); // for each placed call, by number: its moment `at`, and the turn of its placement (from 0)
+    this.points = new Map(); // maps the number of each placed call to its moment `at`, and to the number of placements before it (`turn`)
     this.replies = new Map();
     this.turn = 0;
   }
@@ -53,7 +53,8 @@ export class OwnAnswer {
     this.replies.set(call.id, reply);
   }
 
-  // Returns the reply that a call has in the reader's order. A pending call has no reply in the history, but is in the order if it has changed the set.
+  // Returns the reply that a call has in the reader's order, or null if the reader has not chosen it yet. A pending call has no reply in the history, but is in
+  // the order if it has changed the set.
   replyOf(call) {
     if (call.ended === null) return openReply;
     return this.exercise.level === "replies" ? (this.replies.get(call.id) ?? null) : call.reply;
@@ -66,7 +67,7 @@ export class OwnAnswer {
     return placed.map(({ call, at }) => ({ call, at, reply: this.replyOf(call) }));
   }
 
-  // Returns the calls whose moment or reply is missing in the reader's answer. Calls with the same name are distinguished by their first events.
+  // Returns the completed calls whose moment or reply is missing in the reader's answer. Calls with the same name are distinguished by their first events.
   unsaid() {
     const { calls } = this.exercise;
     const nameIn = (call) => nameOfCall(call) + (calls.filter((other) => nameOfCall(other) === nameOfCall(call)).length > 1 ? ` from event ${call.begun}` : "");

@@ -48,7 +48,8 @@ export function eventsAsked(text) {
 const MOST_TRIED = 1000; // steps that are tried until a thread reaches its row
 const DRAFT_LINE = /^go \d+ (?:out|to \d+)$/m;
 
-// Returns the schedule of a draft, or the engine's message about the draft's first error. The engine reads drafts of correct lists only.
+// Returns the schedule of a draft, or the message about the draft's first error. The engine expands drafts of correct lists only; this module expands drafts of
+// the broken list `lacks`.
 export function scheduleOfDraft(ask, text, lacks = null) {
   if (!DRAFT_LINE.test(text)) return { text, fault: null };
   if (lacks !== null) return scheduleOfLackingDraft(ask, lacks, text);
@@ -57,7 +58,7 @@ export function scheduleOfDraft(ask, text, lacks = null) {
 }
 
 // Returns how many steps a thread of a broken list needs to reach `row`, or to end its call if `row` is undefined. Returns an error if the thread does not get
-// so far.
+// so far within MOST_TRIED steps.
 function stepsOfLacking(ask, lacks, lines, thread, row) {
   const { text } = ask("listset_lacking", lacks, `${[...lines, `go ${thread} ${MOST_TRIED}`].join("\n")}\n`, "trace");
   if (!isTrace(text)) return { count: null, fault: text.trim() };

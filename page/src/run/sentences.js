@@ -23,7 +23,8 @@ function lockText(event) {
   return isFailed(event) ? `tries to lock ${name}, but ${holderOf(event.saw)} holds it. It will try again.` : `locks ${name}.`;
 }
 
-// Writes the reply of a call, and the event of the call's effect. `hidden` names the parts that a reader who judges the run must not see.
+// If a call returns in the event, writes its reply, and the event in which it took effect. `hidden` names the parts that a reader who judges the run must not
+// see.
 function effectText({ trace, event }, hidden) {
   const { call } = event;
   if (event.answer === undefined) return "";

@@ -93,7 +93,8 @@ const newNode = () => ({ key: "-inf", link: "head", lock: "free", reached: false
 export const isWritten = (node) => node.key !== "-inf" || node.link !== "head" || node.lock !== "free";
 export const ownerOf = (trace, name) => Math.floor((Number(name.slice(1)) - 2) / trace.quota);
 
-// Returns the contents of the set from event `first` to event `last` as parts { from, to, keys }. Within a part, the contents do not change.
+// Returns the contents of the set from event `first` to event `last` as parts { from, to, keys }. From event `from` until just before event `to`, the contents
+// do not change.
 export function contentsIn(trace, first, last) {
   const keys = new Set(trace.opening);
   const part = (from) => ({ from, to: last + 1, keys: [...keys].sort((one, other) => one - other) });

@@ -57,7 +57,7 @@ export class Placing {
     return answer;
   }
 
-  // Returns the verdict of `check` if all moments are placed, otherwise null.
+  // Returns the verdict of `check` if the moments of all completed calls are placed, otherwise null.
   verdict() {
     const { answer } = this;
     return answer.unsaid().length > 0 ? null : verdictOn(askNow, answer);

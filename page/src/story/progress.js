@@ -13,7 +13,7 @@ const NOTHING = { at: 1, done: {}, asks: {}, student: "", number: "", homework: 
 /** @returns {{ at: number, done: Record<string, boolean>, asks: Record<string, string>, student: string, number: string, homework: any }} */
 export const keptStory = () => ({ ...NOTHING, ...keptUnder(STORY) });
 export const keepStory = (change) => keepUnder(STORY, { ...keptStory(), ...change });
-// The stored orders that were judged right, as lines of a hand-in, by run and level.
+// The name under which the browser stores the orders that were judged right: for each run and level, the line of a hand-in.
 const JUDGED = "listset-judged";
 export const judgedLines = () => Object.fromEntries(textsKept(keptUnder(JUDGED)));
 export const keepJudged = (run, line) => keepUnder(JUDGED, { ...keptUnder(JUDGED), [run]: line });

@@ -35,7 +35,8 @@ export class Sides {
     this.sides = kinds.map((list) => ({ run: new LiveRun({ list, threads: program.length, quota, opening }), counts: [0] }));
   }
 
-  // Returns the thread's next schedule line in each list (null in a list where the thread waits), or null if the thread has no more calls.
+  // Returns the thread's next schedule line in each list, or null if the thread has no more calls. The line is null in a list where the thread's call has
+  // already returned while it is pending in the other list.
   linesOf(thread) {
     if (thread >= this.program.length) return null;
     const isIdle = this.sides.map(({ run }) => run.isIdle(thread));
