@@ -27,8 +27,8 @@ fn with_one_lock(call: Call, local: Local) -> Local {
     }
 }
 
-/// Returns a thread's state after a step of a FineList whose `remove` locks `pred` but not `curr`. `seen` is the value
-/// that the step read or wrote.
+/// Returns a thread's state after a step of a FineList whose `remove` locks `pred` but not `curr`, the node that it
+/// unlinks. `seen` is the value that the step read or wrote.
 pub(crate) fn fed_with_one_lock(local: &Local, seen: u64) -> Fed
     requires { IsSmall local.now }
 {
@@ -47,8 +47,9 @@ fn through_row_14(local: Local) -> Local {
     }
 }
 
-/// Returns a thread's state after a step of a FineList whose walk unlocks `pred` before it locks `curr`. Only this list
-/// has row 14 in its step table, which unlocks `pred`. `seen` is the value that the step read or wrote.
+/// Returns a thread's state after a step of a FineList whose walk unlocks `pred` before it locks `curr`. Row 14, which
+/// the step table of the intact FineList does not have, unlocks `pred`. `seen` is the value that the step read or
+/// wrote.
 pub(crate) fn fed_pred_first(local: &Local, seen: u64) -> Fed
     requires { IsSmall local.now }
 {

@@ -5,27 +5,29 @@ use lset_words::Kind;
 pub enum BrokenList {
     /// CoarseList: a call continues even if it did not get the lock.
     Lock,
-    /// FineList: `remove` locks only `pred`.
+    /// FineList: `remove` locks only the node before the node that it unlinks.
     SecondLock,
-    /// FineList: a walk unlocks `pred` before it locks `curr`.
+    /// FineList: a walk unlocks a node before it locks the next node.
     HandOverHand,
-    /// OptimisticList: the validation (the check of the two locked nodes) checks only that `pred` links to `curr`.
+    /// OptimisticList: the validation (the check of the two locked nodes) checks only that the first node links to the
+    /// second.
     SecondWalk,
-    /// OptimisticList: the second walk compares keys instead of nodes.
+    /// OptimisticList: the second walk, which checks that the first locked node is still in the list, compares keys
+    /// instead of nodes.
     SameNode,
-    /// LazyList: the validation (the check of the two locked nodes) ignores marks.
+    /// LazyList: the validation (the check of the two locked nodes) ignores the marks of the nodes.
     MarksInValidation,
-    /// LazyList: `contains` ignores the mark.
+    /// LazyList: `contains` ignores the mark of the node with its key.
     MarkInContains,
-    /// LazyList: `ceiling` ignores marks.
+    /// LazyList: `ceiling` ignores the mark of the node at which it stops.
     MarkInCeiling,
     /// LockFreeList: `remove` unlinks a node without first marking the node.
     Mark,
-    /// LockFreeList: `add` replaces `pred`'s link even if `pred` is marked.
+    /// LockFreeList: `add` replaces the link of a node even if that node is marked.
     MarkInAdd,
     /// LockFreeList: `remove` also succeeds if another call has already marked the node.
     MarkInRemove,
-    /// LockFreeList: `contains` compares keys and ignores the mark.
+    /// LockFreeList: `contains` ignores the mark of the node with its key.
     MarkAtKey,
     /// LockFreeList: every `add` of a thread reuses the thread's first node.
     NewSlot,

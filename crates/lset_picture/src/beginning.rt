@@ -32,8 +32,9 @@ fn first_begun(calls: &[CallRecord], key: u32) -> Option<u32> {
 }
 
 /// Returns the moment (a position in the history, from 1) at which the picture of a rejected order starts: the start of
-/// the call that the reason names or, of two named calls, of the one that had ended first. If the final keys are wrong,
-/// it is the start of the first call on the smallest differing key; `None` if there is no such call.
+/// the call that the reason names or, of two named calls, of the call that had ended before the other started. If the
+/// final keys are wrong, it is the start of the first call on the smallest differing key. Returns `None` if there is no
+/// such call.
 pub(crate) fn clash_begins(picture: &Picture) -> Option<u32> {
     let calls = picture.history.calls();
     match &picture.refusal {

@@ -171,7 +171,7 @@ fn put_end(
 }
 
 /// Adds a line, with its texts, for each call that overlaps the drawn moments (positions in the history). A call that
-/// contradicts the order gets the class ` clash`, so it is thick and red.
+/// contradicts the order gets the CSS class `clash`, so it is thick and red.
 fn put_bars(
     alloc: Global,
     out: &mut String,

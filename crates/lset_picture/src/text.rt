@@ -181,7 +181,8 @@ fn fit(
 }
 
 /// Computes the columns for the moments (positions in the history) in `window` that fit into `width` characters. If
-/// some do not fit and the order is rejected, the columns start at the call that the reason names.
+/// `window` includes all moments, some do not fit, and the order is rejected, the columns start at the call that caused
+/// the rejection.
 fn fitted(
     alloc: Global,
     picture: &Picture,

@@ -127,7 +127,7 @@ impl Task for Replaying<'_> {
 /// `schedule` must be within the limits: 1 to 64 threads, a quota of 0 to 16,384 successful adds per thread, at most
 /// 1,048,576 opening keys in strictly increasing order, and at most 1,000,000 events. Every schedule from
 /// `read_schedule` is within the limits. The report has the version of the schedule. `write_report` accepts the report
-/// if the version has the schedule's calls and, if there are opening keys, lines for opening keys.
+/// if that version allows the schedule's calls and opening keys.
 ///
 /// A call that changed the set takes effect at the event of its change, even if the call is pending. Any other
 /// completed call takes effect at the first moment between its start and its end when its reply is correct.

@@ -19,8 +19,9 @@ pub trait Steps {
     /// Returns the private state of thread `t`, or `None` if there is no such thread.
     fn held(&self, t: u32) -> Option<Local>;
 
-    /// Returns the next access of thread `t` to a shared word, with the value that the access will find. Returns `None`
-    /// if the next step of `t` accesses no word.
+    /// Returns the next access of thread `t` to a shared word, and the value that a load will read, a store will write,
+    /// or a compare-and-exchange will find. Returns `None` if the thread does not exist or has no pending call or, on a
+    /// broken list (a list with one check removed), if the step would fail with `Lost`.
     fn ahead(&self, t: u32) -> Option<(Action, u64)>;
 
     /// Executes an event and returns its effect. An event that is not enabled changes nothing, and the error is
@@ -28,11 +29,11 @@ pub trait Steps {
     fn make(&mut self, event: Event) -> Result<Told, Cause>
         ensures { makes self.old event result self.new };
 
-    /// Visits the nodes from head to tail. Returns the key of each node, and whether the node is marked. Returns
-    /// `AllocError` if an allocation fails.
+    /// Returns the key of each node between head and tail, in the order of the links, and whether the node is marked.
+    /// Returns `AllocError` if an allocation fails.
     fn met(&self) -> Result<Vec<ChainKey>, AllocError>;
 
-    /// Returns the keys of the unmarked nodes from head to tail, in increasing order. Returns `AllocError` if an
+    /// Returns the keys of the unmarked nodes between head and tail, in increasing order. Returns `AllocError` if an
     /// allocation fails.
     fn keys(&self) -> Result<Vec<u32>, AllocError>;
 }

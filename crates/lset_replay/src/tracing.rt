@@ -23,7 +23,7 @@ fn is_node_word(word: u64) -> bool {
 }
 
 /// Returns whether an event writes the key or the link of a node. No other event can change which nodes are in the
-/// list.
+/// list, or their marks.
 fn writes_node(deed: Deed) -> bool {
     match deed {
         Deed::Begin(_) | Deed::Access(Action::Load(_), _) => false,
@@ -102,7 +102,7 @@ impl<W: Steps + Drop> TracedRun<W> {
     }
 
     /// Returns the private state of the event's thread before the event, and what the event will do. Returns `None` if
-    /// the thread does not exist or, for a step, if the thread has no next memory access.
+    /// the thread does not exist, or if the event is a step and the thread has no pending call.
     fn look(&self, event: Event) -> Option<(Local, Deed)> {
         let deed = match event {
             Event::Begin(_, call) => Deed::Begin(call),

@@ -37,7 +37,8 @@ use Rattle.lset_report.specs.Texts.{title, last_line, report_text}
 
 -- ---- Limits on the numbers in a report
 
--- Holds if a call is pending, or if the moment of its end is at most 4294967295 and the format version has its reply.
+-- Holds if a call is pending, or if the moment of its end is at most 4294967295 and the format version allows its
+-- reply.
 abbrev pub IsEnd : Version → Option (ℕ × Reply) → Type 0
 IsEnd version None = Unit {0}
 IsEnd version (Some end) = (end.0 < 2 ^ 32) × HasReply version end.1
@@ -55,9 +56,9 @@ most_keys One = MOST_KEYS
 most_keys Two = MOST_KEYS_OPENED
 
 -- Holds if the report can be written as text. A set can open with the report's thread count, quota (successful adds per
--- thread) and opening keys (the keys at the start). The report's calls are a history. The report's format version has
--- the opening keys, the calls and the replies. All numbers are within their limits, and so are the counts of calls,
--- entries and keys. The order and the final keys can be arbitrary.
+-- thread) and opening keys (the keys at the start). The report's calls are a history. The report's format version
+-- allows the opening keys, the calls and the replies. All numbers are within their limits, and so are the counts of
+-- calls, entries of the order, and final keys. The order and the final keys can be arbitrary.
 pub record IsReport (r : ReportValue) : Type 0 where
   pub opens : Opens r.history.opening
   pub opening : HasOpening r.version r.history.opening.keys

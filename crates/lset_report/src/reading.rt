@@ -221,8 +221,8 @@ fn report(alloc: Global, bytes: &[u8]) -> Result<Report, ReportFault>
 pub fn read_report(alloc: Global, bytes: &[u8]) -> Result<Report, ReportFault>
     // If a report is returned, its calls are a history, and `bytes` is the text of the report.
     ensures found { IfOk result (λ r. IsReport (view r) × (bytes.now ≡ report_text (view r))) }
-    // `write_report` can write every report that is returned: the report's version of the format has everything in the
-    // report.
+    // `write_report` can write every report that is returned: the report's version of the format allows everything in
+    // the report.
     ensures words { IfOk result (λ r. HasWordsOfVersion (view r)) }
     // If `bytes` is the text of a report, that report is returned, unless an allocation fails.
     ensures only { (r : ReportValue) → IsReport r → bytes.now ≡ report_text r

@@ -44,8 +44,8 @@ room_for_events : {L : Type 0} (b : Bool) (s t : BodyValue L) → cond b (Err To
 room_for_events true s t is = absurd cc
 room_for_events false s t is = (refl, ok_is s t is)
 
--- Holds if the content `s` can be written in version `v` of the format: `s` is within the limits, and `v` has the lines
--- and the opening keys (keys at the start) that `s` contains.
+-- Holds if the content `s` can be written in version `v` of the format: `s` is within the limits, and `v` allows the
+-- lines and the opening keys (keys at the start) that `s` contains.
 pub record HasText {L : Type 0} (text : EventLines L) (v : Version) (Good : L → Type 0) (s : BodyValue L) : Type 0 where
   pub opens : Opens (record { threads = s.header.threads; quota = s.header.quota; keys = s.keys })
   pub opening : HasOpening v s.keys

@@ -28,7 +28,7 @@ is_begin (line.Begin t call) = true
 is_begin (line.Go t steps) = false
 
 -- Holds if a line is a single event of a thread below `threads`. If the event begins a call, the key of the call must
--- be below `keys`, and version 1 of the format must have the call.
+-- be below `keys`, and version 1 of the format must allow the call.
 abbrev pub IsGeneratedLine : ℕ → ℕ → Line → Type 0
 IsGeneratedLine threads keys (line.Begin t call) = (t < threads) × ((key_of call).0 < keys) × HasCall One call
 IsGeneratedLine threads keys (line.Go t steps) = (t < threads) × (steps ≡ 1)

@@ -89,18 +89,18 @@ pub record IsSchedule (p : Plan) : Type 0 where
   pub lines : AllByRecursion (IsLine p.version) p.lines
   pub few : sum_by event_count p.lines ≤ MOST_EVENTS
 
--- ---- The calls that each version of the format has
+-- ---- The calls that each version of the format allows
 
 abbrev pub HasCallOfLine : Version → Line → Type 0
 HasCallOfLine version (Begin thread call) = HasCall version call
 HasCallOfLine version (Go thread steps) = Unit {0}
 
--- Holds if the format version of a schedule has all calls that the schedule begins.
+-- Holds if the format version of a schedule allows all calls that the schedule begins.
 abbrev pub HasCallsOfVersion : Plan → Type 0
 HasCallsOfVersion p = AllByRecursion (HasCallOfLine p.version) p.lines
 
--- Holds if a schedule can be written in its format version. The version must have all calls that the schedule begins.
--- If the schedule has opening keys (keys at the start), the version must also have lines for opening keys. Every
--- schedule that satisfies `IsSchedule` can be written (see proofs/VersionLaws.antt).
+-- Holds if a schedule can be written in its format version. The version must allow all calls that the schedule begins,
+-- and the opening keys (keys at the start), if there are any. Every schedule that satisfies `IsSchedule` can be written
+-- (see proofs/VersionLaws.antt).
 abbrev pub HasWordsOfVersion : Plan → Type 0
 HasWordsOfVersion p = HasOpening p.version p.opening × HasCallsOfVersion p

@@ -28,7 +28,7 @@ fn chosen(keys: u32, a: u32, b: u32) -> Call
     }
 }
 
-/// Draws a random call with a random key below `keys`. `keys` must be at least 1.
+/// Draws a random call with a random key below `keys`.
 #[tactic(auto, unfolding(crate::specs::Draws::drawn_call))]
 pub(crate) fn draw_call<R: Rng>(keys: u32, rng: &mut R) -> Call
     requires { 0 < keys }
@@ -41,7 +41,7 @@ pub(crate) fn draw_call<R: Rng>(keys: u32, rng: &mut R) -> Call
     chosen(keys, a, b)
 }
 
-/// Draws `calls` random calls with random keys below `keys`. `keys` must be at least 1.
+/// Draws `calls` random calls with random keys below `keys`.
 fn draw_calls<R: Rng>(
     alloc: Global,
     calls: u32,

@@ -86,7 +86,7 @@ fn next_event<M: Machine, R: Rng>(
     Some(Event::Begin(thread, draw_call(keys, rng)))
 }
 
-/// Executes one event on the list. The event must be enabled.
+/// Executes one event on the list.
 fn make<M: Machine>(world: &mut World<M>, event: Event)
     requires enabled { Enabled world.old.state event }
     requires threads { length world.old.state.locals ≡ world.old.sizes.threads }

@@ -41,8 +41,8 @@ fn put_lines(out: &mut String, lines: &[Line]) -> Result<(), AllocError>
 /// Returns the text of a schedule. If the schedule is within the limits, reading the text yields the schedule. Returns
 /// `AllocError` if an allocation fails.
 ///
-/// The schedule must contain only calls that its version has. In version 1, it must have no opening keys (keys at the
-/// start). Schedules from `read_schedule` and `generate` satisfy these conditions.
+/// The schedule must contain only calls that its version allows. In version 1, it must have no opening keys (keys at
+/// the start). Schedules from `read_schedule` and `generate` satisfy these conditions.
 pub fn write_schedule(alloc: Global, schedule: &Schedule) -> Result<Vec<u8>, AllocError>
     requires { HasWordsOfVersion (view schedule.now) }
     ensures { IfOk result (λ v. v.items ≡ schedule_text (view schedule.now)) }

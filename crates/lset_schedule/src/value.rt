@@ -7,7 +7,7 @@ use lset_words::{Call, Kind};
 
 /// A line of a schedule. `Begin(thread, call)`: the thread begins the call. `Go(thread, steps)`: the thread's pending
 /// call takes `steps` steps, 1 to 10,000. A `Begin` can contain any call, but `write_schedule` accepts only calls that
-/// the schedule's version has.
+/// the schedule's version allows.
 #[derive(Clone, Copy, Debug, PartialEq, Eq)]
 pub enum Line {
     Begin(u32, Call),

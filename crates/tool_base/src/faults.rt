@@ -139,7 +139,7 @@ pub struct FaultName {
 enum FaultLine {
     /// The title of a section, or the empty line before the title.
     Title,
-    /// The first line about a cause or a message. The line begins with the name of the cause or message.
+    /// The first line about a cause or a message: two spaces, the cause or message, and an explanation.
     Entry,
     /// A line that continues the text about a cause or a message.
     More,

@@ -368,8 +368,8 @@ fn needs_and_leaves(
     Ok(text)
 }
 
-/// Returns `, and no such add overlaps ` or `, and no such remove overlaps `. An `add` would bring the key into the
-/// state present, a `remove` into absent.
+/// Returns `, and no such add overlaps ` if a call would have to make the key present, otherwise `, and no such remove
+/// overlaps `.
 fn nor_text(alloc: Global, need: Presence) -> Result<Vec<u8>, AllocError>
     ensures { IfOk result (λ text. text.items ≡ lines.nor_text need) }
 {
@@ -379,8 +379,8 @@ fn nor_text(alloc: Global, need: Presence) -> Result<Vec<u8>, AllocError>
     }
 }
 
-/// Returns the words that state that no call that would bring the key into the state `need` overlaps the time from
-/// `from` to `to`. They are for the case that the first of two overlapping calls takes effect first.
+/// Returns a part of line 3 of a contradiction: `and no add K that returned true or is pending overlaps FROM to TO`,
+/// with `remove` if `need` is absent. It is for the case that the first of two overlapping calls takes effect first.
 #[tactic(auto, unfolding(crate::specs::Clashes::turned_there))]
 fn turned_there(
     alloc: Global,
@@ -397,8 +397,8 @@ fn turned_there(
     Ok(text)
 }
 
-/// Returns the words that state that no call that would bring the key into the state `back` overlaps the time from
-/// `from` to `to`. They are for the case that the second of two overlapping calls takes effect first.
+/// Returns a part of line 3 of a contradiction: `, and no such add overlaps FROM to TO`, with `remove` if `back` is
+/// absent. It is for the case that the second of two overlapping calls takes effect first.
 #[tactic(auto, unfolding(crate::specs::Clashes::turned_back))]
 fn turned_back(alloc: Global, back: Presence, from: u64, to: u64) -> Result<Vec<u8>, AllocError>
     ensures { IfOk result (λ text. text.items ≡ lines.turned_back back from to) }

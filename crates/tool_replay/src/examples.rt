@@ -13,9 +13,9 @@ pub(crate) struct Example {
     pub about: &'static str,
     /// The schedule's text.
     pub schedule: &'static str,
-    /// The report that the schedule would have on a list without the check that the example is about. `check` refuses
-    /// the report, because no order explains its calls and final keys. Six examples have one; for the others the field
-    /// is `None`.
+    /// A report that the list could produce if it lacked the check that the example is about. `check` refuses the
+    /// report, because no order explains its calls and final keys. Six examples have one; for the others the field is
+    /// `None`.
     pub broken_report: Option<&'static str>,
 }
 

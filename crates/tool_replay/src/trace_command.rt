@@ -34,9 +34,9 @@ impl Tool for Trace {
     }
 }
 
-/// Traces the schedule in `input` to `output`. Each event is written soon after it is executed, so the whole text is
-/// never in memory. Returns an answer without text. The answer's status is 1 if an event was refused, otherwise 0. If
-/// an allocation or a write fails, part of the trace can already have been written. Allocates.
+/// Traces the schedule in `input` to `output`. The text is written in pieces while the schedule runs, so it is not
+/// collected in memory. Returns an answer without text. The answer's status is 1 if an event was refused, otherwise 0.
+/// If an allocation or a write fails, part of the trace can already have been written. Allocates.
 pub fn trace_events<R: Read, W: Write>(
     alloc: Global,
     trace: Trace,

@@ -1,5 +1,5 @@
-//! A buffer of fixed size for the text of a trace. The buffer is emptied before it is too full for the next line, so
-//! appending a line does not allocate.
+//! A buffer of fixed size for the text of a trace. The buffer is emptied before it is too full for the next line, so a
+//! line is appended to the buffer without an allocation.
 use arrayvec::ArrayString;
 use itoa::Buffer;
 

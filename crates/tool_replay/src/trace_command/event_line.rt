@@ -129,7 +129,6 @@ fn put_end(out: &mut Chunk, number: u32, end: CallEnd) {
     put_number(out, u64::from(end.moment));
 }
 
-/// Appends the line of an event.
 pub(crate) fn put_event(out: &mut Chunk, event: &TracedEvent) {
     put(out, "event ");
     put_number(out, u64::from(event.moment));
