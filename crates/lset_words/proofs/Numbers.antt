@@ -9,14 +9,14 @@ same_or_not a b = grind arith
 pub below_or_not : (a b : ℕ) → (a < b) ⊎ (b ≤ a)
 below_or_not a b = grind arith
 
--- ---- Lemmas about the result of a test, given the order of two numbers
+-- ---- Lemmas: the Boolean result of comparing two numbers, given which number is smaller
 pub equal_test : (a b : ℕ) → a ≡ b → (a == b) ≡ true
 equal_test a b e = grind (arith, nat_tests)
 
 pub unequal_test : (a b : ℕ) → a ≢ b → (a == b) ≡ false
 unequal_test a b e = grind (arith, nat_tests)
 
--- ---- Lemmas about the order of two numbers, given the result of a test
+-- ---- Lemmas: which of two numbers is smaller, given the Boolean result of comparing them
 pub same_number : (a b : ℕ) → (a == b) ≡ true → a ≡ b
 same_number a b e = grind (arith, nat_tests)
 
@@ -29,7 +29,7 @@ lower_number a b e = grind (arith, nat_tests)
 pub not_lower_number : (a b : ℕ) → nat_lt a b ≡ false → b ≤ a
 not_lower_number a b e = grind (arith, nat_tests)
 
--- ---- Lemmas about a conditional, given the result of its test
+-- ---- Lemmas: the value of an `if` that compares two numbers, given which number is smaller
 pub if_same : {A : Type 0} (a b : ℕ) → a ≡ b → (x y : A) → (if a == b then x else y) ≡ x
 if_same a b e x y = grind (arith, nat_tests)
 

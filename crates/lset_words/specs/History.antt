@@ -26,7 +26,7 @@ pub record IsCall (threads : ℕ) (x : CallRecord) : Type 0 where
 pub record Follows (y x : CallRecord) : Type 0 where
   -- `y` begins before `x`.
   pub increasing : y.begun < x.begun
-  -- `x` and `y` begin and end at different moments.
+  -- The moments at which `x` and `y` begin and end are all different.
   pub begins_alone : IfSome y.ended (λ (e : ℕ × Reply). e.0 ≢ x.begun)
   pub ends_alone : IfSome x.ended (λ (e : ℕ × Reply). (e.0 ≢ y.begun) × IfSome y.ended (λ (d : ℕ × Reply). e.0 ≢ d.0))
   -- If one thread makes both calls, `y` ends before `x` begins.

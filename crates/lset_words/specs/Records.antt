@@ -50,7 +50,7 @@ NamesGathered u (gathered r g) = NamesGathered u r ⊎ Names u g
 abbrev pub calls_by : ℕ → List Answered → List Answered
 calls_by u order = filter (λ (a : Answered). a.thread == u) order
 
--- Converts a call in the record of thread `u` to an element of an order.
+-- Converts a call in the record of thread `u` to an element of an order of calls.
 abbrev pub placed_by : ℕ → CallMade → Answered
 placed_by u c = record { thread = u; call = c.call; reply = c.reply }
 

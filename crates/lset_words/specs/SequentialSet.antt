@@ -70,7 +70,8 @@ pub record Answered : Type 0 where
   pub call : Call
   pub reply : Reply
 
--- Holds if a set in state `s`, called in the given order, returns exactly the replies of the order.
+-- Holds if a set in state `s` returns the recorded reply to each call, when the calls are made in the order of the
+-- list.
 abbrev pub IsLegal : ℕ → SetState → List Answered → Type 0
 IsLegal quota s [] = Unit {0}
 IsLegal quota s (x ∷ xs) = (reply_to quota s x.thread x.call ≡ x.reply) × IsLegal quota (after_call s x.thread x.call x.reply) xs
