@@ -17,8 +17,8 @@ pub made_ok : {X Y : Type 0} (f : X → Y) (r : Result X Cause) (y : Y) → made
 made_ok f (Ok x) y e = (x, refl, ok_is (f x) y e)
 made_ok f (Err d) y e = absurd cc
 
--- Holds if a kind of line has a form (list of fields) that can be read back, and each value made from fields that the
--- version can spell has the property `Good` and is spelled by these fields.
+-- Holds if lines of the kind `k` can be read back. The form (list of fields) of `k` must be valid, and each value that
+-- `k` makes from fields that the version can spell must have the property `Good` and be spelled by these fields.
 abbrev pub Knows : {X : Type 0} → Version → (X → List (List ℕ)) → (X → Type 0) → LineKind X → Type 0
 Knows v pieces Good k = IsForm k.0 × ((t : Told k.0) → AllFit v k.0 t → (spell k.0 t ≡ pieces (k.1 t)) × Good (k.1 t))
 
@@ -65,8 +65,8 @@ line_found_lacks v none pieces Good ks line x known e =
     let found = line_found v none pieces (λ y. Lacks 10 (line_of (pieces y))) ks line x (lacks_too v pieces Good ks known) e in
     subst (Lacks 10) (sym found.0) found.1
 
--- Holds if some kind in the list can make the value `x`, and no earlier kind has a form (list of fields) that matches
--- the spelling of `x`.
+-- Holds if the value `x` can be read from a line of some kind in the list, and no earlier kind in the list has a form
+-- (list of fields) that matches the spelling of `x`.
 abbrev pub IsMade : {X : Type 0} → Version → (X → List (List ℕ)) → List (LineKind X) → X → Type 0
 IsMade v pieces [] x = ⊥
 IsMade v pieces (k ∷ ks) x =

@@ -1,5 +1,5 @@
--- The kinds of lines in a file, such as `begin` or `go`. A kind has a form (the list of its fields), and a function
--- that makes a value from the fields.
+-- The kinds of lines in a file, such as `begin` or `go`. A kind of line has a form (the list of the line's fields), and
+-- a function that computes the content of the line from the values of the fields.
 use Rattle.std.specs.Prelude.{ℕ, List, [], ◌∷◌, Result, Ok, Err, if◌then◌else◌}
 use Rattle.lset_text.specs.declared.words.Version.{Version}
 use Rattle.lset_text.specs.declared.causes.Cause.{Cause}
@@ -11,7 +11,7 @@ use Rattle.lset_text.specs.Results.{or_fail}
 abbrev pub LineKind : Type 0 → Type 0
 LineKind X = (f : Form) × (Told f → X)
 
--- Returns the kind of line that accepts the same lines as `k` and applies `f` to each value that `k` makes.
+-- Returns the kind of line that accepts the same lines as `k`. The content of a line is `f x` if it is `x` for `k`.
 abbrev pub kind_as : {X Y : Type 0} → (X → Y) → LineKind X → LineKind Y
 kind_as f k = (k.0, λ t. f (k.1 t))
 
@@ -19,9 +19,9 @@ abbrev pub made : {X Y : Type 0} → (X → Y) → Result X Cause → Result Y C
 made f (Ok x) = Ok (f x)
 made f (Err e) = Err e
 
--- Reads a line that was split into fields. The value comes from the first kind whose form (list of fields) matches the
--- line. If no kind matches, the line is refused with the cause `none`. If a kind matches, but a number in the line is
--- malformed or out of range, the line is refused with the cause `Number`.
+-- Reads a line that was split into fields, according to the first kind of line whose form (list of fields) matches.
+-- Returns the content of the line. Returns the error `none` if no form matches, and `Number` if a form matches but a
+-- number in the line is malformed or out of range.
 abbrev pub first_of : {X : Type 0} → Version → Cause → List (LineKind X) → List (List ℕ) → Result X Cause
 first_of v none [] pieces = Err none
 first_of v none (k ∷ ks) pieces =

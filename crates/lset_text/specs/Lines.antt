@@ -1,5 +1,5 @@
--- The reading of a text line by line. Each line changes a state, or is refused. The error contains the number of the
--- refused line.
+-- How a text is read line by line. Each line changes the state of the reader, or is refused. The error contains the
+-- number of the refused line.
 use Rattle.std.specs.Prelude.{◌≡◌, ℕ, ◌+◌, ◌<◌, ◌≤◌, ◌==◌, List, [], ◌∷◌, ◌++◌, length, Result, Ok, Err, if◌then◌else◌}
 use Rattle.lset_text.specs.declared.causes.Cause.{Cause}
 use Rattle.lset_text.specs.declared.causes.Cause.TheVariants.{NotEnded}
@@ -8,8 +8,8 @@ use Rattle.lset_text.specs.Causes.{fault}
 use Rattle.lset_text.specs.Parts.{cut_at}
 use Rattle.lset_text.specs.Results.{◌>>=◌, map_fault}
 
--- A grammar for the lines of a text. `step` returns the state after a line, or the cause if the line is refused. `ends`
--- determines whether the text can end in a given state.
+-- A grammar for the lines of a text. `step` returns the state after a line, or the cause of the error if the line is
+-- refused. `ends` returns the final state if the text can end in the given state, and the cause of the error otherwise.
 pub record Grammar (S : Type 0) : Type 0 where
   pub step : S → List ℕ → Result S Cause
   pub ends : S → Result S Cause

@@ -26,7 +26,7 @@ pub enum Cause {
     /// The field is not a number, or is out of range: `begin 0 add 05`, `go 0 10001`, `place 01 true`.
     Number,
     /// With this line, the file has too many events, opening keys, calls, `place` lines or `key` lines: the hundredth
-    /// line `go 0 10000` below a `begin`.
+    /// line `go 0 10000` (10,000 events) below a `begin`, since a file has at most 1,000,000 events.
     TooMany,
     /// The key is not above the opening key before it: `opening 9` twice.
     Opening,
@@ -39,12 +39,13 @@ pub enum Cause {
     NoThread,
     /// The thread already has a pending call: `begin 0 add 5`, then `begin 0 add 6`.
     Busy,
-    /// The thread has no pending call, for example in `go 0 8` if its call has only seven steps.
+    /// The thread has no pending call. This includes `go 0 8` (8 steps of thread 0) if the call of thread 0 ends after
+    /// 7 steps.
     Idle,
     /// A broken list (with a check removed) cannot execute this step, which would access a word outside its table.
     Lost,
-    /// The thread cannot reach the given step, for example in `go 1 out` if it waits for a lock that another thread
-    /// holds.
+    /// The thread cannot reach the given step: `go 1 out` (run thread 1 to the end of its call) if thread 1 waits for a
+    /// lock that another thread holds.
     Waits,
     /// An allocation failed at this line or above it. The program does not print the line: it prints `out of memory`.
     Memory,
