@@ -214,8 +214,8 @@ abbrev pub IsFrom : ℕ → Option ℕ → Type 0
 IsFrom key None = Unit {0}
 IsFrom key (Some k) = key ≤ k
 
--- Holds if each key from `key` to just below both `next` and `end` was absent at `moment` or is absent after the last
--- change.
+-- Holds if each key that is at least `key` and below both `next` and `end` was absent at `moment`, or is absent after
+-- the last change of the set. If `next` or `end` is `None`, it is no bound.
 abbrev pub CameUpTo : (ℕ → List ℕ) → ℕ → Option ℕ → Option ℕ → ℕ → Type 0
 CameUpTo changes key next end moment =
     (j : ℕ) → key ≤ j → IsBelow j next → IsBelow j end → is_present_now changes j ≡ true → is_present changes j moment ≡ false

@@ -8,7 +8,7 @@ use Rattle.std.proofs.lemmas.List.Elements.{All-get_or, All-from_get_or}
 use Rattle.lset_words.proofs.Numbers.{equal_test, unequal_test}
 use Rattle.lset_history.specs.Changes.{ChangesValue, moments_of, state_at, state_after, is_present, is_present_now, with_change}
 
--- Negates a `Bool` n times.
+-- Negates a `Bool` as many times as the first argument says.
 abbrev pub turned : ℕ → Bool → Bool
 turned zero b = b
 turned (suc i) b = turned i (not b)

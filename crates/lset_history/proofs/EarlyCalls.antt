@@ -10,8 +10,8 @@ use Rattle.lset_words.specs.declared.history.Placed.{Placed}
 use Rattle.lset_history.specs.Checks.{smallest_with}
 use Rattle.lset_history.specs.Faults.{place_at, placed_call, IsTooEarly, Passes, RefusesFirst}
 
--- `EndsBefore`: a call ended before `moment`. `EndsFrom`: some call at index `i` of the order or at a larger index
--- ended before `moment`.
+-- `EndsBefore` holds if a call ended before `moment`. `EndsFrom` holds if some call at index `i` or a larger index of
+-- the order ended before `moment`.
 abbrev pub EndsBefore : ℕ → Option (ℕ × Reply) → Type 0
 EndsBefore moment ended = IsSomeAnd ended (λ (end : ℕ × Reply). end.0 < moment)
 

@@ -23,8 +23,8 @@ halved (suc b) low high next_low next_high h l g =
     let k : high - low < 2 ^ b * 2 = subst (λ z. high - low < z) (pow-suc 2 b) h in
     (omega arith, subst (λ z. next_high - next_low < 2 ^ z) (let e : b ≡ suc b - 1 = omega arith in e) (omega arith))
 
--- Lemma: a lower bound on the number of comparisons in a binary search, since each comparison leaves at least half of
--- the range, minus one.
+-- Lemma: one comparison in a binary search lowers the logarithm of the range's size by at most 1. If the range has at
+-- least 2^k - 1 items before the comparison, it has at least 2^(k-1) - 1 items after the comparison.
 pub half_needed : (k low high next_low next_high : ℕ) → 2 ^ k ≤ high - low + 1 → high - low ≤ 2 * (next_high - next_low) + 2
     → 2 ^ (k - 1) ≤ next_high - next_low + 1
 half_needed zero low high next_low next_high h l = let one : 2 ^ (zero - 1) ≡ 1 = refl in omega arith

@@ -40,12 +40,12 @@ use Rattle.lset_history.proofs.Standings.{has_place}
 abbrev pub answered_of : Standing → Answered
 answered_of s = record { thread = s.traced.thread; call = s.traced.call; reply = reply_by s.traced.changed s.traced.ended }
 
--- Holds if a set in state `s` returns the replies of the calls in `xs`, made in the order of `xs`, and is then in state
--- `t`.
+-- Holds if the calls in `xs`, made one after another on a set in state `s`, return their replies and leave the set in
+-- state `t`.
 abbrev Leads : ℕ → SetState → SetState → List Standing → Type 0
 Leads quota s t xs = IsLegal quota s (map answered_of xs) × (set_left s (map answered_of xs) ≡ t)
 
--- Holds if a set in state `s` returns the reply of the call `x`, and is then in state `t`.
+-- Holds if the call `x`, made on a set in state `s`, returns its reply and leaves the set in state `t`.
 abbrev LeadsTo : ℕ → SetState → SetState → Standing → Type 0
 LeadsTo quota s t x = let b = answered_of x in
     (reply_to quota s b.thread b.call ≡ b.reply) × (after_call s b.thread b.call b.reply ≡ t)

@@ -1,5 +1,5 @@
--- Proof: the predicate `Fits` agrees with the sequential set. A reply fits if and only if the set returns the reply and
--- the call changes nothing.
+-- Proof: the predicate `Fits` agrees with the sequential set. `Fits` holds for a call and a reply if and only if the
+-- set returns the reply and the call does not change the set.
 use Rattle.std.proofs.Common.{◌≡◌, ℕ, ◌+◌, ◌<◌, ◌≤◌, ◌⊎◌, inl, inr, List, [], ◌∷◌, sym, refl, ap, ◌∙◌, arith, true, false, subst}
 use Rattle.std.specs.Prelude.{Contains, nat_lt, ◌==◌}
 use Rattle.std.proofs.lemmas.Bool.{cases_Bool}

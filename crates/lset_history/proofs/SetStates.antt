@@ -1,5 +1,5 @@
--- Proof: if the sequential set makes the changes of a run, it has the run's keys and numbers of successful adds at each
--- moment.
+-- Proof: if the changes of a run are made on the sequential set, the set has the run's keys and numbers of successful
+-- adds at each moment.
 use Rattle.std.proofs.Common.{rules, ◌≡◌, ◌≢◌, ℕ, zero, suc, ◌+◌, ◌<◌, ◌≤◌, true, false, inl, inr, List, length, sym, refl, subst}
 use Rattle.std.proofs.Common.{◌∙◌, arith}
 use Rattle.std.specs.Prelude.{Contains, Option, Some, None, slice_index, slice_set}

@@ -72,7 +72,7 @@ standing_has n (x ∷ xs) (Some p ∷ ps) (suc i) m l e = let f : suc n + i ≡ 
     (standing_has (suc n) xs ps i m (omega arith) e))
 standing_has n xs ps i m l e = absurd cc
 
--- Holds if `s` is a call in `calls`, and the moment of `s` is the call's linearization point.
+-- Holds if `s` is a call in `calls`, and `s.moment` is the moment of the call's linearization point in `places`.
 pub record Stood (r : Run) (last : ℕ) (calls : List TracedCall) (places : List (Option ℕ)) (s : Standing) : Type 0 where
   pub known : s.number < length calls
   pub call_is : traced_at calls s.number ≡ s.traced

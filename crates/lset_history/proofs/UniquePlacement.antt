@@ -21,7 +21,7 @@ use Rattle.lset_history.proofs.SetStates.{Shows, set_at, shows_at}
 use Rattle.lset_history.proofs.SetFitting.{fits_or_not}
 use Rattle.lset_words.specs.Words.{Opening}
 
--- The smallest moment from `first` to `last` with the property `P`. It can be found if `P` is decidable at each moment.
+-- The smallest moment from `first` to `last` with the property `P`.
 pub record Smallest (P : ℕ → Type 0) (first last : ℕ) : Type 0 where
   pub moment : ℕ
   pub from : first ≤ moment

@@ -99,7 +99,7 @@ linearizes o calls order known once none replies early = record {
 -- ---- Lemmas that combine the results of several checks
 
 -- The result of the first two checks: all calls of the order are in the history, no call is in the order twice, and
--- exactly the calls of the order are marked.
+-- `marks` is true for exactly the calls of the order.
 pub record StandsOnce (h : HistoryValue) (calls : List CallRecord) (order : List Placed) (marks : List Bool) : Type 0 where
   pub calls_are : calls ≡ h.calls
   pub known : HasKnownCalls calls order

@@ -61,7 +61,7 @@ pub record HasReplies (o : OracleValue) (calls : List CallRecord) (order : List 
   pub recorded : All (λ (p : Placed). IfSome (call_numbered calls p.call).ended (λ (end : ℕ × Reply). end.1 ≡ p.reply)) order
   pub legal : IsLegal o.quota o.state (map (answered calls) order)
 
--- Returns the sequential set after the calls of the order.
+-- Returns the sequential set `o` after the calls in `order`.
 abbrev pub after_order : OracleValue → List CallRecord → List Placed → OracleValue
 after_order o calls order = record o { state = set_left_by o.state calls order }
 
