@@ -32,7 +32,7 @@ use Rattle.lset_recording.specs.Texts.{end_pieces, call_pieces, title}
 use Rattle.lset_recording.specs.Reading.{kinds, from_calls, opening_kind, open_kind, true_kind, false_kind, key_kind, end_kind, cut_kind}
 use Rattle.lset_recording.specs.Reading.{Comes, IsFormed, line_told, line_behind_title}
 
--- Returns the fields of the line with the given content (for example, a call or a key).
+-- Returns the fields of a line. The argument is the content of the line, for example a call or a key.
 abbrev pub line_pieces : Line → List (List ℕ)
 line_pieces told.Title = title ∷ []
 line_pieces (told.Opening k) = codes "opening" ∷ decimal k ∷ []

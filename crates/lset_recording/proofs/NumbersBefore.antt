@@ -1,4 +1,4 @@
--- Proofs about reading a number digit by digit, up to the next space.
+-- Proofs about the loop that reads a number digit by digit, up to the next space.
 use Rattle.std.proofs.Common.{◌≡◌, ℕ, zero, suc, ◌+◌, ◌-◌, ◌*◌, ◌^◌, ◌<◌, ◌≤◌, true, inl, inr, List, ◌∷◌, ◌++◌, length, min, get_or, take, drop, refl, sym, ap, ◌∙◌, arith, leb, take-append-drop, eq-or-lt_of_le}
 use Rattle.std.specs.Fmt.{decimal}
 use Rattle.std.specs.Char.{is_ascii_digit}

@@ -1,4 +1,4 @@
--- Proofs about how the bytes and the lines of a text change the reader's state.
+-- Proofs: when the reader reads more bytes or a line, its new state is correct, or its error is the error of the text.
 use Rattle.std.proofs.Common.{◌≡◌, ◌≢◌, ℕ, zero, suc, ◌+◌, ◌<◌, ◌≤◌, inl, inr, Bool, true, false, eqb, List, [], ◌∷◌, ◌++◌, length, refl, sym, ap, subst, ◌∙◌}
 use Rattle.std.proofs.Common.{append_assoc, append-nil, arith, length-append, Result, Ok, Err, cond}
 use Rattle.std.specs.Prelude.{◌==◌, IfOk, IfErr, Option, Some, None}

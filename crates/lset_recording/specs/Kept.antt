@@ -23,8 +23,8 @@ use Rattle.lset_recording.specs.Reading.{SoFar, Reads, Says, first_line, is_done
 abbrev pub IsLatest : List CallRecord → ℕ → Type 0
 IsLatest calls moment = (moment ≡ 0) ⊎ ((x : CallRecord) × Contains calls x × (moment ≡ x.begun))
 
--- Holds if the judge has judged exactly the calls in `calls`, and its current moment is 0 or the start of one of them,
--- and at least the number of calls. Before the first call, the reader has no judge (`None`).
+-- Holds if the judge has judged exactly the calls in `calls`, and its current moment is 0 or the start of one of these
+-- calls, and is at least the number of calls. If there is no judge (`None`), holds if `calls` is empty.
 abbrev pub IsJudgeKept : List ℕ → List CallRecord → Option Judge → Type 0
 IsJudgeKept opening calls None = calls ≡ []
 IsJudgeKept opening calls (Some j) =
@@ -71,7 +71,8 @@ pub record IsJudging (s : SoFar) (j : Judging) : Type 0 where
   pub first : IsFirst s.section j.judge
   pub number : j.number ≡ first_line + lines_of s
 
--- Holds if the reader has stored all bytes of an incomplete line (`false`), or if the line is too long (`true`).
+-- `false`: holds if `kept`, the bytes that the reader has stored, are all bytes `held` of an incomplete line. `true`:
+-- holds if the incomplete line `held` is too long.
 abbrev pub IsHeld : List ℕ → List ℕ → Bool → Type 0
 IsHeld held kept false = held ≡ kept
 IsHeld held kept true = LONGEST_LINE < length held

@@ -79,9 +79,8 @@ end_kind = (piece.word (codes "end") ∷ [], λ t. told.End)
 abbrev pub cut_kind : LineKind RecordingLine
 cut_kind = (piece.word (codes "cut") ∷ [], λ t. told.Cut)
 
--- The kinds of lines that are allowed when the reader has reached the final keys (`from_keys`) or the calls
--- (`from_calls`). The sections of a recording have a fixed order, and each section can be empty. A recording that was
--- cut off has no final keys.
+-- `from_keys` has the kinds of lines that can follow a final key. `from_calls` has the kinds of lines that can follow a
+-- call. A recording that was cut off has no final keys, so the line `cut` cannot follow a final key.
 abbrev pub from_keys : List (LineKind RecordingLine)
 from_keys = key_kind ∷ end_kind ∷ []
 

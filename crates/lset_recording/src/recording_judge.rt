@@ -28,7 +28,8 @@ pub struct RecordingAnswer {
     pub verdict: Verdict,
     /// The number of calls in the recording.
     pub calls: u64,
-    /// The number of calls that overlap a call that changes the same key.
+    /// The number of calls that overlap another call that changed the same key (an `add` or a `remove` that returned
+    /// true). The number can be wrong if the calls are not linearizable.
     pub overlapped: u64,
     /// True if the recording was cut off and its final keys are therefore unknown.
     pub cut_off: bool,
