@@ -1,5 +1,5 @@
--- Proof: if a key would have to change back between calls more often than other calls can change it, no order explains
--- the calls.
+-- Proof: if the calls on a key require the key to change back more often than other calls can change it, no order
+-- explains the calls.
 use Rattle.std.proofs.Common.{◌≡◌, ◌≢◌, ℕ, zero, suc, ◌+◌, ◌<◌, ◌≤◌, ◌⊎◌, List, [], ◌∷◌, Bool, true, false, inl, inr, refl, sym, ap, ◌∙◌, arith, subst, length}
 use Rattle.std.proofs.Common.{◌-◌, drop, get_or, map, take}
 use Rattle.std.proofs.lemmas.Grind.{common_steps}
@@ -194,9 +194,9 @@ module _ (b left : Bool) (c : Option ℕ) where
         ])
       ]
 
-  -- Lemma: the number of counted acts is at most one more than the number of changes back, because the key must change
-  -- back between any two counted acts. (An act is the effect of a call. The key's final state counts as an act if c is
-  -- None.)
+  -- Lemma: `us` (the ends of the counted acts) has at most one item more than `zs` (the ends of the changes back),
+  -- because the key must change back between any two counted acts. (An act is the effect of a call. The key's final
+  -- state counts as an act if c is None.)
   count_from : (s : Bool) (o : Option ℕ) (us zs : List ℕ) (ys : List Act) → TakeTurns left s ys → Pairs Apart ys → Due b left o c us zs ys
       → length us + also c ≤ suc (length zs)
   count_from s o (u ∷ us) zs [] turns pairs d = absurd (d.stand u (has_head u us)).1

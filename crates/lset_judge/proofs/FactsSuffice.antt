@@ -1,5 +1,5 @@
--- Proof: the facts that the judge stores about a key suffice to find a clash (two calls that contradict each other), if
--- one of the two calls ends before the other starts.
+-- Proof: if some call on a key contradicts a call that ended before it started, the facts that the judge stores about
+-- the key suffice to find a clash (two calls that contradict each other).
 use Rattle.std.proofs.Common.{inl, inr, ◌≡◌, ◌≢◌, ◌⊎◌, ℕ, ◌+◌, ◌<◌, ◌≤◌, true, false, List, [], ◌∷◌, ◌++◌, refl, sym, ap, ◌∙◌, arith, subst, get_or}
 use Rattle.std.proofs.Common.{append-nil, length-append}
 use Rattle.std.specs.Prelude.{Option, Some, None, IfSome, IsSome, is_some, IsSomeAnd, All, Contains, ◌-◌}

@@ -1,5 +1,5 @@
--- Proof: an order that explains the calls also explains the converted calls. The judge converts each completed call to
--- one that returns true or false.
+-- Proof: the judge converts each completed call to a call that returns true or false. If an order explains the calls,
+-- the order also explains the converted calls.
 use Rattle.std.proofs.Common.{◌≡◌, ◌≢◌, ℕ, ◌<◌, ◌≤◌, true, List, [], ◌∷◌, ◌++◌, refl, sym, arith, subst, length, get_or, ap, ◌∙◌, map, take, drop}
 use Rattle.std.proofs.Common.{◌+◌, inl, inr, ◌⊎◌, Bool, false}
 use Rattle.std.specs.Prelude.{Option, Some, None, IfSome, IsSomeAnd, ◌==◌, nat_lt, if◌then◌else◌, All, Contains as Has}

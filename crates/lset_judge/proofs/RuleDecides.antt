@@ -35,7 +35,6 @@ use Rattle.lset_judge.proofs.OrderFromRule.{order_found, linearizes}
 -- ---- Lemmas about a quota (number of successful `add`s) that covers all `add`s of a thread
 
 -- Returns how many keys a call adds for a thread: 1 or 0. `own` is true if the thread makes the call.
-
 abbrev adds : Bool → Call → Reply → ℕ
 adds own (Add j) True = if own then 1 else 0
 adds own c r = 0
@@ -73,7 +72,7 @@ added_push : (t : ℕ) (xs : List Answered) (a : Answered) → added t (xs ++ a 
 added_push t [] a = omega arith
 added_push t (x ∷ xs) a = let rest = added_push t xs a in omega (arith, rest)
 
--- ---- Lemmas about the total weight of the calls in an order
+-- ---- Lemmas about the sum of the numbers `f x` of all calls x in an order
 
 abbrev tally : (CallRecord → ℕ) → List CallRecord → List Placed → ℕ
 tally f calls [] = 0

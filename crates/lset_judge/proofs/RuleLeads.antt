@@ -1,6 +1,6 @@
--- Proof: the judge's test does at least as well as any correct timeline of the key (a choice of when each change takes
--- effect). In the judge's test, at least as many changes are still pending as in the timeline, and they end at least as
--- late.
+-- Proof: the judge's test is at least as good as any correct timeline of the key (a choice of when each change takes
+-- effect). At each moment, at least as many changes have not taken effect in the test as in the timeline, and they end
+-- at least as late.
 use Rattle.std.proofs.Common.{◌≡◌, ℕ, suc, ◌+◌, ◌<◌, ◌≤◌, List, [], ◌∷◌, true, inl, inr, refl, arith, length, zero, sym, ap, ◌⊎◌, Bool, false, ◌∙◌, subst}
 use Rattle.std.specs.Prelude.{◌==◌, nat_lt, if◌then◌else◌, Option, Some, None, is_some, not}
 use Rattle.std.proofs.lemmas.Bool.{cases_Bool, true≢false, not-true, not-false, or_cases, or_parts}
@@ -99,17 +99,17 @@ once b = if b then 1 else 0
 abbrev pub at : Bool → ℕ → List ℕ → List ℕ → State
 at b t ps ks = record { there = b; turned = t; puts = ps; takes = ks }
 
--- Holds if fewer changes are still pending in the timeline (state s) than in the judge's test (state g). Only changes
--- that would change the key's state in g count.
+-- Holds if the timeline (state s) has fewer changes that have not taken effect than the judge's test (state g). Only
+-- changes to the opposite of the key's state in g count.
 abbrev pub IsFurther : State → State → Type 0
 IsFurther g s = length (changes_to (not g.there) s) < length (options g)
 
 abbrev NoFewer : List ℕ → List ℕ → Type 0
 NoFewer ss gs = (d : ℕ) → not_before d ss ≤ not_before d gs
 
--- Holds if the state g has at least as many pending changes as the state s, and the changes in g end at least as late.
--- After the event at moment m, g is the key's state in the judge's test, and s is its state in a correct timeline (a
--- choice of when each change takes effect).
+-- Holds if state g has at least as many changes that have not taken effect as state s, and they end at least as late.
+-- After the event at moment m, g is the key's state in the judge's test, and s is the key's state in a correct timeline
+-- (a choice of when each change takes effect).
 pub record Leads (m : ℕ) (g s : State) : Type 0 where
   pub lists : (w : Bool) → NoFewer (changes_to w s) (changes_to w g)
   pub balance : length g.puts + once g.there + length s.takes ≡ length s.puts + once s.there + length g.takes

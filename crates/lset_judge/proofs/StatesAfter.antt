@@ -1,5 +1,5 @@
--- Proofs about the state of a key after each moment. The judge's test of a key has the same result whether its events
--- are processed one by one or all at once.
+-- Proofs about the state of a key after each moment, as computed by the judge's test. Moments without an event of the
+-- key can be skipped.
 use Rattle.std.proofs.Common.{◌≡◌, ℕ, zero, suc, ◌+◌, ◌-◌, ◌<◌, ◌≤◌, Bool, List, true, false, refl, sym, ap, ◌∙◌, arith, inl, inr}
 use Rattle.std.specs.Prelude.{Option, Some, None, is_some}
 use Rattle.lset_words.specs.declared.history.CallRecord.{CallRecord}

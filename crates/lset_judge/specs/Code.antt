@@ -10,8 +10,8 @@ use Rattle.lset_judge.specs.declared.event.Event.TheVariants.{Begins, Ends, Look
 use Rattle.lset_judge.specs.Rule.{State, Event, begins, ends, looks, idle}
 
 -- `puts_held` returns the moments when the pending `add`s that have not taken effect will end. `takes_held` returns the
--- moments when the pending `remove`s that have not taken effect will end. If no heap is used, at most one change is
--- pending, and it ends at `until`.
+-- moments when the pending `remove`s that have not taken effect will end. If the code uses no heap, at most one pending
+-- change has not taken effect, and it ends at `until`.
 abbrev pub puts_held : ℕ → Held → List ℕ
 puts_held until Nothing = []
 puts_held until Put = until ∷ []

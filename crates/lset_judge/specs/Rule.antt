@@ -84,9 +84,9 @@ turned_by m e s = record {
   takes = if s.there then take_out e s.takes else s.takes;
 }
 
--- `nearest` returns the earliest moment in a list. `turned_if` returns the key's state after the pending change that
--- ends first has taken effect, or None if no change is pending. In the judge's test, a change takes effect only when an
--- event requires it.
+-- `nearest` returns the earliest of the moment x and the moments in a list. `turned_if` returns the key's state after
+-- one pending change takes effect: the change that ends first of the changes that end at the moments in the list. The
+-- result is None if the list is empty.
 abbrev pub nearest : ℕ → List ℕ → ℕ
 nearest x [] = x
 nearest x (y ∷ ys) = min x (nearest y ys)

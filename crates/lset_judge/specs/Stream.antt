@@ -121,7 +121,6 @@ abbrev pub pending_in : Stream → List Pending
 pending_in s = s.pending
 
 -- Holds if the call x can be the next call of a stream (a judge of calls in sequence) with the pending calls `pending`.
-
 pub record MayCome (pending : List Pending) (moment : ℕ) (x : CallRecord) : Type 0 where
   pub begins : moment < x.begun
   pub ends : IfSome x.ended (λ (end : ℕ × Reply). x.begun < end.0)

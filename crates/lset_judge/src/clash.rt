@@ -220,7 +220,7 @@ fn is_clash(calls: &[StreamCall], asked: Asked, clash: Clash) -> bool
     clashes(calls, asked, clash) && in_order(calls, asked, clash)
 }
 
-/// Returns the last call in `calls` that had ended by `moment` and left its key in the state `was`.
+/// Returns the call with the largest index in `calls` that had ended by `moment` and left its key in the state `was`.
 fn last_before(calls: &[StreamCall], was: Presence, moment: u64) -> Option<StreamCall> {
     let mut last = None;
     for call in calls {
@@ -231,8 +231,8 @@ fn last_before(calls: &[StreamCall], was: Presence, moment: u64) -> Option<Strea
     last
 }
 
-/// Searches for an earlier call that contradicts `second`, so that no order can contain both. The result has no `first`
-/// if the key's opening state already contradicts `second`.
+/// Searches for a call that started before `second` and contradicts it, so that no order can contain both. The result
+/// has no `first` if the key's opening state contradicts `second`. Returns `None` if no such call is found.
 fn clash_with(calls: &[StreamCall], asked: Asked, second: StreamCall) -> Option<Clash>
     ensures { IfSome result (λ c. IsClash (records calls.now) asked.key.0 asked.there asked.left c.was (record_if c.first) (record_if c.second)) }
 {
@@ -259,8 +259,8 @@ fn clash_with(calls: &[StreamCall], asked: Asked, second: StreamCall) -> Option<
     None
 }
 
-/// Returns two calls in `calls` that contradict each other. If there are several such pairs, returns the pair with the
-/// latest second call.
+/// Searches `calls` for two calls that contradict each other, and tries the calls with larger indices first as the
+/// second call. If the search finds no pair, tries the key's final state in place of the second call.
 fn last_clash(calls: &[StreamCall], asked: Asked) -> Option<Clash>
     ensures { IfSome result (λ c. IsClash (records calls.now) asked.key.0 asked.there asked.left c.was (record_if c.first) (record_if c.second)) }
 {
@@ -283,7 +283,7 @@ fn last_clash(calls: &[StreamCall], asked: Asked) -> Option<Clash>
 
 /// Searches `calls` for two calls on `key` that contradict each other. `there` is the key's opening state; `left` is
 /// the key's final state, if known. If the function returns a clash, no order explains `calls` and leads from the state
-/// `there` to the state `left`.
+/// `there` to the state `left`. Returns `None` if it finds no clash; this does not show that such an order exists.
 pub fn find_clash(
     calls: &[StreamCall],
     key: Key,

@@ -37,8 +37,8 @@ pub struct Count {
 }
 
 impl Count {
-    /// Returns how often the key must change back between the calls in `calls`. The result is greater than
-    /// `backs.len()`.
+    /// Returns how often the key must change from the state `was` to the opposite state between the calls of the count.
+    /// An opening or final state that counts as a call is included. The result is greater than `backs.len()`.
     pub fn turns(&self) -> usize
         ensures { result ≡ turns_of (length self.now.calls.items) self.now.since self.now.until }
     {
@@ -52,7 +52,8 @@ pub fn counts_exclude_orders()
     ensures { CountsExcludeOrders }
 {}
 
-/// Returns 1 if `bound` is `None`, else 0. `None` means that the key's opening or final state counts as a call.
+/// Returns 1 if `bound` is `None`, which means that the key's opening or final state counts as a call. Otherwise
+/// returns 0.
 fn also(bound: Option<u64>) -> usize
     ensures { result ≡ also bound }
 {
@@ -274,8 +275,8 @@ fn since_first(counted: &[StreamCall], since: Option<u64>) -> Option<u64> {
 }
 
 /// Searches for a count: so many calls on `key` that no order can contain all of them. Returns the smallest count
-/// found. `calls` must be ordered by start. `there` is the key's opening state; `left` is the key's final state, if
-/// known.
+/// found, or `None` if none is found. `calls` must be ordered by start. `there` is the key's opening state; `left` is
+/// the key's final state, if known.
 ///
 /// If the function returns a count, no order explains `calls` and leads from the state `there` to the state `left`. The
 /// search takes time quadratic in the number of calls. It fails only if an allocation fails.

@@ -419,7 +419,7 @@ pub(crate) struct Stream {
     failed: Option<Failed>,
     /// Two calls on the key in `failed` that contradict each other, if the judge found such calls.
     clash: Option<Clash>,
-    /// The number of completed calls that overlap another call that changes the same key.
+    /// How many calls that have ended so far overlap another call that changes the same key.
     overlapped: u64,
 }
 

@@ -75,7 +75,7 @@ struct Steps {
 }
 
 impl Stretch {
-    /// Returns the stretch that starts at `from`, when its first change starts.
+    /// Returns a stretch that starts at the moment `from`, the start of its first change. The stretch has no end yet.
     fn from_change(was: Presence, from: u64) -> Stretch {
         Stretch {
             was,
@@ -118,7 +118,7 @@ fn is_change_to(call: StreamCall, was: Presence) -> bool {
     }
 }
 
-/// Returns the last call in `calls` that saw the state `was` and had ended by `moment`.
+/// Returns the call with the largest index in `calls` that saw the state `was` and had ended by `moment`.
 fn last_look(calls: &[StreamCall], was: Presence, moment: u64) -> Option<StreamCall> {
     let mut last = None;
     for call in calls {
