@@ -72,13 +72,13 @@ pub record StepOf (T : Table) (marks : Bool) (At : Outline) (sz : Sizes) (t : �
   pub own : At sz.quota t vs (first t) (suc now) (view sz words' used') (done t || is_change effect) local'
   pub others : (u : ℕ) → u < sz.threads → u ≢ t → At sz.quota u vs (first u) (suc now) (view sz words' used') (done u) (locals u)
 
--- Holds if, for some `first`, `now`, and `done`, the proof outline's assertion for the thread's row of the step table
--- is true in view `v` (nodes and locks).
+-- Holds if the proof outline's assertion for the thread's row of the step table is true in view `v` (nodes and locks),
+-- for some start of the call (`first`) and some current moment (`now`), whether or not the call has changed the set.
 abbrev pub Before : Outline → ℕ → ℕ → (ℕ → View) → View → Local → Type 0
 Before At q t vs v l = (first : ℕ) × (now : ℕ) × (done : Bool) × At q t vs first now v done l
 
--- The proof obligations for a list's proof outline: each thread's assertion holds when the list opens, and each event
--- preserves each thread's assertion.
+-- The proof obligations for a list's proof outline: each thread's assertion holds when the list opens. After each
+-- event, each thread's assertion holds for the row that the thread is then at.
 pub record Discipline (T : Table) (marks : Bool) (At : Outline) : Type 1 where
   pub idle_at : (op : Opening) → Opens op → (t : ℕ) (vs : ℕ → View)
       → At op.quota t vs 0 0 (view_of (sizes op) (opening op)) false (idle op.quota t)
@@ -138,7 +138,7 @@ answered_on false q vs first now t call pc (Some r) a = (
       record { moment = f.moment; from = f.from; upto = (let u : f.moment ≤ now = f.upto in omega arith); fits = f.fits }),
 )
 
--- Lemmas about conditionals, and about replacing the private state of one thread.
+-- Lemmas about `if`, and about the list of all threads' states after the state of one thread is replaced.
 pub pick_yes : {A : Type 0} (b : Bool) (x y : A) → b ≡ true → (if b then x else y) ≡ x
 pick_yes b x y e = rw e refl
 

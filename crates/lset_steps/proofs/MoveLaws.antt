@@ -1,4 +1,5 @@
--- Lemmas: every move (a change of a list's nodes in one step) preserves the order of keys, unlinked nodes, and marks.
+-- Lemmas: after every move (a change of a list's nodes in one step), the keys are still in order, unlinked nodes are
+-- still out of the chain, and marked nodes have the same links.
 use Rattle.std.proofs.Common.{◌≡◌, ℕ, ◌%◌, ◌<◌, Bool, true, false, inl, inr, sym, refl, ap, subst, ◌∙◌, arith, Option, ◌*◌, ◌/◌}
 use Rattle.lset_words.proofs.Numbers.{same_or_not}
 use Rattle.lset_words.specs.declared.Key.{Key}

@@ -1,19 +1,19 @@
--- Moves (the changes that one step can make to the nodes of a list), and assertions about earlier moments, for proofs
--- only.
+-- Moves (what one step can do to the nodes of a list), and assertions about nodes and keys at earlier moments. Only
+-- proofs use these definitions.
 use Rattle.std.specs.Prelude.{◌≡◌, ◌≢◌, ℕ, ◌+◌, ◌*◌, ◌/◌, ◌%◌, ◌<◌, ◌≤◌, ◌⊎◌, Bool, true, false, Option, Some, None}
 use Rattle.lset_words.specs.declared.Key.{Key}
 use Rattle.lset_steps.specs.Chain.{View, InChain, InContent, IsOrdered, Seen}
 
--- The properties of every step. Published nodes (those that have been in the chain) stay published and keep their keys.
--- An unlinked node does not return to the chain. The link of a node changes only if the node is in the chain before and
--- after the step.
+-- The properties that every step of a run has. Published nodes (nodes that have been in the chain) stay published and
+-- keep their keys. An unlinked node does not return to the chain. The link of a published node changes only if the node
+-- is in the chain before and after the step.
 pub record KeepsNodes (v w : View) : Type 0 where
   pub keys : (i : ℕ) → v.published i → w.key i ≡ v.key i
   pub grows : (i : ℕ) → v.published i → w.published i
   pub kept : (b : ℕ) → v.published b → (w.link b ≡ v.link b) ⊎ (InChain v b × InChain w b)
   pub back : (b : ℕ) → v.published b → InChain w b → InChain v b
 
--- A move that changes no published node (no node that has been in the chain), such as a load, or a write to a lock or
+-- A step that changes no published node (no node that has been in the chain), such as a load, or a write to a lock or
 -- to an unused node.
 pub record Quiet (v w : View) : Type 0 where
   pub keys : (i : ℕ) → v.published i → w.key i ≡ v.key i
@@ -66,8 +66,9 @@ pub record Unlinks (v w : View) (pred curr : ℕ) : Type 0 where
   pub grows : (i : ℕ) → v.published i → w.published i
   pub published_from : (i : ℕ) → w.published i → v.published i
 
--- A move of a list, with the key that the move adds or removes, if any. If `marks` is true, the list marks nodes before
--- it unlinks them. If `marks` is false, the unlinking removes the key.
+-- A move: what one step does to the nodes of a list. The last argument is the key that the step adds or removes, if
+-- any. In a list that marks nodes before it unlinks them (`marks` is true), marking a node removes its key. In any
+-- other list, unlinking a node removes its key.
 pub data Move (marks : Bool) (v w : View) : Option (Key × Bool) → Type 0 where
   quiet : Quiet v w → Move marks v w None
   inserts : (pred own : ℕ) (k : Key) → Inserts v w pred own k.0 → Move marks v w (Some (k, true))
@@ -80,8 +81,8 @@ pub data Move (marks : Bool) (v w : View) : Option (Key × Bool) → Type 0 wher
 abbrev pub KeepsMarked : View → View → Type 0
 KeepsMarked v w = (b : ℕ) → v.published b → v.link b % 2 ≡ 1 → w.link b ≡ v.link b
 
--- Holds if the views (nodes and locks) at moments 0 to `n` can be those of a run: keys are in order at each moment, and
--- each step satisfies `KeepsNodes` and `KeepsMarked`.
+-- Holds if the views (nodes and locks) at moments 0 to `n` have the properties that proofs about a walk need: keys are
+-- in order at each moment, and each step satisfies `KeepsNodes` and `KeepsMarked`.
 pub record Course (vs : ℕ → View) (n : ℕ) : Type 0 where
   pub ordered : (t : ℕ) → t ≤ n → IsOrdered (vs t)
   pub goes : (t : ℕ) → t < n → KeepsNodes (vs t) (vs (t + 1))

@@ -1,4 +1,5 @@
--- Proof that `Promises` holds for every machine (a list algorithm as a table of steps) that satisfies its law.
+-- Proof of the properties in `specs/Promises.antt` for every machine (a list algorithm as a table of steps) that
+-- satisfies its law.
 use Rattle.std.specs.Prelude.{◌≡◌, ◌≢◌, ℕ, suc, ◌+◌, ◌/◌, ◌<◌, ◌≤◌, ◌⊎◌, Bool, true, false, if◌then◌else◌, ◌==◌, List, [], ◌∷◌}
 use Rattle.std.specs.Prelude.{◌++◌, map, Some, length, refl}
 use Rattle.std.proofs.Common.{arith, inl, inr, sym, ap, subst}

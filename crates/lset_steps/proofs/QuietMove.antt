@@ -36,7 +36,7 @@ apart v i j l e = let f : v.key i ≡ v.key j = ap v.key e in omega arith
 pub apart' : (v : View) (i j : ℕ) → v.key i < v.key j → j ≢ i
 apart' v i j l e = let f : v.key j ≡ v.key i = ap v.key e in omega arith
 
--- ---- Lemmas about moves that change no published node
+-- ---- Lemmas about steps that change no published node (no node that has been in the chain)
 
 pub quiet_keeps : (v w : View) → IsOrdered v → Quiet v w → (b : ℕ) → InChain v b → InChain w b
 quiet_keeps v w ord q b ib = chain_same v w ord (λ a m. ap (λ x. x / 2) (q.links a m)) b ib

@@ -1,6 +1,6 @@
 -- The proof outline for a `contains` or a `ceiling` without locks: an assertion for each row of the step table, and the
--- proofs that each row preserves the assertions and that the reply is correct at some moment of the call. The moment
--- can be a step of another thread (after O'Hearn and others).
+-- proofs that each row preserves the assertions and that the reply is correct at some moment of the call. The reply can
+-- become correct by a step of another thread (after O'Hearn and others).
 use Rattle.std.specs.Prelude.{◌≡◌, ◌≢◌, ℕ, suc, ◌-◌, ◌==◌, if◌then◌else◌, ◌/◌, ◌%◌, ◌<◌, ◌≤◌, ◌⊎◌, Bool, false, None, List, [], refl}
 use Rattle.std.proofs.Common.{arith, inl, inr, sym, ◌∙◌, ap, subst}
 use Rattle.lset_words.proofs.Numbers.{same_or_not, below_or_not, if_below, if_not_below, if_same, if_other}
@@ -69,7 +69,8 @@ at_head vs first now v k from present head =
     let low : (vs now).key 0 ≡ 0 = ap (λ x. x.key 0) present ∙ head in
     record { past = record { at = now; from = from; upto = omega arith; in_chain = ([], refl) }; low = omega arith }
 
--- Lemma: an `add` or a `remove` begins at row 1 of the step table, a `contains` at row 20, and a `ceiling` at row 23.
+-- Lemma: the proof outline's assertion holds when a call begins, if the outline has a true assertion for row 1 (where
+-- `add` and `remove` begin) and `Reading` implies its assertions for rows 20 and 23 (`contains` and `ceiling`).
 pub call_begins : (At : Outline) (q t : ℕ) (vs : ℕ → View) (now : ℕ) (v : View) (call : Call) (l : Local) → vs now ≡ v →
     v.key 0 ≡ 0
     → ((l' : Local) → l'.pc ≡ 1 → At q t vs now now v false l')

@@ -1,5 +1,5 @@
--- Proof that each run of a machine (a list algorithm as a table of steps) that satisfies its law has an account, which
--- records the effect of each event on the set.
+-- Proof that each run of a machine (a list algorithm as a table of steps) has an account, which states how each event
+-- changes the keys of the set. The machine must satisfy its law.
 use Rattle.std.specs.Prelude.{◌≡◌, ◌≢◌, ℕ, ◌<◌, ◌≤◌, Bool, true, false, ◌==◌, if◌then◌else◌, Option, Some, None, length, refl}
 use Rattle.std.proofs.Common.{arith, inl, inr, sym, ◌∙◌, ap, subst, zero, suc}
 use Rattle.std.proofs.lemmas.List.FromFn.{get_or-map-range_with_len}

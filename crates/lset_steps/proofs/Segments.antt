@@ -1,5 +1,5 @@
--- Lemmas about segments (pieces of a chain): segments can be joined, and keys increase along a segment, so different
--- nodes of a segment have different keys.
+-- Lemmas about segments (nodes that follow each other along links): segments can be joined, and keys increase along a
+-- segment, so different nodes of a segment have different keys.
 use Rattle.std.proofs.Common.{◌≡◌, ◌≢◌, ℕ, ◌/◌, ◌<◌, ◌≤◌, ◌⊎◌, inl, inr, List, [], ◌∷◌, ◌++◌, sym, refl, ap, subst, arith}
 use Rattle.lset_steps.specs.Chain.{View, Segment, InChain, IsOrdered}
 

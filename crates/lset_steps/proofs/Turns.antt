@@ -137,7 +137,8 @@ Locks P = (sz : Sizes) (t : ℕ) (ws : List ℕ) (used : ℕ → ℕ) (a : ℕ) 
 pub locks_nodes : (marks : Bool) → Locks (node_locks marks)
 locks_nodes marks sz t ws used a inn = (λ free. locks_free a inn free, λ taken. finds_locked a inn taken)
 
--- Lemma: the protocol allows an attempt to take the lock of node `a`, whether the attempt succeeds or fails.
+-- Lemma: the proof obligation `Turn` holds for a row that attempts to take the lock of node `a`, if the protocol allows
+-- the attempt and the thread's assertion holds afterwards, both if the attempt succeeds and if it fails.
 pub tries : {T : Table} {P : Protocol T.marks} {At : Outline} {sz : Sizes} {t : ℕ} {vs : ℕ → View} {first now : ℕ} {ws : List ℕ}
     {used : ℕ → ℕ} {done : Bool} {l : Local}
     → Locks P → (a : ℕ) (on same : Local) → a < node_count sz → T.next l ≡ Exchange (lock_index a) 0 (t + 1)

@@ -1,5 +1,5 @@
--- Lemmas about a walk along the chain without locks, one for each row of the step table. They prove that the result of
--- the walk was correct at some moment of the call (after O'Hearn and others).
+-- Lemmas about the walk of a `contains` or a `ceiling` along the chain without locks, for rows 20 to 25 of the step
+-- table. The result of the walk was correct at some moment of the call (after O'Hearn and others).
 use Rattle.std.proofs.Common.{◌≡◌, ◌≢◌, ℕ, ◌+◌, ◌/◌, ◌%◌, ◌<◌, ◌≤◌, sym, refl, ap, subst, ◌∙◌, arith}
 use Rattle.lset_steps.specs.Chain.{View, IsOrdered, Seen}
 use Rattle.lset_steps.proofs.Moves.{Course, InPast, Had, Lacked, At20, At21, At22, At25}

@@ -20,7 +20,8 @@ Does T pc acts feeds tells = (l : Local) → l.pc ≡ pc
 abbrev pub nothing : Local → ℕ → Option (Key × Bool)
 nothing l seen = None
 
--- Holds if `contains` and `ceiling` begin at rows 20 to 25 of the step table, which take no lock.
+-- Holds if a `contains` begins at row 20 and a `ceiling` at row 23 of the step table, and rows 20 to 25 do what the
+-- fields of this record state. These rows take no lock.
 pub record HasReading (T : Table) : Type 0 where
   pub begins : (call : Call) (l : Local) → T.begin call l ≡ begun_reading call l
   -- Row 20 of the step table: a `contains`, which starts at the head, loads the link of a node.
