@@ -67,9 +67,9 @@ turns_in key there since until x =
 abbrev pub turning_in : ℕ → Presence → Option ℕ → Option ℕ → List CallRecord → List CallRecord
 turning_in key there since until calls = filter (turns_in key there since until) calls
 
--- Returns how often the key must change back between `counted` calls that all need the key in the same state and leave
--- it in the opposite state. If `since` is None, the key's opening state counts as a call. If `until` is None, the key's
--- final state counts as a call.
+-- Returns how often the key must change back in a count of `counted` calls: once between each call and the next. If
+-- `since` is None, the key's opening state counts as an additional call. If `until` is None, the key's final state
+-- counts as an additional call.
 abbrev pub turns_of : ℕ → Option ℕ → Option ℕ → ℕ
 turns_of counted since until = counted + also since + also until - 1
 

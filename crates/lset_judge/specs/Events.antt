@@ -69,12 +69,12 @@ event_at last k (x ∷ xs) m =
     else (if ends_at m x.ended then end_event (kind_if x.call x.ended) x.begun else event_at last k xs m)
     ) else event_at last k xs m
 
--- Returns whether key k passes the judge's test: whether some order explains the calls on k and leaves k in its final
--- state. `keys` are the final keys. `last` is the last moment of the history, or a later moment.
+-- Returns whether key k passes the judge's test (see Rule.antt): each start and end of a call on k, and the final state
+-- of k, are possible. `keys` are the final keys. `last` is the last moment of the history, or a later moment.
 abbrev pub rule_explains : ℕ → HistoryValue → List ℕ → ℕ → Bool
 rule_explains last h keys k = may_leave (event_at last k h.calls) (has_key k h.opening.keys) (has_key k keys) last
 
--- Holds if every key passes the judge's test: some order explains the calls on the key and leaves the key in its final
--- state. `keys` are the final keys. `last` is the last moment of the history, or a later moment.
+-- Holds if every key passes the judge's test (see `rule_explains`). `keys` are the final keys. `last` is the last moment
+-- of the history, or a later moment.
 abbrev pub RulePasses : ℕ → HistoryValue → List ℕ → Type 0
 RulePasses last h keys = (k : ℕ) → rule_explains last h keys k ≡ true
