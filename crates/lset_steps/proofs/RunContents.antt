@@ -1,5 +1,5 @@
--- Proof that at each moment of a run, the keys of the set are exactly the items of a strictly increasing list of numbers
--- below 2^32.
+-- Proof that at each moment of a run, the keys of the set are the items of a strictly increasing list of numbers below
+-- 2^32.
 use Rattle.std.proofs.Common.{◌≡◌, ◌≢◌, ℕ, ◌+◌, ◌/◌, ◌<◌, ◌≤◌, List, arith}
 use Rattle.std.specs.Prelude.{Contains}
 use Rattle.lset_words.specs.Words.{tail_word, Opening, sizes}

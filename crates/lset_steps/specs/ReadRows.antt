@@ -1,6 +1,6 @@
 -- The rows of a step table for a `contains` and a `ceiling` that take no lock and write nothing (Herlihy and Shavit's
 -- wait-free `contains`). Rows 20 and 23 load the link of a node, rows 21 and 24 load the key of the next node, and rows
--- 22 and 25 load the mark of the last node that the call visits.
+-- 22 and 25 load the mark of the node where the walk stops.
 use Rattle.std.specs.Prelude.{ℕ, ◌/◌, ◌%◌, if◌then◌else◌, Some, None, ◌==◌, nat_lt}
 use Rattle.lset_words.specs.declared.Call.{Call}
 use Rattle.lset_words.specs.declared.Call.TheVariants.{Add, Remove, Contains, Ceiling}

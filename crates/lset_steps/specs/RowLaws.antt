@@ -31,7 +31,7 @@ pub record HasReading (T : Table) : Type 0 where
   -- Row 22 of the step table: a `contains` that has found its key loads the node's mark, and replies.
   pub row_22 : Does T 22 (λ l. Load (link_index l.curr)) read_mark nothing
   -- Rows 23 to 25 of the step table: like a `contains` at rows 20 to 22, a `ceiling` walks along the chain and loads a
-  -- mark. It also stores the key word, and starts again from the head if it stops at a marked node.
+  -- mark. It also keeps the key word in its private state, and starts again from the head if the node is marked.
   pub row_23 : Does T 23 (λ l. Load (link_index l.curr)) (λ l seen. continued (record l { pc = 24; curr = seen / 2 })) nothing
   pub row_24 : Does T 24 (λ l. Load (key_index l.curr)) ceiling_key nothing
   pub row_25 : Does T 25 (λ l. Load (link_index l.curr)) ceiling_mark nothing

@@ -39,7 +39,8 @@ pub struct Local {
 }
 
 impl Local {
-    /// Returns the private state of thread `t` before its first call. `t` must be below the number of threads.
+    /// Returns the private state of thread `t` before its first call. Accepts every `t`, also one that is not below
+    /// `layout.threads()`.
     pub fn idle(layout: &Layout, t: u32) -> Local
         ensures { result ≡ idle layout.now.quota t }
     {
@@ -109,8 +110,8 @@ pub trait Machine {
 
     ghost table: { Table };
 
-    /// Returns the private state of a thread after it begins `call`. `local` is the thread's state before `call`, in
-    /// which no call may be pending.
+    /// Returns the private state of a thread after it begins `call`. `local` is the thread's state before `call`. If a
+    /// call is pending in `local`, the result does not contain the pending call.
     fn begin(call: Call, local: &Local) -> Local
         ensures { result ≡ table.begin call local.now };
 

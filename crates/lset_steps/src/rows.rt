@@ -10,7 +10,7 @@ use lset_words::{Call, Key, MOST_NODES, Reply, slot_node};
 pub use lset_words::{key_index, link_index, lock_index};
 
 /// Returns the node that the thread's next successful `add` will use: the first unused slot of the thread. A slot is a
-/// node reserved for one `add`.
+/// node reserved for one `add`. If the thread has no unused slot, the result is not a slot of the thread.
 #[inline(always)]
 pub fn own_slot(local: &Local) -> u64
     requires { IsSmall local.now }
