@@ -74,7 +74,7 @@ event_at last k (x ∷ xs) m =
 abbrev pub rule_explains : ℕ → HistoryValue → List ℕ → ℕ → Bool
 rule_explains last h keys k = may_leave (event_at last k h.calls) (has_key k h.opening.keys) (has_key k keys) last
 
--- Holds if every key passes the judge's test (see `rule_explains`). `keys` are the final keys. `last` is the last moment
--- of the history, or a later moment.
+-- Holds if every key passes the judge's test (see `rule_explains`). `keys` are the final keys. `last` is the last
+-- moment of the history, or a later moment.
 abbrev pub RulePasses : ℕ → HistoryValue → List ℕ → Type 0
 RulePasses last h keys = (k : ℕ) → rule_explains last h keys k ≡ true

@@ -44,8 +44,8 @@ impl Changes {
         self.last_end = moment;
     }
 
-    /// Returns whether a pending call overlaps a change of its key by another call. `is_change` must be true if the
-    /// pending call itself is a change that ends at some moment. `begun` is the moment when the pending call started.
+    /// Returns whether a pending call overlaps a change of its key by another call. `is_change` must be true if and
+    /// only if the pending call is itself a change that ends at some moment. `begun` is the moment when it started.
     pub(crate) fn overlap(self, is_change: bool, begun: u64) -> bool {
         self.pending > u64::from(is_change) || begun < self.last_end
     }

@@ -58,8 +58,8 @@ struct Timed {
 }
 
 /// A call that saw the key in the state opposite to `was`. (Each change in a stretch, a period with too many calls,
-/// leaves the key in the state `was`.) `changes` is the number of changes to `was` that had ended when the call
-/// started.
+/// leaves the key in the state `was`.) `changes` is the number of changes in the stretch that had ended when the call
+/// started. Each pass over the starts and ends of calls sets it again.
 #[derive(Clone, Copy)]
 struct Look {
     call: StreamCall,
@@ -216,8 +216,9 @@ impl Steps {
     }
 }
 
-/// The state of a pass over the starts and ends of calls: how many changes have ended, and how many calls have started
-/// that can change the key back. A pass examines all stretches with the same start as `start`.
+/// The state of a pass over the starts and ends of calls, which examines all stretches with the same start as `start`.
+/// `changes` counts the changes in the stretch that have ended. `backs` counts the calls that have started, overlap the
+/// stretch and can change the key back.
 #[derive(Clone, Copy)]
 struct Pass {
     start: Stretch,
