@@ -175,8 +175,8 @@ impl Judging {
         Ok(())
     }
 
-    /// Adds the content of a line to the recording read so far. If the line is inconsistent with the recording read so
-    /// far, returns the cause.
+    /// Adds the content of a line to the recording read so far. Returns `History` or `Opening` if the line is
+    /// inconsistent with the recording read so far, and `Memory` if an allocation fails.
     #[inline(always)]
     fn keep(&mut self, line: Line) -> Result<(), Cause>
         requires { IsFormed line }
@@ -198,8 +198,9 @@ impl Judging {
         }
     }
 
-    /// Adds a line to the recording read so far, and continues with the next line. The current section must allow lines
-    /// of the same kind as `line`. If the line is inconsistent with the recording read so far, returns the cause.
+    /// Adds a line, of a kind that the current section allows, to the recording read so far, and continues with the
+    /// next line. Returns `History` or `Opening` if the line is inconsistent with the recording read so far, and
+    /// `Memory` if an allocation fails.
     #[inline(always)]
     pub(crate) fn put(&mut self, line: Line) -> Result<(), Cause>
         requires { IsFormed line }
@@ -222,7 +223,7 @@ impl Judging {
         self.number
     }
 
-    /// Reads a line, without its newline. If the line is not valid, returns the cause.
+    /// Reads a line, without its newline. If the line is not valid or an allocation fails, returns the cause.
     pub(crate) fn read_line(&mut self, line: &[u8]) -> Result<(), Cause>
         ensures taken { OnOk result ((s : SoFar) → IsJudging s self.old
             → (t : SoFar) × IsTaken s line.now t × IsJudging t self.new × (self.new.number ≡ self.old.number + 1)) }
