@@ -21,7 +21,8 @@ abbrev pub or_zero : Option ℕ → ℕ
 or_zero None = 0
 or_zero (Some n) = n
 
--- Returns the moment when the last call of thread t ends, or 0 for a thread without calls.
+-- Returns the moment that is stored for thread t: the end of the thread's last call that was stored. Returns 0 if no
+-- moment is stored.
 abbrev pub last_end : Busy → ℕ → ℕ
 last_end b t = if nat_lt t 65536 then slice_index_or b.low.items t 0 else or_zero (get nat_eq b.high t)
 

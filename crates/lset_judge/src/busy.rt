@@ -9,7 +9,7 @@ use std::collections::HashMap;
 /// Threads with numbers below `LOW` are stored in a vector, all other threads in a hash table.
 const LOW: u32 = 65_536;
 
-/// The moment when each thread's last call ends.
+/// The moment when each thread's last call ends. Only calls that were passed to `store` count.
 #[derive(Drop)]
 pub(crate) struct Busy {
     /// The moment when the last call of each thread below `LOW` ends. 0 for a thread that has made no call.

@@ -50,8 +50,9 @@ fn reply_as(call: Call, reply: Reply) -> Reply
     }
 }
 
-/// Returns the call that the judge uses in place of `call`. A `ceiling`, or an `add` that returned `Full`, becomes a
-/// `contains`. Any other call is unchanged.
+/// Returns the call that the judge uses in place of `call`. A pending call is unchanged. A completed `ceiling`, or an
+/// `add` that returned `Full`, becomes a `contains`. The reply `At` of a `ceiling` becomes true, and any other reply
+/// except true becomes false.
 fn read_as(call: &CallRecord) -> StreamCall
     ensures is { record_of result ≡ read_as call.now }
     ensures before { IsBefore (record_of result) }

@@ -19,7 +19,7 @@ pub(crate) struct ManyCalls {
     calls: HashMap<u64, StreamCall>,
     /// The moments when the calls in `calls` end.
     ends: Ends,
-    /// The moment when each thread's last call ends.
+    /// The moment when each thread's last call in the table ends. Calls that were never in the table do not count.
     busy: Busy,
 }
 

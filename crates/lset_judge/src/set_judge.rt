@@ -30,9 +30,9 @@ pub enum Verdict {
 /// A judge of the calls on a set. Add the calls in the order of their starts. `close` and `close_cut_off` return
 /// whether some order explains all calls.
 ///
-/// A judge stores the pending calls, the moment when each thread's last call ends, the state of each key, and at most
-/// one completed call per key. The memory use grows with the number of keys, threads and pending calls, but not with
-/// the number of calls.
+/// A judge stores the pending calls, at most one moment per thread, the state of each key, and at most one completed
+/// call per key. The memory use grows with the number of keys, threads and pending calls, but not with the number of
+/// calls.
 #[derive(Drop)]
 pub struct Judge {
     stream: Stream,

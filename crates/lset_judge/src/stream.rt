@@ -405,8 +405,8 @@ fn verdict_of_key(key: Option<u32>) -> StreamVerdict
 }
 
 /// A stream judges the calls of a recording one after another, ordered by start. It stores the state of each key, the
-/// pending calls, and the moment when each thread's last call ends. The memory use grows with the number of keys,
-/// threads and pending calls, but not with the number of calls.
+/// pending calls, and at most one moment per thread. The memory use grows with the number of keys, threads and pending
+/// calls, but not with the number of calls.
 ///
 /// `verdict` and `verdict_cut_off` return whether some order explains all calls. The judge processes the moments once
 /// and in order, so it stores no past moments.
