@@ -16,11 +16,11 @@ use lset_judge::{LAST_MOMENT, StreamCall};
 use lset_text::{CallWord, Cause};
 use lset_words::{Key, Reply};
 
-/// The maximum number of digits that `digits_before` reads. A number of 19 digits is below 2^64.
+/// The maximum number of digits of a number that `digits_before` reads. Each number of 19 digits is below 2^64.
 const MOST_DIGITS: usize = 19;
 
 /// Returns the number at the start of `text`, and the bytes after the next space. Returns `None` if `text` does not
-/// start with a number and a space.
+/// start with a number of at most 19 digits and a space.
 #[inline(always)]
 fn digits_before(text: &[u8]) -> Option<(u64, &[u8])>
     ensures { IfSome result (λ p. text.now ≡ decimal p.0 ++ 32 ∷ p.1.now) }
