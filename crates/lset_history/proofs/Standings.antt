@@ -41,7 +41,8 @@ standing_above P n (x ∷ xs) (Some m ∷ ps) a = (
       (standing_above P (suc n) xs ps a.1),
 )
 
--- Holds if call `s` has a smaller number than call `r` and begins before `r`.
+-- Holds if call `s` has a smaller number than call `r` and begins before `r` and, if one thread makes both calls, also
+-- ends before `r` begins.
 abbrev pub Follows : Standing → Standing → Type 0
 Follows s r = (s.number < r.number) × Later s.traced r.traced
 
