@@ -1,5 +1,5 @@
--- Proof: the seat passed to `close` (a per-thread handle) holds all seats of the set. Therefore the seat has seen all
--- events that determine the final keys.
+-- Proof: if the seat passed to `close` (a per-thread handle) holds all seats of the set, the seat has seen all events
+-- of the run. Therefore its events determine the final keys.
 use Rattle.std.proofs.Common.{◌≡◌, inl, ℕ, zero, suc, ◌+◌, ◌/◌, ◌<◌, false, List, [], ◌∷◌, map, length, None, refl, sym, ap, ◌∙◌}
 use Rattle.std.proofs.Common.{subst, arith}
 use mathlib.Core.Option.{some, some-injective, some-ne-none}

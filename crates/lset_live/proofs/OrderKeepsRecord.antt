@@ -119,7 +119,7 @@ at_thread P u (suc k) (x ∷ xs) a l h = at_thread P u k xs (by_test (x.thread =
     by_test true a = a.1
     by_test false a = a
 
--- Returns the reply of a call that has ended.
+-- Returns the reply of a call that has ended. For a pending call (`None`), returns `True` as a default.
 abbrev pub reply_in : Option (ℕ × Reply) → Reply
 reply_in None = True
 reply_in (Some e) = e.1

@@ -32,8 +32,8 @@ pub record IsAnswered (T : Table) (k : Opening) (t : ℕ) (c : Call) (r : Reply)
   })
 
 -- Holds if the events that a seat (per-thread handle) has seen are a run of the list, and the run's history has a
--- linearization that agrees with `r`, the record of the seat's calls. The run can lack calls of seats that were not
--- merged into the seat.
+-- linearization that agrees with `r`, the record of the seat's calls. Later calls of other seats can be missing from
+-- the run.
 pub record SeenIsLinearizable (T : Table) (k : Opening) (events : List Event) (r : Record) : Type 0 where
   pub run : IsRunOf T k events
   pub order : List Placed

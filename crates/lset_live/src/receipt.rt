@@ -1,5 +1,6 @@
-//! Receipts. A receipt is a token that one thread sends to another. It contains the events that a seat (a thread's
-//! handle to the set) had seen when the seat issued the receipt.
+//! Receipts. A receipt is a token that one thread sends to another, to order its earlier calls before the other
+//! thread's later calls. In contracts, a receipt contains the events (starts and steps of calls) that a seat
+//! (per-thread handle) had seen when the seat issued the receipt.
 ghost use Rattle.std.specs.Prelude.{◌≡◌};
 ghost use Rattle.lset_live.specs.Explained.{ReceiptsKeepOrder};
 ghost use Rattle.lset_rule.specs.Runs.{StartsWith};
@@ -10,8 +11,8 @@ use lset_rule::{GiveReceipt, Learn, TableSeat, TakeReceipt};
 use lset_steps::Machine;
 use std::marker::{Model, PhantomData};
 
-/// A receipt from a running set: the events that a seat (per-thread handle) had seen when the seat issued the receipt.
-/// No call can be made from a receipt.
+/// A receipt from a running set: a token which proves that a seat (per-thread handle) had seen certain events (starts
+/// and steps of calls) when the seat issued the receipt. No call can be made from a receipt.
 ///
 /// A thread sends a receipt to another thread by any channel. Once the receiver has passed the receipt to
 /// `LiveSet::after`, the receiver's later calls start after all events in the receipt. A receipt is zero-sized, can be
@@ -88,9 +89,9 @@ impl<M: Machine> LiveSet<M> {
     }
 }
 
-/// States the law of receipts, as the contract of an empty function. If a call has ended in the events of a receipt,
-/// the call precedes each later call of a seat (per-thread handle) that receives the receipt. The law is true in each
-/// order that linearizes the events up to the end of the later call, or these events followed by more.
+/// Lemma: if the end of a call is among the events in a receipt, the call precedes each call that a seat (per-thread
+/// handle) starts after it has received the receipt. This is true in each linearization of the events up to the end of
+/// the later call, and of these events followed by more.
 pub fn receipts_keep_order()
     ensures { ReceiptsKeepOrder }
 {}

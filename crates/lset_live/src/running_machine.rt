@@ -1,4 +1,5 @@
-//! Calls that can block, and a `contains` that never blocks, made from a seat (per-thread handle) on shared words.
+//! Lists whose calls threads make on shared words (memory cells): `Running` for calls that can block, and
+//! `OpenContains` for a `contains` that never blocks.
 ghost use Rattle.lset_words.specs.declared.Call.TheVariants.{Contains};
 ghost use Rattle.lset_rule.specs.Seats.{HasCalled, MayCall};
 
@@ -13,7 +14,7 @@ use lset_steps::OpenReads;
 use lset_words::{Call, Key, Reply};
 use std::sync::Wait;
 
-/// A list that threads call on shared words. Its calls can block.
+/// A list that threads call on shared words (memory cells). Its calls can block while another thread holds a lock.
 ///
 /// A list that is `Bounded` implements this trait without a body: `impl Running for MyList {}`.
 pub trait Running: Bounded {
@@ -46,12 +47,13 @@ impl Running for LazyList {}
 
 impl Running for LockFreeList {}
 
-/// A list that threads call on shared words. Its `contains` does not block.
+/// A list that threads call on shared words (memory cells), with a `contains` that never blocks.
 ///
 /// A list with bounded reads (`OpenReads`) implements this trait without a body. The list then uses the interpreter
 /// (`lset_rule::interpret_read`).
 pub trait OpenContains: Bounded + OpenReads {
-    /// Executes a `contains` of `key` in at most `OpenReads::bound` steps. Cannot block, because it has no runtime.
+    /// Executes a `contains` of `key` in at most `OpenReads::bound` steps, and returns the thread's slots and the
+    /// reply. Cannot block, because the function has no runtime argument. See `Bounded::make_within` for the arguments.
     fn contains_now_on(
         table: &Words<Self>,
         place: &mut TableSeat,
@@ -87,7 +89,8 @@ impl OpenContains for LockFreeList {
     }
 }
 
-/// A list that threads call on shared words. All calls can block, except `contains`.
+/// A list whose `add`, `remove` and `ceiling` can block, and that has a `contains` that never blocks
+/// (`OpenContains::contains_now_on`).
 pub trait RunningReads: Running + OpenReads + OpenContains {}
 
 impl RunningReads for LazyList {}

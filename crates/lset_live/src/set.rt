@@ -104,10 +104,10 @@ impl<M: Running> LiveSet<M> {
     /// Executes the call through `seat` (a per-thread handle), which must belong to the set, and returns the reply.
     /// Calls `pause` after each step of the call except the last.
     ///
-    /// Appends the call with its reply to the seat's record. The call starts after all events that the seat had seen.
-    /// Afterwards, the last step of the call is the last event that the seat has seen. All calls in the events that the
-    /// seat has seen have a linearization (Herlihy and Wing) that agrees with the record. Can block while another
-    /// thread holds a lock that the call needs. Does not allocate.
+    /// Appends the call with its reply to the seat's record of completed calls. In contracts, a seat has seen a prefix
+    /// of the run's events (starts and steps of calls). The call starts after this prefix, and its last step is the
+    /// last event of the new prefix. The calls in the new prefix have a linearization (Herlihy and Wing) that agrees
+    /// with the record. Can block while another thread holds a lock that the call needs. Does not allocate.
     pub fn call<R: Wait, P: Pause>(
         &self,
         rt: &R,
@@ -212,9 +212,9 @@ impl<M: Bounded> LiveSet<M> {
 }
 
 impl<M: Machine> LiveSet<M> {
-    /// Merges the seat `from` (a per-thread handle) into the seat `into`: the record of `from`, the seats that `from`
-    /// holds, and the events that `from` has seen. Both seats must belong to the set. In each order that agrees with
-    /// the record of `into`, the calls of `from` precede the later calls of `into`.
+    /// Merges the seat `from` (a per-thread handle) into the seat `into`, which then also has the record of `from`, the
+    /// seats that `from` held, and the events that `from` had seen. Both seats must belong to the set. In each order
+    /// that agrees with the record of `into`, the calls of `from` precede all calls that `into` makes after the merge.
     pub fn gather(&self, into: &mut Seat<M>, from: Seat<M>)
         requires into { into.old.set ≡ self.now }
         requires from { from.set ≡ self.now }
@@ -239,8 +239,9 @@ impl<M: Machine> LiveSet<M> {
     /// Closes the set if `seat` (a per-thread handle) holds all seats of the set. Otherwise returns the set and `seat`
     /// unchanged in `SeatsOut`.
     ///
-    /// Some legal order consists of exactly the calls in the seat's record, agrees with the record, and leaves the
-    /// final keys. The order also linearizes the history of the events that the seat has seen.
+    /// The calls in the seat's record have an order in which a sequential set returns the same replies and ends with
+    /// the final keys. The order agrees with the record, and is a linearization of the events (starts and steps of
+    /// calls) that the seat has seen.
     pub fn close(self, seat: Seat<M>) -> Result<Closed, SeatsOut<M>>
         requires { seat.set ≡ self }
         ensures all { IfOk result (λ c. seat.held ≡ self.shape.threads) }
@@ -322,10 +323,10 @@ impl<M: Machine> LiveSet<M> {
 
 impl<M: OpenContains> LiveSet<M> {
     /// Returns whether `key` is in the set, without blocking or allocating. `seat` (a per-thread handle) must belong to
-    /// the set.
+    /// the set. The call is appended to the seat's record with the reply `True` or `False`.
     ///
-    /// The call is wait-free: whatever other threads do, it takes at most `bound` steps, each of them a load
-    /// (`lset_steps::OpenReads`). Unlike `contains_now`, this function also exists for lists that are not `Running`.
+    /// The call is wait-free: whatever other threads do, it takes at most `lset_steps::OpenReads::bound` steps, and each
+    /// step is a load. Unlike `contains_now`, this function also exists for lists that are not `Running`.
     pub fn contains_within_bound(&self, seat: &mut Seat<M>, key: Key) -> bool
         requires { seat.old.set ≡ self.now }
         ensures answered { HasAnswered M.table self.now seat.old (Contains key) (reply_of result) seat.new }
@@ -347,8 +348,8 @@ impl<M: RunningReads> LiveSet<M> {
     /// Returns whether `key` is in the set, without blocking or allocating. `seat` (a per-thread handle) must belong to
     /// the set. The call is appended to the seat's record with the reply `True` or `False`.
     ///
-    /// The call is wait-free: whatever other threads do, it takes at most `bound` steps, each of them a load
-    /// (`lset_steps::OpenReads`).
+    /// The call is wait-free: whatever other threads do, it takes at most `lset_steps::OpenReads::bound` steps, and each
+    /// step is a load.
     pub fn contains_now(&self, seat: &mut Seat<M>, key: Key) -> bool
         requires { seat.old.set ≡ self.now }
         ensures answered { HasAnswered M.table self.now seat.old (Contains key) (reply_of result) seat.new }
