@@ -1,5 +1,5 @@
--- Proof that a seat (one thread's access to the set) that has as many threads as the set has each thread of the set.
--- Therefore, when the set is closed, the closing seat knows the words exactly.
+-- Proof: if a seat (one thread's access to the set) has as many threads as the set was opened with, it has every thread
+-- of the set. Therefore the seat that closes the set has seen all events, which determine the words in memory.
 use Rattle.std.proofs.Common.{◌≡◌, ◌≢◌, ◌⊎◌, inl, inr, ⊎_elim, ℕ, zero, suc, ◌+◌, ◌<◌, ◌≤◌, List, [], ◌∷◌, length, refl, sym, ap}
 use Rattle.std.proofs.Common.{◌∙◌, subst, arith, ◌++◌, false, append-nil, length-append}
 use mathlib.Core.Logic.{dite}

@@ -1,5 +1,5 @@
--- Proofs that compare two lists: the calls of a thread in the record of a seat (one thread's access to the set), and
--- the calls that the thread has made in the run.
+-- Lemmas about the calls in the record of a seat (one thread's access to the set), and about the calls that the seat's
+-- threads have made in the run.
 use Rattle.std.proofs.Common.{◌≡◌, ◌≢◌, inl, inr, ℕ, zero, suc, ◌<◌, ◌≤◌, Bool, true, false, if◌then◌else◌, cond, List, [], ◌∷◌}
 use Rattle.std.proofs.Common.{◌++◌, Option, Some, None, refl, sym, ap, ◌∙◌, subst, arith, eq-eqb, ne_eqb, append-nil, append_assoc}
 use Rattle.lset_words.specs.declared.Reply.{Reply}

@@ -1,4 +1,5 @@
--- Proofs about an interpreted call before and after each of its steps.
+-- Lemmas for the loop of the interpreter: each step of a call leads to a state in which the next step is allowed, or
+-- ends the call.
 use Rattle.std.proofs.Common.{◌≡◌, Some, None, sym, ap, ◌∙◌}
 use Rattle.atomic_table.specs.Seated.{TableId}
 use Rattle.lset_words.specs.declared.Call.{Call}

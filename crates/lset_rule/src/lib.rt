@@ -1,6 +1,6 @@
 //! The invariant of a list on shared words (the code calls it the rule). For every list (`lset_steps::Machine`) and
-//! between any two steps, some list of events is a run that ends with the words in memory. Each seat (one thread's
-//! access to the set) has seen a prefix of the events of the run.
+//! between any two steps, some list of events (starts and steps of calls) is a run that ends with the words in memory.
+//! Each seat (one thread's access to the set) has seen a prefix of the events of the run.
 //!
 //! Read the definitions in specs/ in this order: `Pasts`, `Runs`, `Views`, `Rule`, `Calls`, `Seats`.
 #![tactic(auto)]

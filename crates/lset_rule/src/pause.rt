@@ -6,8 +6,8 @@ use std::cell::Cell;
 /// The code that a call runs between two of its steps. No contract depends on the code of a pause: it cannot access the
 /// shared words or the seat (one thread's access to the set), and affects only how long a call lasts.
 ///
-/// Each outcome of a step has its own function, because the compiled code reads a byte after each call to a function
-/// that can yield the processor. If only `failed` can yield, no byte is read after steps that succeed.
+/// Steps that succeed and steps that fail have separate functions for speed: after a call to a function that can yield
+/// the processor, the compiled code reads a byte. If only `failed` can yield, steps that succeed avoid this read.
 pub trait Pause {
     /// Called after a step that succeeded without ending the call. `thread` is the number of the calling thread.
     fn moved(&self, thread: u32);
@@ -24,14 +24,14 @@ pub trait Pause {
     }
 }
 
-/// The maximum number of `Backoff::spin` calls after a failed step. With 16 calls, a thread executes 1,024 pause
-/// instructions. Meanwhile, the holder of a lock makes many calls, and the cache line of the lock stays with the
-/// holder's processor.
+/// The maximum number of `Backoff::spin` calls after a failed step: 16 calls execute up to 1,024 pause instructions.
+/// The long wait lets the thread that holds the lock make many calls while the cache line of the lock stays with its
+/// processor.
 const MOST_WAITS: u32 = 16;
 
-/// A pause that waits after each failed exchange with `Backoff` of `crossbeam_utils`. Each wait is twice as long as the
-/// previous wait, up to a limit. Once the limit is reached, the pause also yields the processor. When the call gets a
-/// lock, the waits become short again. Each call has its own `Spin`.
+/// A pause that waits after each failed compare-and-exchange, with `Backoff` of `crossbeam_utils`. The waits of a call
+/// grow up to a limit, and then also yield the processor. They are short again after the call gets a lock. Each call
+/// has its own `Spin`.
 #[derive(Drop)]
 pub struct Spin {
     backoff: Backoff,

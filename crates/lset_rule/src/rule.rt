@@ -24,8 +24,8 @@ impl<M: Machine> TableRule<(), View, Opened> for Follows<M> {
     ghost first = { opener };
 }
 
-/// A type that represents a call in the contract of the call's first step. A caller passes `Brand`, and proves which
-/// call `Brand` represents.
+/// A type that represents a call in contracts, so that the type parameter of [`FirstStep`] can name the call that
+/// starts. Callers of `start_on` pass `Brand`, and prove which call it represents.
 pub trait Asking {
     ghost call: { Call };
 }

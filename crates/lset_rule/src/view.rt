@@ -97,7 +97,8 @@ pub struct View {
     /// The completed calls of the seat (one thread's access to the set), and the records of the seats that were merged
     /// into it.
     pub past: Past,
-    /// The events that the seat (one thread's access to the set) has seen, oldest first.
+    /// The events that the seat (one thread's access to the set) has seen, oldest first: all events of all threads up
+    /// to its own last step or, if later, up to the last event that a merged seat or a receipt had seen.
     pub seen: LinkedList<Event>,
     /// The events that the seat had seen before its last merge, or before its last use of a receipt (the events that
     /// another seat has seen).
