@@ -128,7 +128,8 @@ abbrev pub HasExchanged : Table → Begun → ℕ → TableSeat → Bool → Tab
 HasExchanged m b old s true s' = HasTold m b s old s'
 HasExchanged m b old s false s' = (n : ℕ) × (n ≢ old) × HasTold m b s n s'
 
--- The parts of a thread's private state that do not matter for the loops.
+-- The other fields of a thread's private state: the node after the current node, the node of a second walk, and the
+-- keys that the walk has read. Most rows of the step table leave these fields arbitrary.
 pub record Rest : Type 0 where
   pub succ : ℕ
   pub node : ℕ
@@ -136,7 +137,7 @@ pub record Rest : Type 0 where
   pub ckey : ℕ
 
 -- Returns the private state of a thread at row `pc` of the list's step table (its numbered atomic steps). `p` is the
--- previous node, `x` is the current node, and `j` contains the parts that do not matter for the loops.
+-- previous node, `x` is the current node, and `j` contains the other fields.
 abbrev pub row : OwnSlots → Call → ℕ → Option Reply → ℕ → ℕ → Rest → Local
 row own c pc r p x j = record {
   thread = own.thread;

@@ -12,7 +12,8 @@ use lset_coarse::CoarseList;
 use lset_rule::{OwnSlots, Pause, Rounds, TableSeat, Words};
 use lset_words::{Call, LOCK, Reply};
 
-/// Walks from the head to the first key that is not smaller than the call's key.
+/// Walks from the head to the first key that is not smaller than the call's key. Returns that key's node and the node
+/// before it, or `None` after `N::MOST` rounds.
 fn walk<P: Pause, N: Rounds>(caller: &Caller<CoarseList, P>, place: &mut TableSeat) -> Option<Found>
     requires { AtHead caller.now.origin caller.now.slots place.old }
     ensures { IfSome result (λ f. StopsAt caller.now.origin caller.now.slots f place.new) }
@@ -32,7 +33,8 @@ fn walk<P: Pause, N: Rounds>(caller: &Caller<CoarseList, P>, place: &mut TableSe
     None
 }
 
-/// Adds or removes the key between the two nodes that the walk found, or only replies. The list's lock must be held.
+/// Makes the change that `decide` returns: links a new node between the two nodes in `found`, unlinks `found.curr`, or
+/// changes nothing. The call must hold the list's lock.
 fn act<P: Pause>(
     caller: &Caller<CoarseList, P>,
     place: &mut TableSeat,
@@ -58,7 +60,8 @@ fn act<P: Pause>(
 /// Executes a whole call on a CoarseList: takes the list's lock, walks to the key, adds or removes the key if needed,
 /// and releases the lock. This is Herlihy and Shavit's coarse-grained list.
 ///
-/// Returns `None` if a loop of the call has made `N::MOST` rounds. The call is then still pending.
+/// Returns the thread's slots (nodes reserved for its adds) after the call, and the reply. Returns `None` if a loop has
+/// made `N::MOST` rounds and not ended. The call is then still pending, and keeps the locks that it holds.
 pub fn coarse_within<P: Pause, N: Rounds>(
     table: &Words<CoarseList>,
     place: &mut TableSeat,

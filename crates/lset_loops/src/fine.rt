@@ -13,8 +13,8 @@ use lset_rule::{OwnSlots, Pause, Rounds, TableSeat, Words};
 use lset_steps::rows::lock_index;
 use lset_words::{Call, HEAD, Reply};
 
-/// Walks from the locked head to the first key that is not smaller than the call's key. Locks each node before it
-/// releases the previous node, and returns the last two nodes locked.
+/// Walks from the locked head to the first key that is not smaller than the call's key, and locks each node before it
+/// releases the previous node. Returns the last two nodes, still locked, or `None` if a loop has made `N::MOST` rounds.
 fn walk<P: Pause, N: Rounds>(caller: &Caller<FineList, P>, place: &mut TableSeat) -> Option<Found>
     requires { AtHead caller.now.origin caller.now.slots place.old }
     ensures { IfSome result (λ f. StopsAt caller.now.origin caller.now.slots f place.new) }
@@ -36,7 +36,8 @@ fn walk<P: Pause, N: Rounds>(caller: &Caller<FineList, P>, place: &mut TableSeat
     None
 }
 
-/// Adds or removes the key between the two locked nodes that the walk found, or only replies.
+/// Makes the change that `decide` returns: links a new node between the two nodes in `found`, unlinks `found.curr`, or
+/// changes nothing. The call must hold the locks of both nodes.
 fn act<P: Pause>(
     caller: &Caller<FineList, P>,
     place: &mut TableSeat,
@@ -62,7 +63,8 @@ fn act<P: Pause>(
 /// Executes a whole call on a FineList: walks to the key, locking each node before it releases the previous node, adds
 /// or removes the key if needed, and releases both locks. This is Herlihy and Shavit's fine-grained list.
 ///
-/// Returns `None` if a loop of the call has made `N::MOST` rounds. The call is then still pending.
+/// Returns the thread's slots (nodes reserved for its adds) after the call, and the reply. Returns `None` if a loop has
+/// made `N::MOST` rounds and not ended. The call is then still pending, and keeps the locks that it holds.
 pub fn fine_within<P: Pause, N: Rounds>(
     table: &Words<FineList>,
     place: &mut TableSeat,

@@ -14,8 +14,8 @@ use lset_lazy::LazyList;
 use lset_rule::{OwnSlots, Pause, Rounds, TableSeat, Words};
 use lset_words::{Call, Reply};
 
-/// Walks from the head to the first key that is not smaller than the call's key. The walk starts at `first`, the node
-/// that the head's link led to.
+/// Walks from `first`, the node after the head, to the first key that is not smaller than the call's key. Returns that
+/// key's node and the node before it, or `None` after `N::MOST` rounds.
 #[inline(always)]
 fn walk<P: Pause, N: Rounds>(
     caller: &Caller<LazyList, P>,
@@ -61,7 +61,8 @@ fn validate<P: Pause>(
     Some(Node::behind(after))
 }
 
-/// Adds or removes the key between the two locked nodes that the walk found, or only replies.
+/// Makes the change that `decide` returns: links a new node between the two nodes in `found`, marks and unlinks
+/// `found.curr`, or changes nothing. The call must hold the locks of both nodes; `succ` is the node after `found.curr`.
 fn act<P: Pause>(
     caller: &Caller<LazyList, P>,
     place: &mut TableSeat,
@@ -90,7 +91,8 @@ fn act<P: Pause>(
 /// releases both locks; otherwise releases both locks and starts over. This is Herlihy and Shavit's lazy list, after
 /// Heller and others.
 ///
-/// Returns `None` if a loop of the call has made `N::MOST` rounds. The call is then still pending.
+/// Returns the thread's slots (nodes reserved for its adds) after the call, and the reply. Returns `None` if a loop has
+/// made `N::MOST` rounds and not ended. The call is then still pending, and keeps the locks that it holds.
 pub fn lazy_change_within<P: Pause, N: Rounds>(
     table: &Words<LazyList>,
     place: &mut TableSeat,

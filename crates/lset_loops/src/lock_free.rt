@@ -14,8 +14,9 @@ use lset_lock_free::LockFreeList;
 use lset_rule::{OwnSlots, Pause, Rounds, TableSeat, Words};
 use lset_words::{Call, Reply};
 
-/// Walks from the head to the first key that is not smaller than the call's key, and unlinks marked nodes on the way:
-/// Herlihy and Shavit's `find`. The walk starts at `first`, the node that the head's link led to.
+/// Walks from `first`, the node after the head, to the first key that is not smaller than the call's key, and unlinks
+/// marked nodes on the way (Herlihy and Shavit's `find`). Returns that key's node and the node before it, or `None`
+/// after `N::MOST` rounds.
 fn find<P: Pause, N: Rounds>(
     caller: &Caller<LockFreeList, P>,
     place: &mut TableSeat,
@@ -51,8 +52,8 @@ fn find<P: Pause, N: Rounds>(
     None
 }
 
-/// Adds or removes the key between the two nodes that the walk found, or only replies. Returns `None` if a link has
-/// changed since the walk.
+/// Makes the change that `decide` returns: links a new node between the two nodes in `found`, marks `found.curr` and
+/// attempts to unlink it, or changes nothing. Returns `None` if a link has changed since the walk.
 fn attempt<P: Pause>(
     caller: &Caller<LockFreeList, P>,
     place: &mut TableSeat,
@@ -88,7 +89,8 @@ fn attempt<P: Pause>(
 /// (an unused node) into the list, and a `remove` marks the node and attempts once to unlink it. Starts over if a link
 /// has changed since the walk. This is Herlihy and Shavit's lock-free list.
 ///
-/// Returns `None` if a loop of the call has made `N::MOST` rounds. The call is then still pending.
+/// Returns the thread's slots (nodes reserved for its adds) after the call, and the reply. Returns `None` if a loop has
+/// made `N::MOST` rounds and not ended. The call is then still pending.
 pub fn lock_free_change_within<P: Pause, N: Rounds>(
     table: &Words<LockFreeList>,
     place: &mut TableSeat,

@@ -19,8 +19,8 @@ pub(crate) struct Stopped {
     pub(crate) before: u64,
 }
 
-/// Walks from the head to the first key that is not smaller than the call's key. The walk starts at `first`, the node
-/// that the head's link led to.
+/// Walks from `first`, the node after the head, to the first key that is not smaller than the call's key. Returns that
+/// key's node and the node before it, or `None` after `N::MOST` rounds.
 #[inline(always)]
 fn walk<P: Pause, N: Rounds>(
     caller: &Caller<OptimisticList, P>,
@@ -48,8 +48,8 @@ fn walk<P: Pause, N: Rounds>(
     None
 }
 
-/// Walks a second time from the head, and returns whether this walk reaches `pred`. The walk fails if it sees a key
-/// greater than the key of `pred`.
+/// Walks from the head a second time, and returns whether this walk reaches the node `pred` that the first walk found
+/// before it meets a key greater than the key of `pred`. Returns `None` after `N::MOST` rounds.
 #[inline(always)]
 fn reaches<P: Pause, N: Rounds>(
     caller: &Caller<OptimisticList, P>,
@@ -79,7 +79,8 @@ fn reaches<P: Pause, N: Rounds>(
     None
 }
 
-/// Returns whether `pred` is still in the list and leads to `curr`. Both nodes must be locked.
+/// Returns whether the node `pred` that the walk found is still in the list and its link points to `curr`. Returns
+/// `None` if the second walk has made `N::MOST` rounds. Both nodes must be locked.
 fn validate<P: Pause, N: Rounds>(
     caller: &Caller<OptimisticList, P>,
     place: &mut TableSeat,
@@ -99,7 +100,8 @@ fn validate<P: Pause, N: Rounds>(
     Some(true)
 }
 
-/// Adds or removes the key between the two locked nodes that the walk found, or only replies.
+/// Makes the change that `decide` returns: links a new node between the two nodes in `found`, unlinks `found.curr`, or
+/// changes nothing. The call must hold the locks of both nodes.
 fn act<P: Pause>(
     caller: &Caller<OptimisticList, P>,
     place: &mut TableSeat,
@@ -127,7 +129,8 @@ fn act<P: Pause>(
 /// needed and releases both locks; otherwise releases both locks and starts over. This is Herlihy and Shavit's
 /// optimistic list.
 ///
-/// Returns `None` if a loop of the call has made `N::MOST` rounds. The call is then still pending.
+/// Returns the thread's slots (nodes reserved for its adds) after the call, and the reply. Returns `None` if a loop has
+/// made `N::MOST` rounds and not ended. The call is then still pending, and keeps the locks that it holds.
 pub fn optimistic_within<P: Pause, N: Rounds>(
     table: &Words<OptimisticList>,
     place: &mut TableSeat,

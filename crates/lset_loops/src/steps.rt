@@ -140,8 +140,8 @@ impl<'a, M: Machine, P: Pause> Caller<'a, M, P> {
         true
     }
 
-    /// Attempts repeatedly to take the lock at index `word`, until an attempt succeeds. Returns `None` after `N::MOST`
-    /// failed attempts.
+    /// Attempts to take the lock at index `word` of the shared words until an attempt succeeds. Returns `None` after
+    /// `N::MOST` failed attempts.
     #[inline(never)]
     fn wait_for<N: Rounds>(&self, place: &mut TableSeat, word: u64) -> Option<()>
         requires { MayLock M.table self.now.origin word self.now.slots.thread place.old }
