@@ -73,7 +73,8 @@ impl Join<Tally> for Parting {
     ghost spent = { tally 0 [] [] };
 }
 
-/// The change of the sender's tally (the numbers of the connections sent) when a message is sent.
+/// How the tally of a pass (permission to use the channel) changes when a message is sent with the pass: if the message
+/// is a connection, its number is appended to the numbers sent.
 pub(crate) struct Sending;
 
 impl<S> Outcome<Message<S>, Tally> for Sending {
@@ -84,7 +85,8 @@ impl<S> Lesson<Message<S>, Tally> for Sending {
     ghost fact = { λ v items. ⊤ };
 }
 
-/// The change of the receiver's tally (the numbers of the connections received) when a message is received.
+/// How the tally of a pass (permission to use the channel) changes when a message is received with the pass: if the
+/// message is a connection, its number is appended to the numbers received.
 pub(crate) struct Receiving;
 
 impl<S> Outcome<Message<S>, Tally> for Receiving {
@@ -110,10 +112,12 @@ pub(crate) type Sender<S> = RuledSender<Message<S>, Tally, NothingLost>;
 
 pub(crate) type Receiver<S> = RuledReceiver<Message<S>, Tally, NothingLost>;
 
-/// A pass: the right to send and receive on the channel. Zero-sized.
+/// A pass: the permission to send and receive on the channel. A pass is zero-sized, and its tally exists only in
+/// contracts.
 pub(crate) type Token<S> = Pass<Message<S>, Tally>;
 
-/// Sends a message. Blocks while the channel is full. `pass` must be a permission to use the channel of `to`.
+/// Sends a message with `pass`, a permission to use the channel of `to`. Blocks while the channel is full. If the
+/// message cannot be sent, returns it in the error.
 pub fn send<S: Drop, R: Wait>(
     rt: &R,
     to: &Sender<S>,
@@ -130,7 +134,7 @@ pub fn send<S: Drop, R: Wait>(
     to.send_as::<Sending, R>(rt, pass, message)
 }
 
-/// Receives a message. Blocks until a message arrives. `pass` must be a permission to use the channel of `from`.
+/// Receives a message with `pass`, a permission to use the channel of `from`. Blocks until a message arrives.
 pub fn receive<S: Drop, R: Wait>(
     rt: &R,
     from: &Receiver<S>,

@@ -53,10 +53,10 @@ fn drop_rest<I: Source>(reader: &mut I)
     }
 }
 
-/// Prepares a connection for closing after its session has ended for the reason `why`. If the session ended before its
-/// input did (reason `Quit`, `Long` or `Limit`), closes the sending side. Then reads the client's remaining bytes, for
-/// at most one second and at most 1,048,576 bytes. Meanwhile the system can deliver the answers. Returns at once if the
-/// system refuses to close the sending side.
+/// Prepares a connection for closing after its session has ended for the reason `why`. If the client can still be
+/// sending (reason `Quit`, `Long` or `Limit`), closes the sending side and then reads the client's remaining bytes, for
+/// at most one second and at most 1,048,576 bytes. Meanwhile the system can deliver the answers. Does nothing for any
+/// other reason, and does not read if the system refuses to close the sending side.
 pub(crate) fn take_leave<R: Clock>(rt: &R, stream: &TcpStream, why: EndReason) {
     match why {
         EndReason::Quit | EndReason::Long | EndReason::Limit => {}

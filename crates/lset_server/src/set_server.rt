@@ -233,7 +233,7 @@ fn serve_all<R: Threads + Wait + Clock + Sync, M: Running + Send + Sync>(
 /// - `Seats`: if and only if `seats`, including the seats merged into them, are not all seats of the set. No connection
 ///   was accepted, and the set and the seats are returned.
 /// - `Accept`, `Spawn`: the system refused a connection or a thread.
-/// - `Send`: the channel returned a connection.
+/// - `Send`: the channel returned a connection, or another message, instead of sending it to a worker.
 /// - `Left`: the workers received fewer connections than were accepted.
 /// - `Memory`: an allocation failed.
 ///

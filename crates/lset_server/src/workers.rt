@@ -53,7 +53,8 @@ impl<M: Running> Promise<WorkerResult<M>> for WorkerPromise<M> {
 /// A started worker thread.
 pub(crate) type Worker<M> = PromisedHandle<WorkerResult<M>, WorkerPromise<M>>;
 
-/// Waits for the next connection. Returns `None` if no more connections will arrive.
+/// Waits for the next connection. Returns `None` if the message `Close` or an error arrives, because no more
+/// connections follow.
 fn next<R: Wait>(
     rt: &R,
     from: &Receiver<TcpStream>,
