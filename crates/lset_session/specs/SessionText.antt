@@ -49,15 +49,16 @@ pub data Turn : Type 0 where
   long : Turn
   limit : Turn
 
--- Returns the turns of a session whose first line contains the given request. `later` contains the turns of the
--- following lines. No turn follows `QUIT`. If `left` is 1, the session can answer only the first line, and the notice
--- of the limit follows.
+-- Returns the turns of a session whose first line contains the given request (a turn is a line, or the notice that the
+-- limit of lines is reached). `later` contains the turns of the following lines. No turn follows `QUIT`. If `left` is
+-- 1, the session can answer only the first line, and the notice of the limit follows.
 abbrev pub turns_after : ℕ → Request → List Turn → List Turn
 turns_after left request.Quit later = line request.Quit ∷ []
 turns_after left other later = line other ∷ (if left == 1 then limit ∷ [] else later)
 
--- Returns the turns of a session that can answer `left` lines. The input is given as a list of lines. The part of the
--- input after the last newline causes a turn only if that part is too long.
+-- Returns the turns of a session that can answer `left` lines (a turn is a line, or the notice that the limit is
+-- reached). The input is given as a list of lines. The part of the input after the last newline causes a turn only if
+-- that part is too long.
 abbrev pub turns_at : ℕ → List (List ℕ) → List Turn
 turns_at left [] = []
 turns_at left (rest ∷ []) = if nat_lt LONGEST_LINE (length rest) then long ∷ [] else []

@@ -121,8 +121,8 @@ fn count_of(request: Request) -> u64
     }
 }
 
-/// Answers the current line, which is complete. Returns the reason why the session ends after the line, or `None` if
-/// the session continues.
+/// Answers the current line, which is complete, and empties the line. Returns the reason why the session ends after the
+/// answer, or `None` if the session continues.
 fn line_in<R: Wait, W: Sink, S: SetCalls>(
     rt: &R,
     writer: &mut W,
@@ -155,8 +155,8 @@ fn line_in<R: Wait, W: Sink, S: SetCalls>(
     None
 }
 
-/// Processes one byte of the input. Returns the reason why the session ends with `byte`, or `None` if the session
-/// continues.
+/// Answers the current line if `byte` is a newline, otherwise appends `byte` to the line. Returns the reason why the
+/// session ends with `byte` (`Long` if the line is already full), or `None` if the session continues.
 fn byte_in<R: Wait, W: Sink, S: SetCalls>(
     rt: &R,
     writer: &mut W,
