@@ -3,7 +3,8 @@ ghost use Rattle.std.specs.Prelude.{◌≡◌, Bool, true, false, IsTrue};
 /// A gate: a callback that decides, before each call of a program, whether the call is made. A gate cannot access the
 /// set.
 pub trait Gate {
-    /// States whether the gate can return false, that is, can stop a program (the calls of one thread).
+    /// Returns `true` if the gate can refuse a call, and so stop a program (the calls of one thread). Exists only in
+    /// contracts.
     ghost may_shut: { Self → Bool } = { λ _. true };
 
     /// Returns whether to make call number `call` (from 0) of the program of thread `seat`.

@@ -20,8 +20,8 @@ pub(crate) struct Done<M: Running> {
     pub replies: Option<Vec<Reply>>,
 }
 
-/// What a thread promises in its contract: to make all calls of its program on its seat (per-thread handle to the set),
-/// unless the gate (a callback that permits or refuses each call) stops the program.
+/// The arguments of a thread, for the thread's contract: the thread makes all calls of its program on its seat
+/// (per-thread handle to the set), unless the gate (a callback that permits or refuses each call) stops the program.
 #[derive(Drop)]
 pub(crate) struct WorkerPromise<M: Running, G: Gate> {
     pub set: Snapshot<LiveSet<M>>,
@@ -171,8 +171,9 @@ pub(crate) struct Gathered<M: Running> {
     pub replies: Vec<Vec<Reply>>,
 }
 
-/// Waits for the threads to end and merges their seats (per-thread handles to the set) into one. Returns `None` if the
-/// gate (a callback that permits or refuses each call) stopped a program.
+/// Waits for one thread after another, and merges their seats (per-thread handles to the set) into one. Returns `None`
+/// at the first thread whose program was stopped by the gate (a callback that permits or refuses each call), without
+/// waiting for the remaining threads.
 pub(crate) fn join_all<R: Threads, M: Running, G: Gate>(
     rt: &R,
     set: &LiveSet<M>,
