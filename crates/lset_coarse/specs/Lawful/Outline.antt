@@ -62,8 +62,8 @@ one_lock = record {
   still = λ v q u e. record { keys = refl; links = refl; list_lock = refl; used = refl };
 }
 
--- Holds if thread `me` - 1 holds the list's lock, the chain contains pred, the key of pred is smaller than `key`, and
--- curr is the node after pred.
+-- Holds if thread `me` - 1 holds the list's lock, pred is in the chain (the nodes reachable from the head), the key of
+-- pred is smaller than `key`, and curr is the node after pred.
 pub record Walking (v : View) (me key pred curr : ℕ) : Type 0 where
   pub mine : v.list_lock ≡ me
   pub at : InChain v pred
@@ -90,7 +90,7 @@ pub data At (q t : ℕ) (vs : ℕ → View) (first now : ℕ) (v : View) (done :
   at10 : l.pc ≡ 10 → v.list_lock ≡ t + 1 → (r : Reply) → l.reply ≡ Some r → Due done q vs first now t l.call r
       → At q t vs first now v done l
 
--- Lemma: if no link changes, each segment of the chain stays the same.
+-- Lemma: if no link changes, the links still lead from node `i` to node `j` through the same nodes `ns`.
 segment_same : (v w : View) → w.link ≡ v.link → (i j : ℕ) (ns : List ℕ) → Segment v i ns j → Segment w i ns j
 segment_same v w e i j [] x = x
 segment_same v w e i j (a ∷ ns) x = (x.0, x.1, segment_same v w e (w.link i / 2) j ns (rw e x.2))
@@ -168,8 +168,8 @@ module _ (sz : Sizes) (t : ℕ) (vs : ℕ → View) (first now : ℕ) (ws : List
   curr_published : Window V t l → V.published l.curr
   curr_published w = in_chain_published V M.ordered l.curr (curr_at w)
 
-  -- Lemma: `Walking` holds for each node of the chain whose key is smaller than the call's key, and for the node after
-  -- it.
+  -- Lemma: while the thread holds the list's lock, `Walking` holds for each node `a` of the chain (the nodes reachable
+  -- from the head) whose key is smaller than the call's key, and for the node after `a`.
   walks : (a : ℕ) → slice_index ws 0 ≡ t + 1 → InChain V a → node_key ws a < target l.call
       → Walking V (t + 1) (target l.call) a (node_link ws a / 2)
   walks a mine i lt = record { mine = mine; at = i; follows = even_next a i; below = lt }
