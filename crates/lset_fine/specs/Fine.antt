@@ -32,8 +32,8 @@ next_action l =
     else if l.pc == 12 then Store (lock_index l.curr) 0
     else Store (lock_index l.pred) 0
 
--- Returns the thread's private state after the thread has loaded curr's key. If the key of curr is smaller than the
--- call's key, the walk continues. Otherwise the call has a reply or will change the set.
+-- Returns the thread's private state after the thread has loaded `seen`, the key of `curr`. If `seen` is smaller than
+-- the call's key, the walk continues. Otherwise the call has a reply or will change the set.
 abbrev pub at_key : ℕ → Local → Local
 at_key seen l =
     if nat_lt seen (target l.call) then record l { pc = 5; ckey = seen }

@@ -25,8 +25,8 @@ use Rattle.lset_steps.proofs.Turns.{Turn, Follows, node_locks, locks_nodes, due_
 use Rattle.lset_steps.proofs.Turns.Turn.{passes, changes, answers}
 use Rattle.lset_fine.specs.Fine.{fine, targets}
 
--- Holds if thread t holds the locks of pred and of curr, curr is the node after pred, and the key of pred is smaller
--- than the call's key.
+-- Holds if thread `t` holds the locks of the nodes `l.pred` and `l.curr`, `l.curr` is the node after `l.pred`, and the
+-- key of `l.pred` is smaller than the call's key.
 abbrev Window : View → ℕ → Local → Type 0
 Window v t l = Between v t (target l.call) l.pred l.curr
 
