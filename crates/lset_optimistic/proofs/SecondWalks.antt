@@ -1,5 +1,5 @@
 -- Proof that the second walks of OptimisticList, which validate what the first walks found, are valid: each node that a
--- second walk reaches was in the chain.
+-- second walk reaches was in the chain (reachable from the head) at some moment of the call.
 use Rattle.std.specs.Prelude.{◌≡◌, ◌≢◌, ℕ, zero, suc, ◌+◌, ◌-◌, ◌/◌, ◌<◌, ◌≤◌, ◌⊎◌, Bool, true, false, None, if◌then◌else◌, ◌==◌}
 use Rattle.std.specs.Prelude.{nat_lt, slice_index_or, slice_set, length, refl}
 use Rattle.std.proofs.Common.{arith, inl, inr, sym, ◌∙◌, ap, subst, get_or-set_other, get_or-set_same}
@@ -97,7 +97,8 @@ module _ (q t : ℕ) (vs : ℕ → View) (first now : ℕ) (v : View) (done : Bo
     decides = λ from upto. absurd (omega arith);
   }
 
--- Holds if, after a step, the second walk is at pred, and the step has not changed the thread's pred.
+-- Holds if the second walk is at pred, the first locked node, in the private state `m` after a step, and the step has
+-- not changed `pred` of the private state `l` before the step.
 abbrev Stays : Local → Local → Type 0
 Stays l m = HasArrived m × (m.pred ≡ l.pred)
 

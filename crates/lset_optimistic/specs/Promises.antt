@@ -28,9 +28,9 @@ world_at op es k = views optimistic op es k
 abbrev pub IsWalking : Local → Type 0
 IsWalking l = (l.pc ≡ 6) ⊎ (l.pc ≡ 7)
 
--- Holds if the second walk of a call has arrived at pred, and the thread has not yet released pred's lock. The thread
--- is at one of the rows 7 (the load of pred's key) to 14 (the release of pred's lock) of the step table. After a failed
--- second walk, a thread is also at row 14, but its walk is not at pred.
+-- Holds if the second walk of a call has arrived at pred, the first locked node, and the thread has not yet released
+-- pred's lock. The thread is then at one of the rows 7 (the load of pred's key) to 14 (the release of pred's lock) of
+-- the step table. After a failed second walk, a thread is also at row 14, but its walk is not at pred.
 pub record HasArrived (l : Local) : Type 0 where
   pub from : 7 ≤ l.pc
   pub upto : l.pc ≤ 14
@@ -41,13 +41,14 @@ pub record GivesBack (op : Opening) (es : ℕ → Event) (i t a : ℕ) : Type 0 
   pub step : es i ≡ Go t
   pub stores : optimistic.next (held_at op es i t) ≡ Store (lock_index a) 0
 
--- Holds if node a is in the chain and thread t holds the lock of node a.
+-- Holds if node `a` is in the chain (the nodes reachable from the head) and thread `t` holds the lock of node `a`.
 pub record IsLockedInChain (v : View) (t a : ℕ) : Type 0 where
   pub in_chain : InChain v a
   pub mine : v.lock a ≡ t + 1
 
--- Holds if node a was in the chain at some moment from `first` to `now` (a moment is the number of events so far), and
--- thread t has held the lock of pred since that moment. Node a itself can have left the chain in the meantime.
+-- Holds if node `a` was in the chain (the nodes reachable from the head) at some moment from `first` to `now` (a moment
+-- is the number of events so far), and thread `t` has held the lock of node `pred` since that moment. Node `a` itself
+-- can have left the chain in the meantime.
 pub record WasInChain (vs : ℕ → View) (first now t pred a : ℕ) : Type 0 where
   pub at : ℕ
   pub from : first ≤ at
@@ -57,13 +58,14 @@ pub record WasInChain (vs : ℕ → View) (first now t pred a : ℕ) : Type 0 wh
 
 -- The properties of all second walks that thread t makes in a run.
 pub record WalksAreValid (op : Opening) (last t : ℕ) (es : ℕ → Event) : Type 0 where
-  -- A second walk can pass nodes that are being unlinked. But each node that the walk reaches was in the chain at some
-  -- moment during the call, and the thread has held the lock of pred since that moment.
+  -- A second walk can pass nodes that are being unlinked. But each node that the walk reaches was in the chain
+  -- (reachable from the head) at some moment during the call, and the thread has held the lock of pred, the first
+  -- locked node, since that moment.
   pub passes : (k : ℕ) → k ≤ last → IsWalking (held_at op es k t)
       → WasInChain (views optimistic op es) (begun_at (log_of optimistic op es) t k) k t (held_at op es k t).pred
       (held_at op es k t).node
-  -- If a second walk has arrived at pred after `j` events, then pred is in the chain and the thread holds pred's lock
-  -- until the thread releases the lock.
+  -- If a second walk has arrived at pred, the first locked node, after `j` events, then pred is in the chain (reachable
+  -- from the head) and the thread holds pred's lock until the thread releases the lock.
   pub arrives : (j k : ℕ) → j ≤ k → k ≤ last → HasArrived (held_at op es j t)
       → ((i : ℕ) → j ≤ i → i < k → GivesBack op es i t (held_at op es j t).pred → ⊥)
       → IsLockedInChain (world_at op es k) t (held_at op es j t).pred
@@ -71,8 +73,8 @@ pub record WalksAreValid (op : Opening) (last t : ℕ) (es : ℕ → Event) : Ty
   -- thread's second walk has arrived at pred.
   pub decides : (k : ℕ) → k ≤ last → 8 ≤ (held_at op es k t).pc → (held_at op es k t).pc ≤ 13 → HasArrived (held_at op es k t)
 
--- [Validated walk]: once the second walk has arrived at pred, pred is in the chain until the thread releases pred's
--- lock, even if the walk has passed nodes that were being unlinked.
+-- [Validated walk]: once the second walk has arrived at pred, the first locked node, pred is in the chain (reachable
+-- from the head) until the thread releases pred's lock, even if the walk has passed nodes that were being unlinked.
 abbrev pub ValidatedWalk : Type 0
 ValidatedWalk = (op : Opening) (last t : ℕ) (es : ℕ → Event) → Run optimistic op es last → t < op.threads →
     WalksAreValid op last t es

@@ -29,7 +29,7 @@ use lset_steps::{Action, Fed, Local, Machine};
 use lset_words::{Call, HEAD, Key, Kind, Reply};
 
 /// The list-based set that walks without locks, and then locks the two nodes at which the walk ended. A second walk
-/// from the head checks that the first locked node is still in the chain, and that its link points to the second locked
+/// from the head checks that the first locked node is still reachable, and that its link points to the second locked
 /// node.
 #[derive(Clone, Copy)]
 pub struct OptimisticList;
@@ -42,8 +42,9 @@ const TARGETS: Targets = Targets {
     leaves: 14,
 };
 
-/// Returns the access to a shared word that a pending call makes next. The program counter `pc` is the number of a row
-/// of the step table. The numbers in `local` must be small (`IsSmall`), as they are in every run.
+/// Returns the access to a shared word (memory cell) that a pending call makes in its next step. `local.pc` is the
+/// number of the call's row in the step table (the list's numbered atomic steps). The numbers in `local` must be small
+/// (`IsSmall`), as they are in every run.
 #[inline(always)]
 pub fn next_action(local: &Local) -> Action
     requires { IsSmall local.now }
@@ -218,7 +219,8 @@ pub fn fed_by(local: &Local, seen: u64) -> Fed
     }
 }
 
-/// Returns the key that the next step adds (`true`) or removes (`false`), or `None` if the step changes nothing.
+/// Returns the key that the next step adds to the set (with `true`) or removes from the set (with `false`), or `None`
+/// if the step changes nothing.
 #[inline(always)]
 pub fn effect_of(local: &Local, _seen: u64) -> Option<(Key, bool)>
     ensures { result ≡ effect_of local.now _seen }

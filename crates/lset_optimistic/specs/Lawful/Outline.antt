@@ -46,8 +46,8 @@ reached_kept {pred = pred} g f = record {
 abbrev pub Window : View → Local → Type 0
 Window v l = Reached v (target l.call) l.pred l.pkey l.curr l.ckey
 
--- Holds if a second walk has reached pred, curr is the node after pred in the chain, and thread t holds the locks of
--- both nodes.
+-- Holds if a second walk has reached the node `l.pred`, `l.curr` is the node after `l.pred`, and thread `t` holds the
+-- locks of both nodes.
 abbrev pub Neighbours : View → ℕ → Local → Type 0
 Neighbours v t l = Between v t (target l.call) l.pred l.curr × (l.node ≡ l.pred)
 
@@ -79,7 +79,7 @@ pub data At (q t : ℕ) (vs : ℕ → View) (first now : ℕ) (v : View) (done :
       → Outcome done q vs first now t l.call l.reply → At q t vs first now v done l
   at15 : l.pc ≡ 15 → v.lock l.curr ≡ t + 1 → Outcome done q vs first now t l.call l.reply → At q t vs first now v done l
 
--- Steps of other threads preserve the assertions of thread `t`.
+-- Lemmas: steps of other threads preserve the assertions of thread `t`.
 module _ (q t : ℕ) (vs : ℕ → View) (first now : ℕ) (v w : View) (done : Bool) (l : Local) (present : vs now ≡ v)
     (r : Rely v w q t) where
   s : Leaves v w t
