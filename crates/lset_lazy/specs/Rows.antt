@@ -22,9 +22,9 @@ on_to pc l = continued (record l { pc = pc })
 abbrev pub leaves : Option Reply → Local → Fed
 leaves r l = continued (goes_to 13 r l)
 
--- Decides how a call continues after it has locked both nodes and found that `curr` is not marked. An `add` that will
+-- Returns the outcome of the step that has found `curr` unmarked, while the call holds both locks. An `add` that will
 -- change the set continues at row 8 of the step table, and a `remove` that will change the set at row 11. Any other
--- call has a reply. (Whether a call will change the set depends on whether `curr` has the call's key.)
+-- call gets its reply: for example, an `add` gets `False` if `curr` has the call's key.
 abbrev pub decides : Call → Local → Fed
 decides (Add k) l =
     if l.ckey == target (Add k) then leaves (Some False) l
@@ -67,7 +67,7 @@ pub record LazyRows (T : Table) : Type 0 where
   pub row_7 : Does T 7 (λ l. Load (link_index l.curr))
       (λ l seen. if seen % 2 == 0 then decides l.call (record l { succ = seen / 2 }) else leaves None l)
       nothing
-  -- An `add` writes the key and the link of its own slot, a reserved node that is not yet in the chain. Then the `add`
+  -- An `add` writes the key and the link of its own slot, a reserved node that no link leads to yet. Then the `add`
   -- links the slot after `pred`, which adds the key to the set.
   pub row_8 : Does T 8 (λ l. Store (key_index (own_slot l)) (target l.call)) (λ l seen. on_to 9 l) nothing
   pub row_9 : Does T 9 (λ l. Store (link_index (own_slot l)) (2 * l.curr)) (λ l seen. on_to 10 l) nothing

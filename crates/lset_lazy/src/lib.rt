@@ -16,8 +16,8 @@ use lset_steps::rows::{Targets, decide, key_index, link_index, lock_index, own_s
 use lset_steps::{Action, Fed, Local, Machine, OpenReads};
 use lset_words::{Call, HEAD, Key, Kind, Reply};
 
-/// The list-based set that marks nodes before it unlinks them, and walks without locks. At the end of its walk, an
-/// `add` or a `remove` locks the two nodes that it found, and walks again if they have changed.
+/// The list-based set that marks nodes before it unlinks them, and walks without locks. After its walk, an `add` or a
+/// `remove` locks the two nodes that it found, and walks again if they are no longer unmarked neighbours.
 #[derive(Clone, Copy)]
 pub struct LazyList;
 
@@ -29,8 +29,9 @@ const TARGETS: Targets = Targets {
     leaves: 13,
 };
 
-/// Returns the access to a shared word that a pending call makes next. The program counter `pc` is the number of a row
-/// of the step table. The numbers in `local` must be small (`IsSmall`), as they are in every run.
+/// Returns the access to a shared word (memory cell) that a pending call makes in its next step. `local.pc` is the
+/// number of the call's row in the step table (the list's numbered atomic steps). The numbers in `local` must be small
+/// (`IsSmall`), as they are in every run.
 #[inline(always)]
 pub fn next_action(local: &Local) -> Action
     requires { IsSmall local.now }
@@ -54,8 +55,8 @@ pub fn next_action(local: &Local) -> Action
     }
 }
 
-/// Returns the thread's private state after the thread's walk has moved on to the node after `pred`. Next, the walk
-/// loads that node's key.
+/// Returns the thread's private state after the walk has loaded `seen`, the link of `pred`, and moved to the node that
+/// the link leads to. Next, the walk loads that node's key.
 #[inline(always)]
 fn walked_from(pred: u64, local: &Local, seen: u64) -> Local
     ensures { result ≡ record local.now { pc = 2; pred = pred; curr = seen / 2 } }
@@ -181,7 +182,8 @@ pub fn fed_by(local: &Local, seen: u64) -> Fed
     continued(next)
 }
 
-/// Returns the key that the next step adds (`true`) or removes (`false`), or `None` if the step changes nothing.
+/// Returns the key that the next step adds to the set (with `true`) or removes from the set (with `false`), or `None`
+/// if the step changes nothing.
 #[inline(always)]
 pub fn effect_of(local: &Local, _seen: u64) -> Option<(Key, bool)>
     ensures { result ≡ effect_of local.now _seen }

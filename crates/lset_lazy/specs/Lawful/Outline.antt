@@ -31,8 +31,8 @@ use Rattle.lset_steps.proofs.Turns.{Turn, Follows, Outcome, node_locks, locks_no
 use Rattle.lset_steps.proofs.Turns.Turn.{passes, changes, answers}
 use Rattle.lset_lazy.specs.Lazy.{lazy, targets, next_action, at_key, gives_up, at_pred, at_curr, released, fed_by, effect_of}
 
--- Holds if thread t holds the locks of pred and of curr, curr is the node after pred, and the key of pred is smaller
--- than the call's key.
+-- Holds if thread `t` holds the locks of the nodes `l.pred` and `l.curr`, `l.curr` is the node after `l.pred`, and the
+-- key of `l.pred` is smaller than the call's key.
 abbrev Window : View → ℕ → Local → Type 0
 Window v t l = Between v t (target l.call) l.pred l.curr
 
@@ -63,7 +63,7 @@ pub data At (q t : ℕ) (vs : ℕ → View) (first now : ℕ) (v : View) (done :
   at14 : l.pc ≡ 14 → v.lock l.pred ≡ t + 1 → Outcome done q vs first now t l.call l.reply → At q t vs first now v done l
   at_read : Reading vs first now done l → At q t vs first now v done l
 
--- Steps of other threads preserve the assertions of thread `t`.
+-- Lemmas: steps of other threads preserve the assertions of thread `t`.
 module _ (q t : ℕ) (vs : ℕ → View) (first now : ℕ) (v w : View) (done : Bool) (l : Local) (r : Rely v w q t) where
   s : Leaves v w t
   s = leaves_of r
