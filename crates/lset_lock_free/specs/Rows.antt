@@ -22,9 +22,9 @@ on_to pc l = continued (record l { pc = pc })
 abbrev pub answers : Reply → Local → Fed
 answers r l = leaves_with r (record l { reply = Some r })
 
--- Decides how a call continues at the first key that is not smaller than the call's key. An `add` that will change the
--- set continues at row 5 of the step table, and a `remove` that will change the set at row 8. Any other call ends with
--- a reply.
+-- Returns the outcome of the step that has loaded `seen`, the first key that is not smaller than the call's key. An
+-- `add` that will change the set continues at row 5 of the step table, and a `remove` that will change the set at row
+-- 8. Any other call ends with a reply.
 abbrev pub decides : Call → Local → ℕ → Fed
 decides (Add k) l seen =
     if seen == target (Add k) then answers False l
@@ -60,7 +60,7 @@ pub record LockFreeRows (T : Table) : Type 0 where
       (λ l seen. if nat_lt seen (target l.call) then continued (record l { pc = 2; pred = l.curr; curr = l.succ })
       else decides l.call l seen)
       nothing
-  -- An `add` writes the key and the link of its own slot, a reserved node that is not yet in the chain.
+  -- An `add` writes the key and the link of its own slot, a reserved node that no link leads to yet.
   pub row_5 : Does T 5 (λ l. Store (key_index (own_slot l)) (target l.call)) (λ l seen. on_to 6 l) nothing
   pub row_6 : Does T 6 (λ l. Store (link_index (own_slot l)) (2 * l.curr)) (λ l seen. on_to 7 l) nothing
   -- An `add` links its own slot, a reserved node, after `pred`, which adds the key to the set and uses up the slot. If

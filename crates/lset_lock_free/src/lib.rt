@@ -31,8 +31,9 @@ const TARGETS: Targets = Targets {
     leaves: 0,
 };
 
-/// Returns the access to a shared word that a pending call makes next. The program counter `pc` is the number of a row
-/// of the step table. The numbers in `local` must be small (`IsSmall`), as they are in every run.
+/// Returns the access to a shared word (memory cell) that a pending call makes in its next step. `local.pc` is the
+/// number of the call's row in the step table (the list's numbered atomic steps). The numbers in `local` must be small
+/// (`IsSmall`), as they are in every run.
 #[inline(always)]
 pub fn next_action(local: &Local) -> Action
     requires { IsSmall local.now }
@@ -102,7 +103,7 @@ fn at_key(local: &Local, seen: u64) -> Fed
     }
 }
 
-/// Returns the outcome of the step that has linked the thread's new node into the chain. The thread's number of used
+/// Returns the outcome of the step that has linked the thread's new node into the list. The thread's number of used
 /// slots (nodes for adds) increases by one, and the call ends with the reply `True`.
 #[inline(always)]
 fn puts_in(local: &Local) -> Fed
@@ -151,8 +152,8 @@ pub fn fed_by(local: &Local, seen: u64) -> Fed
     }
 }
 
-/// Returns the key that the next step adds (`true`) or removes (`false`), or `None` if the step changes nothing. Only a
-/// successful compare-and-exchange changes the set.
+/// Returns the key that the next step adds to the set (with `true`) or removes from the set (with `false`), or `None`
+/// if the step changes nothing. Only a successful compare-and-exchange changes the set.
 #[inline(always)]
 pub fn effect_of(local: &Local, seen: u64) -> Option<(Key, bool)>
     requires { IsSmall local.now }

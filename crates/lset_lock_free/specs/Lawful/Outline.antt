@@ -36,8 +36,8 @@ use Rattle.lset_steps.proofs.Turns.{Turn, due_of, Follows, no_locks}
 use Rattle.lset_steps.proofs.Turns.Turn.{passes, changes, answers, ends}
 use Rattle.lset_lock_free.specs.LockFree.{lock_free, targets, decision_of, at_key, at_link, again, next_action, fed_by, effect_of}
 
--- Holds if, at some moment from `first` to `now` (a moment is the number of events so far), node `a` was in the chain,
--- `b` was the node after `a`, `P` was true, and thread `t` had made `count` successful adds.
+-- Holds if, at some moment from `first` to `now` (a moment is the number of events so far), node `a` was reachable from
+-- the head, `b` was the node after `a`, `P` was true, and thread `t` had made `count` successful adds.
 pub record Was (vs : ℕ → View) (first now a b t count : ℕ) (P : View → Type 0) : Type 0 where
   pub at : ℕ
   pub from : first ≤ at
@@ -47,14 +47,14 @@ pub record Was (vs : ℕ → View) (first now a b t count : ℕ) (P : View → T
   pub holds : P (vs at)
   pub same_count : (vs at).used t ≡ count
 
--- Holds if, at some moment from `first` to `now` (a moment is the number of events so far), pred was in the chain, the
--- key of pred was smaller than the call's key, curr was the node after pred, and the thread had made `count` successful
--- adds.
+-- Holds if, at some moment from `first` to `now` (a moment is the number of events so far), node `pred` was reachable
+-- from the head, its key was smaller than `key`, `curr` was the node after `pred`, and thread `t` had made `count`
+-- successful adds.
 abbrev pub Link : (ℕ → View) → ℕ → ℕ → ℕ → ℕ → ℕ → ℕ → ℕ → Type 0
 Link vs first now key pred curr t count = Was vs first now pred curr t count (λ v. v.key pred < key)
 
--- Holds if, at some moment from `first` to `now` (a moment is the number of events so far), curr was in the chain
--- without a mark, succ was the node after curr, and the thread had made `count` successful adds.
+-- Holds if, at some moment from `first` to `now` (a moment is the number of events so far), node `curr` was reachable
+-- from the head and unmarked, `succ` was the node after `curr`, and thread `t` had made `count` successful adds.
 abbrev pub Open : (ℕ → View) → ℕ → ℕ → ℕ → ℕ → ℕ → ℕ → Type 0
 Open vs first now curr succ t count = Was vs first now curr succ t count (λ v. v.link curr % 2 ≡ 0)
 
@@ -65,7 +65,7 @@ pub data At (q t : ℕ) (vs : ℕ → View) (first now : ℕ) (v : View) (done :
   at1 : l.pc ≡ 1 → done ≡ false → At q t vs first now v done l
   at2 : l.pc ≡ 2 → done ≡ false → Spot v (target l.call) l.pred l.curr
       → Link vs first now (target l.call) l.pred l.curr t (v.used t) → At q t vs first now v done l
-  -- If the thread has just unlinked the node between pred and curr, curr is now the node after pred.
+  -- Row 2, if `curr` is the node after `pred` now, as just after the thread has unlinked the node between them.
   at2_now : l.pc ≡ 2 → done ≡ false → Spot v (target l.call) l.pred l.curr → first ≤ now → InChain v l.pred
       → v.link l.pred / 2 ≡ l.curr → At q t vs first now v done l
   at3 : l.pc ≡ 3 → done ≡ false → Spot v (target l.call) l.pred l.curr → v.published l.succ → v.link l.curr ≡ 2 * l.succ + 1
@@ -219,9 +219,9 @@ module _ (sz : Sizes) (t : ℕ) (vs : ℕ → View) (first now : ℕ) (ws : List
   abbrev Fitting : Reply → Type 0
   Fitting r = FitsSometime sz.quota (contents_of vs) (counts_of vs) first now t l.call r
 
-  -- Lemma: suppose that at moment `at` (after `at` events, during the call), the set contains the call's key if and
-  -- only if the call found the key. Then the call has a reply that is correct at moment `at`, or continues at the row
-  -- that adds or removes its key.
+  -- Lemma: suppose that at moment `at` (after `at` events, during the call), the set contained the call's key if and
+  -- only if the walk has found the key. Then the call either has a reply that was correct at moment `at`, or continues
+  -- at the row that adds or removes its key.
   decided_at : (s at : ℕ) → first ≤ at → at ≤ now → (vs at).used t ≡ used t
       → ((s == target l.call) ≡ true → InContent (vs at) (key_of l.call).0)
       → ((s == target l.call) ≡ false → InContent (vs at) (key_of l.call).0 → ⊥)
