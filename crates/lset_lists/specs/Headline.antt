@@ -23,11 +23,12 @@ keys_left op history order = (set_left (opening_set op) (map (answered history) 
 abbrev pub history_of : Table → Opening → (ℕ → Event) → ℕ → List CallRecord
 history_of T op es k = history_at (log_of T op es) k
 
--- Holds if the order `order` of calls explains the first `last` events of a run.
+-- Holds if `order`, an order of the run's calls, explains the first `last` events of a run: the order is a
+-- linearization, and ends with the same keys as the run.
 pub record ExplainsRun (T : Table) (op : Opening) (es : ℕ → Event) (last : ℕ) (order : List Placed) : Type 0 where
   -- The calls of the run form a history.
   pub history : IsHistory op.threads (history_of T op es last)
-  -- The order linearizes the history of a set that initially contains the opening keys.
+  -- The order linearizes the history, if the set initially contains the opening keys.
   pub linearizes : Linearizes op.quota (opening_set op) (history_of T op es last) order
   -- The keys of the set after the calls of the order are the final keys of the run, in increasing order.
   pub content : IsContent (views T op es last) (keys_left op (history_of T op es last) order)
@@ -42,8 +43,8 @@ abbrev pub IsPlacedBy : Table → Opening → (ℕ → Event) → ℕ → List P
 IsPlacedBy T op es k order = IsPlacement op.quota (calls_at (log_of T op es) k)
     (contents_of (views T op es)) (counts_of (views T op es)) order
 
--- [The placement of a run]: `order` lists the run's calls by their linearization points, and no other order of the
--- calls does.
+-- [The placement of a run]: `order` lists the run's calls by their linearization points, and is the only order that
+-- does.
 pub record IsThePlacement (T : Table) (op : Opening) (es : ℕ → Event) (last : ℕ) (order : List Placed) : Type 0 where
   pub placement : IsPlacedBy T op es last order
   pub alone : (other : List Placed) → IsPlacedBy T op es last other → other ≡ order

@@ -20,7 +20,7 @@ pub use theorem::{placement_explains_runs, runs_are_linearizable};
 
 /// One of the five lists, as a machine (a table of steps).
 pub trait List: Machine {
-    /// Lemma: the list has the step table of its kind.
+    /// Lemma: the list's step table is the step table of its kind (`KIND`).
     fn has_the_table_of_its_kind()
         ensures { table_of Self.KIND ≡ Self.table };
 }
