@@ -83,6 +83,9 @@ fn cause_of_misses(odd: &Odd) -> Option<Cause> {
     } else if share_of_all(odd.usual, odd.wrong) < 100_000 {
         // (a key is missed while it is moved only if the change that moves it is running)
         Some(Cause::MovedKeys)
+    } else if odd.wrong < LEAST_MISSED && odd.starting > 0 {
+        // (the key can be absent, and the call that found it present wrong)
+        None
     } else {
         Some(if is_lasting(odd) {
             Cause::Shortcut
@@ -254,15 +257,14 @@ fn cause_of_add(odd: &Odd, further: &Further) -> Option<Cause> {
         Some(Cause::UnlinkLost)
     } else if is_outlasted_each(odd, further) {
         Some(Cause::AddGivesUp)
-    } else if needs_no_overlap(odd)
-        || is_lasting(odd)
-        || odd.running.saturating_mul(2) >= odd.wrong
-    {
+    } else if needs_no_overlap(odd) || odd.running.saturating_mul(2) >= odd.wrong {
         Some(Cause::AddSeesRemoved)
-    } else if is_beside_others(odd) || is_beside_each(odd) || is_passing_often(odd) {
+    } else if is_beside_others(odd) || is_beside_each(odd) {
         Some(Cause::AddGivesUp)
+    } else if is_lasting(odd) {
+        Some(Cause::AddSeesRemoved)
     } else {
-        None
+        is_passing_often(odd).then_some(Cause::AddGivesUp)
     }
 }
 
