@@ -919,6 +919,10 @@ const OF_WHY = [
       const isOften = beside === undefined || [...wrong("add"), ...wrong("remove")].filter((call) => isBeside(it, call)).length >= Number(beside);
       return isEach && isOften && Number(adds) + Number(removes) <= tally["one wrong answer"] && (beside === undefined || Number(usual) <= 75);
     }],
+  [/^because (\d+) contradictions are two adds that both returned true, and the next call of the key did not see (\d+) of (\d+) removes, although no opposite change ran in between$/, (it, [adds, some, all], { tally }) => {
+    const seen = keysOf(it).filter((key) => !hasOrderOf(it, key)).flatMap((key) => nextCallsSee(ofKey(it, key), "remove"));
+    return Number(adds) === tally["two adds true"] && Number(some) === seen.filter((isSeen) => !isSeen).length && Number(all) === seen.length;
+  }],
   [/^because after (\d+) of (\d+) pairs of adds that both returned true, two removes returned true, too, or the key was found after the next remove$/, (it, [some, all], { tally }) =>
     Number(some) <= Number(all) && Number(all) === tally["two adds true"] && it.calls.some((one) => isTwice(it, one, "add") && it.calls.some((two) =>
       two.key === one.key && two.begun > one.ended && two.operation === "remove" && two.reply === "true" && (isTwice(it, two, "remove") || isFoundAgain(it))))],

@@ -5,12 +5,12 @@
 //! calls except its answers (its calls that changed nothing). Their fields are explained in `tool_facts`; `likely_odd` and
 //! `likely_races` list those that matter here.
 
-use crate::likely::is_undone_later;
+use crate::likely::{is_inserted_twice, is_undone_later};
 use crate::likely_odd::is_outlasted_each;
-use crate::likely_races::is_rarely_together;
+use crate::likely_races::{is_rarely_together, is_with, is_with_change};
 use crate::met::{Met, put_neither};
 use crate::patterns::Pattern;
-use crate::rates::put_ran;
+use crate::rates::{is_no_chance, put_ran};
 use crate::shares::is_least;
 use std::alloc::{AllocError, Global};
 use tool_calls::{Made, NEVER};
@@ -107,8 +107,22 @@ fn put_because_of_missed(out: &mut String, odd: &Odd, cause: Cause) -> Result<()
     }
 }
 
-/// Writes during how many wrong answers another add or remove of the key, or a change of another key, ran.
+/// Writes during how many wrong answers a change of another key ran. If this can be a coincidence, writes instead which
+/// errors `contains` makes.
+fn put_moved(out: &mut String, odd: &Odd, cause: Cause) -> Result<(), AllocError> {
+    let is_often = is_least(odd.beside, odd.wrong, odd.usual.saturating_add(11));
+    if !is_often || !is_no_chance(odd, odd.beside, odd.usual) {
+        return put_because_of_missed(out, odd, cause);
+    }
+    put_ran(out, odd, "a change of another key", odd.beside, odd.usual)
+}
+
+/// Writes during how many wrong answers another add or remove of the key, or a change of another key, ran. If such calls
+/// ran about as often during other answers, writes instead that all other calls have an order.
 fn put_active(out: &mut String, odd: &Odd) -> Result<(), AllocError> {
+    if !is_least(odd.active, odd.wrong, odd.usually_active.saturating_add(11)) {
+        return out.push_str("without these answers all other calls have an order\n");
+    }
     let what = "another add or remove of the key, or a change of another key,";
     put_ran(out, odd, what, odd.active, odd.usually_active)
 }
@@ -150,15 +164,7 @@ fn put_because_of_odd(out: &mut String, odd: &Odd, cause: Cause) -> Result<(), A
             out,
             "a successful add of another key ran during {adding} of the {missed} wrong answers"
         ),
-        Cause::MovedOrShortcut if !is_least(odd.beside, odd.wrong, odd.usual.saturating_add(10)) =>
-            { put_because_of_missed(out, odd, cause) }
-        Cause::MovedKeys | Cause::MovedOrShortcut => put_ran(
-            out,
-            odd,
-            "a change of another key",
-            odd.beside,
-            odd.usual,
-        ),
+        Cause::MovedKeys | Cause::MovedOrShortcut => put_moved(out, odd, cause),
         Cause::HalfDone => {
             let what = "another add or remove of the key";
             put_ran(out, odd, what, odd.same, odd.usually_same)
@@ -171,6 +177,23 @@ fn put_because_of_odd(out: &mut String, odd: &Odd, cause: Cause) -> Result<(), A
         ),
         _ => writeln!(out, "without these answers all other calls have an order"),
     }
+}
+
+/// Writes the fact that supports the cause `InsertedTwice`: pairs of adds that both returned true, and removes after which
+/// the key is still present.
+fn put_because_of_twice(out: &mut String, tally: &Tally) -> Result<(), AllocError> {
+    let (adds, doubled) = (tally.both_adds, tally.doubled);
+    let (unseen, of) = (tally.unseen_removes, tally.followed_removes);
+    if is_inserted_twice(tally) {
+        return writeln!(
+            out,
+            "after {doubled} of {adds} pairs of adds that both returned true, two removes returned true, too, or the key was found after the next remove"
+        );
+    }
+    writeln!(
+        out,
+        "{adds} contradictions are two adds that both returned true, and the next call of the key did not see {unseen} of {of} removes, although no opposite change ran in between"
+    )
 }
 
 /// Writes the fact that supports `cause`, if keys are lost or come back, or two overlapping calls both returned true.
@@ -204,13 +227,7 @@ fn put_because_of_calls(out: &mut String, tally: &Tally, cause: Cause) -> Result
             out,
             "{removes} of {places} contradictions are two removes that both returned true, {adds} are two adds"
         ),
-        Cause::InsertedTwice => {
-            let doubled = tally.doubled;
-            writeln!(
-                out,
-                "after {doubled} of {adds} pairs of adds that both returned true, two removes returned true, too, or the key was found after the next remove"
-            )
-        }
+        Cause::InsertedTwice => put_because_of_twice(out, tally),
         Cause::NeverFound => {
             let (lost, adds) = (tally.unseen_adds, tally.followed_adds);
             writeln!(
@@ -284,6 +301,16 @@ fn put_because_of_lost(out: &mut String, tally: &Tally, cause: Cause) -> Result<
 /// Returns `sampled ` if the percentages of all adds, or of all adds and removes, are of samples that leave some out.
 fn sampled_word(tally: &Tally) -> &'static str {
     if tally.has_more_calls { "sampled " } else { "" }
+}
+
+/// Returns the cause for the changes of other keys that overlap the adds of lost keys more often than other adds:
+/// `BehindUnlinked` for removes, otherwise `SharedPlace` for adds.
+fn beside_adds(tally: &Tally) -> Cause {
+    if is_with(tally.with_remove, tally.placed, tally.usually_with_remove) {
+        Cause::BehindUnlinked
+    } else {
+        Cause::SharedPlace
+    }
 }
 
 /// Writes the fact that supports `cause`, if the adds of lost keys overlapped changes of other keys, or were added twice.
@@ -582,6 +609,12 @@ fn put_because(
         }
         Cause::AddLost | Cause::SharedPlace | Cause::BehindUnlinked => {
             put_because_of_adds(out, &evidence.tally, cause)
+        }
+        Cause::OldLink if is_with_change(&evidence.tally) => {
+            put_because_of_adds(out, &evidence.tally, beside_adds(&evidence.tally))
+        }
+        Cause::NoLock if Met::OwnKey.is_clear(&evidence.meets) => {
+            Met::OwnKey.put(out, &evidence.meets)
         }
         Cause::ReadsParts
         | Cause::OtherReply

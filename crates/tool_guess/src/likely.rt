@@ -24,7 +24,7 @@ use crate::likely_races::{
     FEW_KEYS, LEAST_BOTH, MANY_CALLS, cause_of_races, has_crossed_replies, has_other_replies,
     is_first_use, is_of_other_key, is_old_copy_at_once, is_with, is_with_change,
 };
-use crate::patterns::is_borrowed;
+use crate::patterns::{is_borrowed, is_clear};
 use crate::shares::{ENOUGH, is_least, is_share, share_of_all};
 use tool_facts::{Cause, Evidence, Further, Share, Tally};
 
@@ -276,15 +276,18 @@ fn is_enough(evidence: &Evidence) -> bool {
     evidence.calls >= LEAST_CALLS && answers >= LEAST_ANSWERS
 }
 
-/// Returns whether calls of several operations return false for present keys, each while a change of another key runs,
-/// and other contradictions are rare.
+/// Returns whether calls of several operations return false for present keys, nearly all while a change of another key
+/// runs, more often than by chance, and other contradictions are rare. (Several such calls one after another can look
+/// like a loss.)
 fn is_missed_beside(tally: &Tally) -> bool {
-    let (missed, gone) = (tally.missed, tally.gone());
+    let (missed, usual) = (tally.missed, tally.usually_refused_beside);
     missed >= 8
-        && tally.missed_beside == missed
-        && tally.found == 0
-        && tally.both() == 0
-        && gone.saturating_mul(10) <= tally.places
+        && is_least(tally.missed_beside, missed, 95)
+        && share_of_all(usual, tally.missed_beside) < 100_000
+        && tally.found.saturating_mul(10) <= missed
+        && tally.both().saturating_mul(10) <= missed
+        && tally.came_back.saturating_mul(10) <= missed
+        && tally.lost.saturating_mul(4) <= missed
 }
 
 /// The minimum number of adds and removes that returned false for the guess that they give up.
@@ -294,15 +297,19 @@ const LEAST_REFUSED: u64 = 8;
 const GROWN: u64 = 200;
 
 /// Returns whether at most one in ten of many added keys is in use when the first contradiction ends, as in sets that
-/// grow one after another, few keys are affected, and most of at least three contradictions are losses or returns of
-/// keys, or pairs of calls that both returned true.
+/// grow one after another, few keys are affected, keys are lost or return at the same time as others, more often than by
+/// chance, and most of at least three contradictions are losses or returns of keys, or pairs of calls that both returned
+/// true.
 fn is_outgrown(evidence: &Evidence, further: &Further) -> bool {
     let Some(growth) = further.growth else {
         return false;
     };
     let tally = &evidence.tally;
     let plain = tally.gone().saturating_add(tally.both());
+    // (a table that is replaced loses changes of several keys at once)
+    let at_once = tally.usually_together.saturating_add(25);
     growth.moment >= GROWN
+        && is_least(tally.together, tally.timed(), at_once)
         && growth.active.saturating_mul(10) <= evidence.keys
         && tally.places >= 3
         && tally.gone() > 0
@@ -342,6 +349,20 @@ fn is_usual(share: Share, most: u64) -> bool {
             && share.of.saturating_mul(more).saturating_mul(more) >= 15_000)
 }
 
+/// The percentage of undone changes that calls on the same key must overlap for the guess that only these calls undo each
+/// other.
+const NEARLY_ALL: u64 = 85;
+
+/// Returns whether calls on the same key overlapped nearly all changes that were undone or reported twice, clearly more
+/// often than other changes, and changes of other keys hardly more often than by chance.
+fn is_of_same_key(evidence: &Evidence) -> bool {
+    let (own, others) = (evidence.meets.own, evidence.meets.others);
+    is_clear(own)
+        && is_least(own.count, own.of, NEARLY_ALL)
+        && !is_least(others.count, others.of, others.usual.saturating_add(15))
+        && !is_clear(others)
+}
+
 /// Returns the likely cause from the calls that overlapped the changes that were undone or reported twice (`Meets`):
 /// calls on the same key, or changes of other keys.
 fn cause_of_meets(evidence: &Evidence) -> Option<Cause> {
@@ -354,7 +375,11 @@ fn cause_of_meets(evidence: &Evidence) -> Option<Cause> {
         Some(Cause::FirstCalls)
     } else if is_of_one_key && own.of >= 3 && both > 0 && both >= tally.gone() {
         Some(Cause::SameKey)
-    } else if is_enough && is_usual(own, 80_000) && others.count < own.count.max(1) {
+    } else if is_enough
+        && is_usual(own, 80_000)
+        && is_least(own.count, own.of, NEARLY_ALL)
+        && others.count < own.count.max(1)
+    {
         Some(Cause::SameKey)
     } else if is_enough
         && (is_usual(others, 50_000)
@@ -369,7 +394,7 @@ fn cause_of_meets(evidence: &Evidence) -> Option<Cause> {
 /// Returns the likely cause if most contradictions are due to a single add or remove that returned false although the
 /// key permitted the change, and other wrong replies are rare.
 fn cause_of_refusals(tally: &Tally) -> Option<Cause> {
-    let (refused, beside) = (tally.refused(), tally.refused_beside);
+    let refused = tally.refused();
     let replies = tally.missed.saturating_add(tally.found);
     let other = tally.gone().saturating_add(tally.both());
     let both = tally.refused_adds.min(tally.refused_removes);
@@ -385,24 +410,74 @@ fn cause_of_refusals(tally: &Tally) -> Option<Cause> {
         } else {
             Cause::RemoveGivesUp
         })
-    } else if is_least(
-        beside,
-        refused,
-        tally.usually_refused_beside.saturating_add(25),
-    ) {
-        Some(Cause::GivesUpBeside)
     } else {
-        Some(Cause::GivesUp)
+        Some(gives_up(tally))
     }
+}
+
+/// Returns the cause that adds and removes give up, and whether they do so while other keys change.
+fn gives_up(tally: &Tally) -> Cause {
+    let usual = tally.usually_refused_beside.saturating_add(25);
+    if is_least(tally.refused_beside, tally.refused(), usual) {
+        Cause::GivesUpBeside
+    } else {
+        Cause::GivesUp
+    }
+}
+
+/// Returns whether adds and removes often return false although the key permits the change, and all other kinds of
+/// contradictions are rare. (Contradictions of an unclear kind can be several such calls one after another.)
+fn is_mostly_refused(tally: &Tally) -> bool {
+    let refused = tally.refused();
+    let replies = tally.missed.saturating_add(tally.found);
+    let other = tally.gone().saturating_add(tally.both());
+    refused >= 2 * LEAST_REFUSED
+        && is_least(refused, replies, 90)
+        && is_least(tally.refused_adds.min(tally.refused_removes), refused, 10)
+        && other.saturating_mul(4) <= refused
 }
 
 /// Returns whether pairs of adds that both returned true seem to insert their key twice: after at least half of these
 /// pairs, the next remove leaves the key present. Other returns of keys and pairs of removes must be at most as many.
-fn is_inserted_twice(tally: &Tally) -> bool {
+pub(crate) fn is_inserted_twice(tally: &Tally) -> bool {
     let left = tally.came_back.saturating_add(tally.both_removes);
     tally.doubled > 0
         && is_least(tally.doubled, tally.both_adds, 50)
         && is_least(tally.doubled, left, 50)
+}
+
+/// Returns whether pairs of adds that both return true seem to leave their key in the set twice: the next calls see all
+/// adds, but not all removes, and losses and pairs of removes are rare.
+fn is_left_twice(tally: &Tally) -> bool {
+    let (adds, unseen) = (tally.both_adds, tally.unseen_removes);
+    adds >= 2
+        && unseen >= 1
+        && is_least(unseen, adds, 25)
+        && tally.unseen_adds.saturating_mul(10) <= unseen
+        && tally.lost.saturating_mul(20) <= adds
+        && tally.both_removes.saturating_mul(4) <= adds
+        && tally.came_back <= adds
+}
+
+/// Returns the likely cause if the facts are so clear that no other cause needs to be considered. One operation alone must
+/// not be wrong.
+fn clear_cause(evidence: &Evidence, further: &Further) -> Option<Cause> {
+    let tally = &evidence.tally;
+    if is_never_found(tally) {
+        Some(Cause::NeverFound)
+    } else if is_left_twice(tally) {
+        Some(Cause::InsertedTwice)
+    } else if is_mostly_refused(tally) {
+        Some(gives_up(tally))
+    } else if is_broken_for_good(evidence, further.moment) {
+        Some(Cause::Reused)
+    } else if evidence.split.is_some_and(|split| split.is_long()) {
+        Some(Cause::TwoPlaces)
+    } else if is_first_use(evidence) {
+        Some(Cause::FirstUse)
+    } else {
+        None
+    }
 }
 
 /// Returns the likely cause. Returns `None` if the facts fit no cause, or if the recording is too small.
@@ -416,22 +491,20 @@ pub fn likely_cause(evidence: &Evidence, further: &Further) -> Option<Cause> {
     if let Some(odd) = &evidence.odd {
         return cause_of_odd(odd, further, evidence);
     }
-    if is_never_found(&evidence.tally) {
-        return Some(Cause::NeverFound);
-    }
-    if is_broken_for_good(evidence, further.moment) {
-        return Some(Cause::Reused);
-    }
-    if evidence.split.is_some_and(|split| split.is_long()) {
-        return Some(Cause::TwoPlaces);
-    }
-    if is_first_use(evidence) {
-        return Some(Cause::FirstUse);
+    if let Some(cause) = clear_cause(evidence, further) {
+        return Some(cause);
     }
     let cause = match cause_of_replies(evidence) {
         Some(cause) => Some(cause),
         None => cause_of_changes(evidence, further),
     };
+    let is_old_state = matches!(
+        cause,
+        Some(Cause::OldCopy | Cause::OldLink | Cause::WrittenBack)
+    );
+    if is_old_state && is_of_same_key(evidence) {
+        return Some(Cause::SameKey);
+    }
     match cause {
         None if further.swap.is_some() => Some(Cause::OtherReply),
         None if is_old_copy_at_once(evidence) => Some(Cause::OldCopyAtOnce),

@@ -97,7 +97,7 @@ fn cause_of_old_state(evidence: &Evidence) -> Option<Cause> {
         None
     } else if lost >= back.saturating_mul(8) {
         cause_of_lost_adds(evidence)
-    } else if is_often_twice && is_mostly_lost {
+    } else if is_often_twice && is_mostly_lost && !is_all_by_chance(tally) {
         Some(old_copy(tally, Cause::OldLink))
     } else if is_least(replies, tally.places, 10) {
         None
@@ -122,6 +122,12 @@ pub(crate) fn is_with(count: u64, of: u64, usual: u64) -> bool {
 pub(crate) fn is_with_change(tally: &Tally) -> bool {
     is_with(tally.with_add, tally.placed, tally.usually_with_add)
         || is_with(tally.with_remove, tally.placed, tally.usually_with_remove)
+}
+
+/// Returns whether neither lost and returned keys nor the adds of lost keys overlap changes of other keys more often than
+/// by chance.
+fn is_all_by_chance(tally: &Tally) -> bool {
+    is_beside_by_chance(tally) && !is_with_change(tally)
 }
 
 /// Returns whether adds seem to be lost: no key comes back, no key is removed twice, and at least one in ten
@@ -337,7 +343,9 @@ pub(crate) fn cause_of_races(evidence: &Evidence) -> Option<Cause> {
     }
     if is_earlier_look(tally) {
         let usual = tally.usually_together.saturating_add(6);
-        let is_of_pairs = tally.both_adds > 0 && tally.both_removes > 0;
+        let is_of_pairs = tally.both_adds > 0
+            && tally.both_removes > 0
+            && is_least(tally.both(), tally.places, 10);
         let is_apart = is_of_pairs && !is_least(tally.together, tally.timed(), usual);
         return Some(if has_crossed_replies(tally) && !is_least(tally.both(), tally.places, 10) {
             Cause::OtherReply
