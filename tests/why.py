@@ -208,6 +208,52 @@ class RepeatedCall(OneSet):
         return (yield from super().remove(thread, key)) if self.rng.random() < 0.02 else is_there
 
 
+class InsertedTwice(OneSet):
+    likely = ("two adds insert the same key twice",)
+
+    def __init__(self, rng):
+        super().__init__(rng)
+        self.keys = []
+
+    def add(self, thread, key):
+        yield
+        if key in self.keys:
+            return False
+        yield
+        self.keys.append(key)
+        return True
+
+    def remove(self, thread, key):
+        yield
+        if key not in self.keys:
+            return False
+        self.keys.remove(key)
+        return True
+
+
+class TriesToLock(OneSet):
+    likely = ("add and remove give up and return false",)
+
+    def __init__(self, rng):
+        super().__init__(rng)
+        self.is_locked = False
+
+    def locked(self, call):
+        if self.is_locked:
+            yield
+            return False
+        self.is_locked = True
+        done = yield from call
+        self.is_locked = False
+        return done
+
+    def add(self, thread, key):
+        return (yield from self.locked(super().add(thread, key)))
+
+    def remove(self, thread, key):
+        return (yield from self.locked(super().remove(thread, key)))
+
+
 def recorded(kind, seed, keys=4, threads=4, count=6000):
     """Returns the recording of calls of a set. The threads execute their steps in a random order."""
     rng = random.Random(seed)
@@ -233,7 +279,7 @@ def recorded(kind, seed, keys=4, threads=4, count=6000):
     return "\n".join(["listset-calls 1", *lines, "cut", ""])
 
 
-@pytest.mark.parametrize("kind", [AddLooksFirst, SeenBeforeItIsAdded, MarkNotRead, TakenLater, RepeatedCall])
+@pytest.mark.parametrize("kind", [AddLooksFirst, SeenBeforeItIsAdded, MarkNotRead, TakenLater, RepeatedCall, InsertedTwice, TriesToLock])
 def test_the_likely_cause_of_a_wrong_set_is_its_bug(program, path, kind):
     guesses = set()
     for seed in range(4):
