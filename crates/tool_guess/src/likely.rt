@@ -480,8 +480,44 @@ fn clear_cause(evidence: &Evidence, further: &Further) -> Option<Cause> {
     }
 }
 
+/// Returns whether one opposite reply would explain nearly all of at least ten losses and returns of keys, and such
+/// contradictions of different keys share time more often than by chance. (If an older state is written back, no reply
+/// explains about one in three.)
+fn are_mixed_up(tally: &Tally) -> bool {
+    let least = tally.usually_crossed.saturating_add(20);
+    tally.gone() >= 2 * ENOUGH
+        && is_least(tally.turned, tally.gone(), 85)
+        && is_least(tally.crossed_replies, tally.replies, least)
+}
+
+/// Returns `cause`, or another cause that fits better: calls on the same key if changes of other keys are not to blame, or
+/// mixed up calls if one opposite reply explains what looks like an older state that was written back.
+fn or_better(evidence: &Evidence, cause: Cause) -> Cause {
+    let is_state = matches!(cause, Cause::OldCopy | Cause::OldLink | Cause::WrittenBack);
+    let is_copy = matches!(
+        cause,
+        Cause::OldCopy | Cause::OldCopyAtOnce | Cause::ReplacedAtOnce
+    );
+    if is_state && is_of_same_key(evidence) {
+        Cause::SameKey
+    } else if is_copy && are_mixed_up(&evidence.tally) {
+        Cause::MixedCalls
+    } else {
+        cause
+    }
+}
+
 /// Returns the likely cause. Returns `None` if the facts fit no cause, or if the recording is too small.
 pub fn likely_cause(evidence: &Evidence, further: &Further) -> Option<Cause> {
+    match first_guess(evidence, further) {
+        Some(cause) => Some(or_better(evidence, cause)),
+        None => None,
+    }
+}
+
+/// Returns the likely cause before it is compared with similar causes. Returns `None` if the facts fit no cause, or if the
+/// recording is too small.
+fn first_guess(evidence: &Evidence, further: &Further) -> Option<Cause> {
     if !is_enough(evidence) {
         return None;
     }
@@ -498,13 +534,6 @@ pub fn likely_cause(evidence: &Evidence, further: &Further) -> Option<Cause> {
         Some(cause) => Some(cause),
         None => cause_of_changes(evidence, further),
     };
-    let is_old_state = matches!(
-        cause,
-        Some(Cause::OldCopy | Cause::OldLink | Cause::WrittenBack)
-    );
-    if is_old_state && is_of_same_key(evidence) {
-        return Some(Cause::SameKey);
-    }
     match cause {
         None if further.swap.is_some() => Some(Cause::OtherReply),
         None if is_old_copy_at_once(evidence) => Some(Cause::OldCopyAtOnce),
