@@ -519,7 +519,7 @@ impl Tally {
     ) -> Result<(), AllocError> {
         let crossings = Crossings::of(alloc, calls)?;
         self.add_swapped(places, losses);
-        self.has_more_calls = calls.len() > MOST_COMPARED;
+        self.has_more_calls = calls.len() >= 2 * MOST_COMPARED;
         self.add_usual(calls, neighbours);
         self.usually_refused_beside = usual_of_writers(calls, neighbours);
         for place in places {

@@ -82,11 +82,11 @@ pub fn cause_text(cause: Cause) -> &'static str {
         Cause::Reused =>
             "the structure is broken from one moment on (a removed node used again too early (ABA), a table or list that two calls change at once)",
         Cause::SameKey =>
-            "calls of one key at the same time undo each other (a lock that two calls hold at once, a failed compare-and-swap taken for success, a second write after the effect)",
+            "calls of one key at the same time undo each other (no lock, or one that both hold, a failed compare-and-swap taken for success, a second write after the effect)",
         Cause::FirstCalls =>
             "two of the first calls of a key at the same time undo each other (each creates a bucket or node, or a failed compare-and-swap is taken for success)",
         Cause::OtherKeys =>
-            "changes of different keys at the same time write over each other (a link that is not checked again, two locks for one bucket, a copy written back)",
+            "changes of different keys at the same time write over each other (no lock, two locks for one bucket, a link that is not checked again, a copy written back)",
         Cause::NeverFound =>
             "keys are added, but never found again (a comparison by identity, a hash that changes, a key cut short)",
         Cause::ReadsParts =>
@@ -114,7 +114,7 @@ pub fn cause_text(cause: Cause) -> &'static str {
         Cause::CarriedOutTwice =>
             "a change is carried out twice (by a helper, or repeated), and the second time undoes a later change",
         Cause::NoLock =>
-            "calls of one key do not exclude each other (two locks, a lock that fails, a load and then a store)",
+            "calls of one key do not exclude each other (no lock, two locks, a lock that fails, a load and then a store)",
         Cause::OldCopy =>
             "an older state is written over newer changes of other keys (copy on write, a link that is not checked again, a shared word)",
         Cause::OldCopyAtOnce =>
@@ -146,7 +146,7 @@ pub fn cause_text(cause: Cause) -> &'static str {
         Cause::RemovedLater =>
             "a remove deletes the key late or again, and takes out a newer add (a queue of deletions, a helper, an unlink)",
         Cause::OldLink | Cause::Unlinked | Cause::WrittenBack | Cause::BehindUnlinked =>
-            "changes of neighbouring keys write over each other's links (a mark or link not checked after the walk, a node linked to one that is being removed, two locks for one list)",
+            "changes of neighbouring keys write over each other's links (no lock, two locks for one list, a mark or link not checked after the walk, a node linked to one that is being removed)",
         Cause::ReplacedAtOnce =>
             "the set, or a part of it, is replaced by a copy without the newest changes (copy on write, a table that grows, a merge of two parts)",
         Cause::Replaced =>
