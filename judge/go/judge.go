@@ -229,10 +229,12 @@ func (o Options) most(of func(size) int) (most int) {
 
 // Verdict is the result of a successful test: some order explains each run. Overlapped is the number of calls that
 // overlapped a change of their key, as counted by the judge. Judge is the judge's name, and whether the judge states
-// that it is proved. String formats the verdict.
+// that it is proved. FewerRuns is the part of the text about runs that were not made because of the option Within; it is
+// empty if all runs were made. String formats the verdict.
 type Verdict struct {
 	Calls, Overlapped int
 	Judge             string
+	FewerRuns         string
 }
 
 func isFew(overlapped, calls int) bool { return overlapped*100 < calls*manyEnough }
@@ -245,7 +247,7 @@ func (v Verdict) String() string {
 	if isFew(v.Overlapped, v.Calls) {
 		text = sayFew
 	}
-	return fmt.Sprintf(text, v.Calls, v.Overlapped) + "; judge: " + v.Judge
+	return fmt.Sprintf(text, v.Calls, v.Overlapped) + v.FewerRuns + "; judge: " + v.Judge
 }
 
 // Failed is a failed run: its preset, the judge's output, the file with the run's recording, the judge, and the complete
@@ -454,12 +456,14 @@ func (t *tester) all() (verdict Verdict, err error) {
 			s = o.harder(s)
 		}
 	}
+	made := seed - o.Seed
 	for end := time.Now(); err == nil && isFew(verdict.Overlapped, verdict.Calls) && isWithin(began, o.Within) && isWithin(end, manyPatience); seed++ {
 		run(seed, o.harder(o.harder(o.shapeOf(seed))))
 	}
 	if err != nil {
 		return verdict, err
 	}
+	verdict.FewerRuns = o.fewerRuns(made)
 	if isFew(verdict.Overlapped, verdict.Calls) {
 		fmt.Fprintln(os.Stderr, verdict) // (go test can hide the log of a test that passes)
 	}
@@ -471,6 +475,15 @@ func (t *tester) all() (verdict Verdict, err error) {
 
 func isWithin(since time.Time, seconds int) bool {
 	return time.Since(since) < time.Duration(seconds)*time.Second
+}
+
+// fewerRuns returns the part of the message about runs that were not made because the time was over. Returns an empty
+// string if all runs were made, or if LISTSET_SECONDS is set (then no number of runs is planned).
+func (o Options) fewerRuns(made int64) string {
+	if made == int64(o.Runs) || os.Getenv("LISTSET_SECONDS") != "" {
+		return ""
+	}
+	return fmt.Sprintf(sayFewerRuns, made, o.Runs, o.Within)
 }
 
 // passedBefore returns the part of the message that names the presets of the earlier runs (all passed).

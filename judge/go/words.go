@@ -34,6 +34,7 @@ const (
 	manyStopsPer    = 5000
 	sayOk           = "ok: %v calls, and %v of them overlapped a change of their key"
 	sayFew          = "few calls overlapped, so ok means little: %v calls, and %v of them overlapped a change of their key"
+	sayFewerRuns    = "; only %v of %v runs were made, because no run begins after %v s (option within)"
 	sayTooFew       = "too few calls overlapped: %v of %v calls overlapped a change of their key, and at_least requires %v of 100. If the machine is busy, raise within. Otherwise use fewer keys or more threads"
 	sayFailedRun    = "%v\n\nseed %v (%v), %v threads%v; recorded in %v%v; judge: %v"
 	sayRange        = "%v is %v, but must be %v to %v"

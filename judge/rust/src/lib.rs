@@ -213,8 +213,17 @@ impl Options {
 
     /// Returns whether the test repeats a run: its seed is from `LISTSET_SEED`, or the option `seed` is not 1.
     fn is_replay(&self) -> bool {
-        let is_set = |variable| std::env::var_os(variable).map_or(false, |it| !it.is_empty());
         is_set("LISTSET_SEED") || self.seed != Options::default().seed && !is_set("LISTSET_SECONDS")
+    }
+
+    /// Returns the part of the message about runs that were not made because the time was over. Returns an empty string
+    /// if all runs were made, or if `LISTSET_SECONDS` is set (then no number of runs is planned).
+    fn fewer_runs(&self, made: u64) -> String {
+        if made == u64::from(self.runs) || is_set("LISTSET_SECONDS") {
+            String::new()
+        } else {
+            say(FEWER_RUNS, &[&made, &self.runs, &self.within])
+        }
     }
 
     /// Returns the sizes of a run with more overlapping calls: more threads (possibly more than processors), fewer
@@ -243,9 +252,16 @@ pub struct Verdict {
     pub overlapped: u64,
     /// The name of the judge, and whether the judge states that it is proved.
     pub judge: String,
+    /// The part of the message about runs that were not made because of the time limit `within`. Empty if all runs were
+    /// made.
+    pub fewer_runs: String,
 }
 
 impl Verdict {
+    fn of_no_run(judge: String) -> Verdict {
+        Verdict { calls: 0, overlapped: 0, judge, fewer_runs: String::new() }
+    }
+
     /// Returns `true` if so few calls overlapped that the verdict `ok` means little.
     fn is_few(&self) -> bool {
         is_few(self.overlapped, self.calls)
@@ -262,7 +278,7 @@ impl fmt::Display for Verdict {
             return write!(f, "{SKIPPED}");
         }
         let text = if self.is_few() { FEW } else { OK };
-        write!(f, "{}; judge: {}", say(text, &[&self.calls, &self.overlapped]), self.judge)
+        write!(f, "{}{}; judge: {}", say(text, &[&self.calls, &self.overlapped]), self.fewer_runs, self.judge)
     }
 }
 
@@ -403,6 +419,10 @@ pub fn judge_keys<S: Sync, K: Eq + Hash + Debug + Sync, A: Reply, R: Reply, C: R
     judged(&Source { make: &make, reply: &reply, shown: &shown, has_keys: true }, &options)
 }
 
+fn is_set(variable: &str) -> bool {
+    std::env::var_os(variable).map_or(false, |it| !it.is_empty())
+}
+
 /// Returns the number in an environment variable, or `other` if the variable is not set.
 fn number_of(variable: &str, other: u32, least: u32, most: u32) -> Result<u32, Failure> {
     match std::env::var(variable) {
@@ -420,13 +440,13 @@ fn judged<S: Sync>(source: &Source<S>, options: &Options) -> Result<Verdict, Fai
             return no_verdict(NOT_IN_CI.to_string());
         }
         let _ = writeln!(std::io::stderr(), "{SKIPPED}");
-        return Ok(Verdict { calls: 0, overlapped: 0, judge: String::new() });
+        return Ok(Verdict::of_no_run(String::new()));
     }
     let options = &options.by_environment()?;
     let runner = match Runner::started(source, options)? {
         Some(it) => it,
         None => {
-            return Ok(Verdict { calls: 0, overlapped: 0, judge: String::new() });
+            return Ok(Verdict::of_no_run(String::new()));
             // The current process is a child process that was started for a different call to `judge` in the test.
         }
     };
@@ -446,7 +466,7 @@ struct Tester<'a, S> {
 impl<'a, S: Sync> Tester<'a, S> {
     /// Performs the requested runs, each up to three times, and then more runs as long as few calls have overlapped.
     fn all(&self) -> Result<Verdict, Failure> {
-        let mut verdict = Verdict { calls: 0, overlapped: 0, judge: self.judge.to_string() };
+        let mut verdict = Verdict::of_no_run(self.judge.to_string());
         let (began, options) = (self.began, self.options);
         let is_within = |since: Instant, seconds: u32| since.elapsed() < Duration::from_secs(seconds.into());
         let mut run = |seed, shape| -> Result<(bool, bool), Failure> {
@@ -468,11 +488,12 @@ impl<'a, S: Sync> Tester<'a, S> {
             }
             seed += 1;
         }
-        let end = Instant::now();
+        let (fewer_runs, end) = (options.fewer_runs(seed - first), Instant::now());
         while are_few && is_within(began, options.within) && is_within(end, PATIENCE) {
             are_few = run(seed, options.harder(options.harder(options.shape_of(seed))))?.1;
             seed += 1;
         }
+        verdict.fewer_runs = fewer_runs;
         if verdict.is_few() {
             let _ = writeln!(std::io::stderr(), "{verdict}"); // (cargo shows this even for a passed test, unlike `eprintln!`)
         }

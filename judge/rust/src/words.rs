@@ -48,6 +48,7 @@ pub const LONGER: u32 = 4;
 pub const STOPS_PER: u32 = 5000;
 pub const OK: &str = "ok: %s calls, and %s of them overlapped a change of their key";
 pub const FEW: &str = "few calls overlapped, so ok means little: %s calls, and %s of them overlapped a change of their key";
+pub const FEWER_RUNS: &str = "; only %s of %s runs were made, because no run begins after %s s (option within)";
 pub const TOO_FEW: &str = "too few calls overlapped: %s of %s calls overlapped a change of their key, and at_least requires %s of 100. If the machine is busy, raise within. Otherwise use fewer keys or more threads";
 pub const FAILED_RUN: &str = "%s\n\nseed %s (%s), %s threads%s; recorded in %s%s; judge: %s";
 pub const RANGE: &str = "%s is %s, but must be %s to %s";
