@@ -127,6 +127,9 @@ struct verdict {
     std::string judge;
     /// The complete message about the test.
     std::string text;
+    /// The part of the message about runs that were not made because of the time limit `within`. Empty if all runs were
+    /// made.
+    std::string fewer_runs;
     explicit operator bool() const { return ok; }
 };
 
@@ -164,6 +167,7 @@ constexpr range RANGES[] = {{"threads", 1, 64}, {"threads times calls", 1, 10000
 constexpr unsigned PART = 20000, LONGEST = 100, HOT = 4, ENOUGH = 5, HARDER = 2, PATIENCE = 10, MEET = 250, AWAKE = 300000, WITHIN = 60, STOPS = 128, AGAIN = 4, PATIENT = 40, MANY = 40, SOON = 4000, ALERT = 500, TRIES = 60, NEAR = 128, FURTHER = 4, FURTHER_FOR = 3, FURTHER_MOST = 10, CLEAR = 10, LONGER = 4, STOPS_PER = 5000;
 constexpr const char *OK = "ok: %s calls, and %s of them overlapped a change of their key";
 constexpr const char *FEW = "few calls overlapped, so ok means little: %s calls, and %s of them overlapped a change of their key";
+constexpr const char *FEWER_RUNS = "; only %s of %s runs were made, because no run begins after %s s (option within)";
 constexpr const char *TOO_FEW = "too few calls overlapped: %s of %s calls overlapped a change of their key, and at_least requires %s of 100. If the machine is busy, raise within. Otherwise use fewer keys or more threads";
 constexpr const char *FAILED_RUN = "%s\n\nseed %s (%s), %s threads%s; recorded in %s%s; judge: %s";
 constexpr const char *RANGE = "%s is %s, but must be %s to %s";
@@ -894,9 +898,16 @@ struct outcome {
     std::shared_ptr<recording> text = nullptr;
 };
 
+inline bool is_set(const char *variable) { return std::getenv(variable) && *std::getenv(variable); }
+
+// Returns the part of the message about runs that were not made because the time was over. Returns an empty string if
+// all runs were made, or if LISTSET_SECONDS is set (then no number of runs is planned).
+inline std::string fewer_runs(const options &how, uint64_t made) {
+    return made == how.runs || is_set("LISTSET_SECONDS") ? "" : say(FEWER_RUNS, made, how.runs, how.within);
+}
+
 // Returns whether a test repeats a run: its seed is from LISTSET_SEED, or the option `seed` is not 1.
 inline bool is_replay(const options &how) {
-    const auto is_set = [](const char *variable) { return std::getenv(variable) && *std::getenv(variable); };
     return is_set("LISTSET_SEED") || (how.seed != options().seed && !is_set("LISTSET_SECONDS"));
 }
 
@@ -1077,7 +1088,7 @@ template <class Make, class Key> struct tester {
         }
         const auto end = std::min(until, clock::now() + std::chrono::seconds(PATIENCE));
         for (; found.said.empty() && is_few(all.overlapped, all.calls) && clock::now() < end; seed++) run(seed, harder(harder(shape_of(seed))));
-        return found.said.empty() ? passed(all) : failed(all, found, until);
+        return found.said.empty() ? passed(all, runs) : failed(all, found, until);
     }
 
     // Returns the verdict after the failed run `first`. Makes longer runs until the time `until`, for a clearer refusal.
@@ -1090,10 +1101,11 @@ template <class Make, class Key> struct tester {
         return all;
     }
 
-    // Returns the verdict if no run has failed: false if too few calls overlapped.
-    verdict passed(verdict all) const {
+    // Returns the verdict if none of the `runs` runs has failed: false if too few calls overlapped.
+    verdict passed(verdict all, uint64_t runs) const {
         const bool few = is_few(all.overlapped, all.calls);
-        all.text = say(few ? FEW : OK, all.calls, all.overlapped) + "; judge: " + all.judge;
+        all.fewer_runs = fewer_runs(how, runs);
+        all.text = say(few ? FEW : OK, all.calls, all.overlapped) + all.fewer_runs + "; judge: " + all.judge;
         if (few) fprintf(stderr, "listset: %s\n", all.text.c_str());  // (the test framework can hide a passed test's output)
         all.ok = all.overlapped * 100 >= all.calls * how.at_least;
         if (!all.ok) all.text = all.said = say(TOO_FEW, all.overlapped, all.calls, how.at_least);

@@ -92,6 +92,7 @@ public final class Judge {
     private static final int PART = 20000, LONGEST = 100, HOT = 4, ENOUGH = 5, HARDER = 2, PATIENCE = 10, MEET = 250, AWAKE = 300000, WITHIN = 60, APART = 100, FURTHER = 4, FURTHER_FOR = 3, FURTHER_MOST = 10, CLEAR = 10, LONGER = 4;
     private static final String OK = "ok: %s calls, and %s of them overlapped a change of their key";
     private static final String FEW = "few calls overlapped, so ok means little: %s calls, and %s of them overlapped a change of their key";
+    private static final String FEWER_RUNS = "; only %s of %s runs were made, because no run begins after %s s (option within)";
     private static final String TOO_FEW = "too few calls overlapped: %s of %s calls overlapped a change of their key, and at_least requires %s of 100. If the machine is busy, raise within. Otherwise use fewer keys or more threads";
     private static final String FAILED_RUN = "%s\n\nseed %s (%s), %s threads%s; recorded in %s%s; judge: %s";
     private static final String RANGE = "%s is %s, but must be %s to %s";
@@ -249,6 +250,14 @@ public final class Judge {
             return isSet("LISTSET_SEED") || seed != new Options().seed && !isSet("LISTSET_SECONDS");
         }
 
+        /**
+         * Returns the part of the message about runs that were not made because the time was over. Returns an empty
+         * string if all runs were made, or if LISTSET_SECONDS is set (then no number of runs is planned).
+         */
+        private String fewerRuns(long made) {
+            return made == runs || isSet("LISTSET_SECONDS") ? "" : FEWER_RUNS.formatted(made, runs, within);
+        }
+
         private static boolean isSet(String variable) { return !System.getenv().getOrDefault(variable, "").isEmpty(); }
 
         /**
@@ -267,11 +276,15 @@ public final class Judge {
     /**
      * The result of a successful test: some order explains each run. {@code overlapped} is the number of calls that
      * overlapped a change of their key, as counted by the judge. {@code judge} is the judge's name, and whether the
-     * judge states that it is proved. {@code toString} formats the result.
+     * judge states that it is proved. {@code fewerRuns} is the part of the text about runs that were not made because of
+     * the time limit of the test; it is empty if all runs were made. {@code toString} formats the result.
      */
-    public record Verdict(long calls, long overlapped, String judge) {
+    public record Verdict(long calls, long overlapped, String judge, String fewerRuns) {
+        /** Creates the result of a test that made all runs. */
+        public Verdict(long calls, long overlapped, String judge) { this(calls, overlapped, judge, ""); }
+
         @Override public String toString() {
-            return judge.isEmpty() ? SKIPPED : (isFew(overlapped, calls) ? FEW : OK).formatted(calls, overlapped) + "; judge: " + judge;
+            return judge.isEmpty() ? SKIPPED : (isFew(overlapped, calls) ? FEW : OK).formatted(calls, overlapped) + fewerRuns + "; judge: " + judge;
         }
     }
 
@@ -411,10 +424,11 @@ public final class Judge {
                 Shape shape = how.shapeOf(seed);
                 for (int tries = 0; areFew(sums, seed, shape) && tries < HARDER && isWithin(began, PATIENCE); tries++) shape = how.harder(shape);
             }
+            String fewerRuns = how.fewerRuns(seed - how.seed);
             for (long end = System.nanoTime(); isFew(sums[1], sums[0]) && isWithin(began, how.within) && isWithin(end, PATIENCE); seed++) {
                 areFew(sums, seed, how.harder(how.harder(how.shapeOf(seed))));
             }
-            Verdict verdict = new Verdict(sums[0], sums[1], program.toString());
+            Verdict verdict = new Verdict(sums[0], sums[1], program.toString(), fewerRuns);
             if (isFew(sums[1], sums[0])) System.err.println(verdict); // (the test framework can hide a passed test's output)
             if (sums[1] * 100 < sums[0] * how.atLeast) throw new TooFew(TOO_FEW.formatted(sums[1], sums[0], how.atLeast));
             return verdict;
