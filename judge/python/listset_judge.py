@@ -87,6 +87,7 @@ RANGES = (
 PART, LONGEST, HOT, ENOUGH, HARDER, PATIENCE, MEET, AWAKE, SLOW, WITHIN, FURTHER, FURTHER_FOR, FURTHER_MOST, CLEAR, LONGER = 20000, 100, 4, 5, 2, 10, 250, 300000, 10, 60, 4, 3, 10, 10, 4
 OK = "ok: %s calls, and %s of them overlapped a change of their key"
 FEW = "few calls overlapped, so ok means little: %s calls, and %s of them overlapped a change of their key"
+FEWER_RUNS = "; only %s of %s runs were made, because no run begins after %s s (option within)"
 TOO_FEW = "too few calls overlapped: %s of %s calls overlapped a change of their key, and at_least requires %s of 100. If the machine is busy, raise within. Otherwise use fewer keys or more threads"
 FAILED_RUN = "%s\n\nseed %s (%s), %s threads%s; recorded in %s%s; judge: %s"
 RANGE = "%s is %s, but must be %s to %s"
@@ -127,12 +128,14 @@ NUMBER = "the variable %s is %s, but must be a number from %s to %s"
 class Verdict:
     """The result of a successful test: some order explains each run. `overlapped` is the number of calls that
     overlapped a change of their key, as counted by the judge. `judge` is the judge's name, and whether the judge states
-    that it is proved. str() formats the result.
+    that it is proved. `fewer_runs` is the part of the text about runs that were not made because of the argument `within`;
+    it is empty if all runs were made. str() formats the result.
     """
 
     calls: int
     overlapped: int
     judge: str
+    fewer_runs: str = ""
 
     @property
     def is_few(self) -> bool:
@@ -140,7 +143,7 @@ class Verdict:
         return is_few(self.overlapped, self.calls)
 
     def __str__(self) -> str:
-        return f"{(FEW if self.is_few else OK) % (self.calls, self.overlapped)}; judge: {self.judge}"
+        return f"{(FEW if self.is_few else OK) % (self.calls, self.overlapped)}{self.fewer_runs}; judge: {self.judge}"
 
 
 class Failed(AssertionError):
@@ -199,6 +202,12 @@ class Options(collections.namedtuple("Options", "threads calls keys key pauses r
     def is_replay(self) -> bool:
         """Returns whether the test repeats a run: its seed is from LISTSET_SEED, or the argument `seed` is not 1."""
         return bool(os.environ.get("LISTSET_SEED")) or self.seed != 1 and not os.environ.get("LISTSET_SECONDS")
+
+    def fewer_runs(self, made: int) -> str:
+        """Returns the part of the message about runs that are not made because the time is over. Returns an empty string
+        if LISTSET_SECONDS is set (then no number of runs is planned).
+        """
+        return "" if os.environ.get("LISTSET_SECONDS") else FEWER_RUNS % (made, self.runs, self.within)
 
     def shape_of(self, seed: int) -> Shape:
         """Returns the preset that belongs to `seed`, modified by the options."""
@@ -305,9 +314,10 @@ class Tester:
         """Performs the requested runs, each up to three times, and then more runs as long as few calls have overlapped.
         Raises the error of a failed run.
         """
-        began, how = time.monotonic(), self.how
+        began, how, fewer_runs = time.monotonic(), self.how, ""
         for seed in range(how.seed, how.seed + how.runs):
             if seed > how.seed and time.monotonic() > self.until:
+                fewer_runs = how.fewer_runs(seed - how.seed)
                 break
             shape = how.shape_of(seed)
             for _ in range(HARDER + 1):
@@ -318,7 +328,7 @@ class Tester:
         while is_few(self.overlapped, self.calls) and time.monotonic() < end:
             seed += 1
             self.judged_run(seed, how.harder(how.harder(how.shape_of(seed))))
-        return Verdict(self.calls, self.overlapped, str(self.by))
+        return Verdict(self.calls, self.overlapped, str(self.by), fewer_runs)
 
     def judged_run(self, seed: int, shape: Shape) -> bool:
         """Performs a run and judges its recording. Returns whether few of the run's calls overlapped. Raises Failed if
