@@ -189,6 +189,33 @@ def test_runs_with_few_overlaps_are_reported(form, program):
     assert kind == "too few" and re.search("^too few calls overlapped: 0 of [0-9]+ calls overlapped a change of their key, and at_least requires 5 of 100", said, re.M), said
 
 
+# A judge that takes `%seconds` for a recording, and prints the program's output with a different number of overlapping
+# calls.
+TAKES_TIME = """#!/bin/sh
+[ "$1" != judge ] || sleep %seconds
+'%program' "$@" | sed 's/^[0-9]* of them /%count of them /'
+"""
+
+
+@each(LANGUAGES)
+def test_a_verdict_says_how_many_runs_were_made_if_the_time_was_over_before_the_last(form, program):
+    def told(seconds, count, how, **also):
+        judge = TAKES_TIME.replace("%program", str(program)).replace("%seconds", str(seconds)).replace("%count", str(count))
+        kept = form.room / f"kept-{len(list(form.room.glob('kept-*')))}"
+        kind, said = form.told(form.script("takes time", judge), "right", f"threads=4 calls=250 record={kept} {how}", **also)
+        return kind, said, len(list(kept.iterdir()))  # (a run that is repeated has one file)
+
+    for count, within, begin in ((900, 3, "ok: "), (0, 1, "few calls overlapped, so ok means little: ")):
+        kind, said, made = told(1.1, count, f"within={within}")
+        due = rf"; only {made} of 20 runs were made, because no run begins after {within} s \(option within\); judge: "
+        assert kind == "ok" and 0 < made < 20 and re.search(f"^{begin}[0-9]+ calls, and [0-9]+ of them overlapped a change of their key{due}", said, re.M), said
+    for seconds, how, also in ((0, "within=600", {}), (1.1, "runs=1 within=1", {}), (1.1, "within=1", {"LISTSET_SECONDS": "2"})):
+        kind, said, made = told(seconds, 900, how, **also)
+        assert kind == "ok" and made in ((20,) if seconds == 0 else (1, 2)) and "runs were made" not in said, said
+    kind, said, _ = told(1.1, 0, "within=1 at_least=5")
+    assert kind == "too few" and re.search("^too few calls overlapped: (?!.*runs were made)", said, re.M), said
+
+
 @each(LANGUAGES)
 def test_times_and_seeds_come_from_the_options_and_the_environment(form, program):
     made = {}
