@@ -450,7 +450,7 @@ def test_the_run_with_the_most_contradictions_is_printed(form):
     assert [*(form.room / "kept").iterdir()] == [pathlib.Path(line[3])] and form.left() == []
 
 
-# A judge that takes 1.1 seconds for a run, and states the same number of contradictions in each.
+# A judge that takes 1.1 seconds for each run, and always finds the same number of contradictions.
 SLOW = """#!/bin/sh
 [ "$1" = judge ] || exit 0
 sleep 1.1

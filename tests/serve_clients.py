@@ -115,7 +115,7 @@ def test_clients_at_once_receive_right_answers(program, kind):
         server.ends(CLIENTS + 1, calls, calls, keys)
 
 
-# ---- Tests of more clients than a server has seats (a seat serves one client at a time)
+# ---- Tests with more clients than the server has seats (a seat serves one client at a time)
 
 
 def test_more_clients_than_seats_are_served(program):

@@ -1,6 +1,6 @@
 """Tests the lines that `judge` prints below a refusal. page/tests/verdicts.js checks in Node that each sentence is
-true, and the tests in this file check that the program prints the same sentences. A search through all orders checks
-the refusals that count adds and removes.
+true, and the tests in this file check that the program prints the same sentences. Refusals
+that are based on counts of adds and removes are checked by a search through all orders.
 """
 
 import itertools

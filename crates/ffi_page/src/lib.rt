@@ -337,8 +337,8 @@ pub extern "C" fn listset_faults(alloc: Global, room: &mut [u8], status: &mut u8
     hand(list_faults(alloc), room, status)
 }
 
-/// Explains a cause: writes the lines of `listset faults CAUSE`. If the cause does not exist, writes `listset: bad
-/// CAUSE` and sets status 2.
+/// Explains a cause of an error, such as `Idle`: writes what `listset faults CAUSE` prints. If no cause has this name,
+/// writes `listset: bad CAUSE` and sets status 2.
 #[unsafe(no_mangle)]
 pub extern "C" fn listset_fault(
     alloc: Global,

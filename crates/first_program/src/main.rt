@@ -46,8 +46,8 @@ fn one_thread<R: Wait + Print>(rt: &R, alloc: Global) -> Result<()> {
     Ok(())
 }
 
-/// Runs two programs (each is the list of calls of one thread) in two threads, on a set of the list `M` that opens with
-/// `keys`. Each thread can add two keys. Returns the replies to the calls of each program, and the final keys.
+/// Runs two programs (each is the list of calls of one thread) in two threads. The set is implemented by the list `M`,
+/// and contains `keys` at first. Each thread can add two keys. Returns the replies to the calls of each program, and the final keys.
 fn two_threads<M: Running + Send + Sync + Drop, R: Threads + Wait + Sync>(
     rt: &R,
     alloc: Global,

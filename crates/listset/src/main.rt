@@ -30,13 +30,13 @@ fn texts(alloc: Global, given: &[String]) -> Result<Vec<&str>, AllocError> {
     Ok(words)
 }
 
-/// Prints that an argument is not UTF-8, and returns exit status 2.
+/// Prints the error that an argument is not UTF-8, and returns exit status 2.
 fn end_without_text(rt: &HostRuntime) -> ExitCode {
     let _whole = put(&mut rt.stderr(), NOT_UTF8);
     ExitCode::from(2)
 }
 
-/// Prints that memory ran out while the program read its arguments, and returns the exit status.
+/// Prints the error that memory ran out while the program read its arguments, and returns the exit status.
 fn end_without_memory(rt: &HostRuntime) -> ExitCode {
     let (output, stderr) = (&mut io::writer(rt), &mut rt.stderr());
     ExitCode::from(deliver(Err(Trouble::Memory), output, stderr))

@@ -153,8 +153,7 @@ pub fn put_header(out: &mut String, number: usize) -> Result<(), AllocError> {
     out.push_str(text)
 }
 
-/// Explains that the key in a line `opening K` or `key K` is not greater than the key in the line before, which is
-/// `above`.
+/// Explains that the key in a line `opening K` or `key K` is not greater than the key in `above`, the line before.
 pub fn put_opening(out: &mut String, place: Place<'_>, above: &[u8]) -> Result<(), AllocError> {
     let file = place.file;
     put_quoted(out, place.line)?;

@@ -531,7 +531,7 @@ pub fn because_text(
     Ok(out)
 }
 
-/// Writes the fact that supports the cause `OtherReply`, if two overlapping calls have each other's reply.
+/// Writes the fact that supports the cause `OtherReply`: two overlapping calls received each other's replies.
 fn put_because_of_swap(out: &mut String, one: Made, two: Made) -> Result<(), AllocError> {
     let (first, second) = (one.operation.word(), two.operation.word());
     let (key, other) = (one.key, two.key);

@@ -290,7 +290,8 @@ fn is_missed_beside(tally: &Tally) -> bool {
         && tally.lost.saturating_mul(4) <= missed
 }
 
-/// The minimum number of adds and removes that returned false for the guess that they give up.
+/// The guess that calls give up (return false without trying again) requires at least this many adds and removes that
+/// wrongly returned false.
 const LEAST_REFUSED: u64 = 8;
 
 /// Before this moment, a set has not grown yet.
@@ -363,8 +364,8 @@ fn is_of_same_key(evidence: &Evidence) -> bool {
         && !is_clear(others)
 }
 
-/// Returns the likely cause from the calls that overlapped the changes that were undone or reported twice (`Meets`):
-/// calls on the same key, or changes of other keys.
+/// Infers the likely cause from what ran at the same time as changes that were undone or reported twice (`Meets`): calls
+/// on the same key, or changes of other keys.
 fn cause_of_meets(evidence: &Evidence) -> Option<Cause> {
     let (tally, meets) = (&evidence.tally, &evidence.meets);
     let (own, others, first) = (meets.own, meets.others, meets.first);

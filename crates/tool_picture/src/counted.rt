@@ -9,11 +9,11 @@ use std::alloc::{AllocError, Global};
 use tool_calls::{KeyCalls, Made, NEVER, Recorded, stretches_of};
 use tool_facts::stream_call;
 
-/// A contradiction by counting (more changes required than made) is searched among at most this many calls, since the
-/// search takes quadratic time.
+/// The search for a contradiction by counting (more changes required than made) covers at most this many calls, since
+/// the search takes quadratic time.
 const MOST_COUNTED: usize = 4_000;
 
-/// The calls on a key among which a contradiction by counting (more changes required than made) is searched.
+/// The calls on a key that are searched for a contradiction by counting (more changes required than made).
 #[derive(Drop)]
 struct Counted {
     calls: Vec<StreamCall>,

@@ -31,7 +31,7 @@ use calls::{of_room, of_text, of_two_texts};
 /// The error that the program `listset` would report.
 #[derive(Clone, Debug, PartialEq, Eq)]
 pub struct Wrong {
-    /// The text that the program would print: an error message, the first error in the order of a report, or the trace
+    /// The text that the program would print: an error message, the first error in the order that a report states, or the trace
     /// up to the first event that cannot happen.
     pub text: String,
     /// The exit status: 1 for a wrong text, 2 for a wrong argument, 3 if memory ran out.

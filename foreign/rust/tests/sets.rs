@@ -146,8 +146,8 @@ fn sets_opened_at_once_have_different_numbers() {
     }
 }
 
-/// Checks that a seat (one thread's access to the set) cannot be merged with a seat of another set, even among more
-/// sets than 16 bits can number.
+/// Checks that a seat (one thread's access to the set) cannot be merged with a seat of another set, even if there are
+/// more sets than a 16-bit number can tell apart.
 #[test]
 fn seats_of_different_sets_are_not_merged() {
     let mut mine = open(List::Lazy, 1, 0, &[]).unwrap();

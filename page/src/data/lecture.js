@@ -1,5 +1,5 @@
-// The slides of the lecture, #lecture=1 and so on. A slide has its minutes, its title, the address of the place that it shows, a question for the class, and
-// the answer.
+// The slides of the lecture, #lecture=1 and so on. A slide consists of its duration in minutes, a title, the address of what it shows, a question for the class,
+// and the answer.
 /** @type {[number, string, string, string, string][]} */
 export const LECTURE = [
   [4, "Lose a number", "#story=2&view=lecture", "No lock. Let the class call out A or B until a number is lost.",

@@ -79,7 +79,7 @@ const isToBreak = ({ ledger, figure }) => ledger === true && figure.lacks !== un
 const FEW = 30; // states that are searched after each press, to report early that nothing can go wrong any more
 const HOPELESS = "From here nothing can go wrong any more.";
 
-// Reports why the run cannot reach the goal any more. The first report of a screen adds the nudge, the second the solution.
+// Reports why the run cannot reach the goal any more. The first report on a screen also shows the nudge, and the second also shows the solution.
 function startOver(why) {
   const { stage, hints } = now.scene;
   setScene({ stage: "again", note: `${why} Start over.`, hints: stage === "again" ? hints : hints + 1 });

@@ -11,7 +11,7 @@ const HALF_STEPS = { ArrowLeft: -0.5, ArrowDown: -0.5, ArrowRight: 0.5, ArrowUp:
 const SLIDER_KEYS = { ...HALF_STEPS, PageDown: -5, PageUp: 5, Home: -Infinity, End: Infinity };
 
 /**
- * Lets the reader place moments on the bars in `box`, by a pointer or by a slider's keys.
+ * Lets the reader place moments on the bars in `box`, with a pointer or with the keys of a slider.
  * @param {any} box
  * @param {{ exercise: any, scale: any, answer: any, place: (call: any, at: number) => void, take: (call: any) => void }} bars
  */

@@ -46,7 +46,7 @@ function goesOnStage(by) {
   return now.run.count !== count;
 }
 
-// Moves forward or back. If the last steps of the slide are still being shown, a press shows the rest of these steps and does not leave the slide.
+// Goes to the next or previous step and, past the last step, to the next slide. While the last steps of a slide are still being shown, a press only shows the rest of them.
 export function goOnSlide(by) {
   const isPlaying = scene.figure?.isBusy === true;
   const goes = () => (now.place.screen === "stage" ? goesOnStage(by) : scene.view?.goes?.(by));
