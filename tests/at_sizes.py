@@ -39,8 +39,8 @@ class Asked:
         self.program, self.room, self.taken = program, room, collections.defaultdict(dict)
 
     def says(self, *words, text="", status=0, error="", size=None, seconds=PROCESSOR_SECONDS):
-        """Runs a command, checks its exit status and returns its output. Stores, for the input size `size`, the seconds
-        and kilobytes that the command needed.
+        """Runs a command, checks its exit status and returns its output. Records the seconds and kilobytes that the
+        command needed for the input size `size`.
         """
         taken, given = self.room / "taken", self.room / "text"
         given.write_text(text)
@@ -168,9 +168,7 @@ def test_schedules_of_each_size_are_drafted_replayed_and_checked(asked, few, kin
 
 @pytest.mark.parametrize("kind", KINDS)
 def test_counts_of_runs_of_each_size_add_up(asked, few, kind):
-    """Tests the counts that `run` prints for one thread and for several threads, up to the limits of the arguments of
-    `run`.
-    """
+    """Tests the counts that `run` prints for one thread and for several threads, with arguments up to their limits."""
     draw = random.Random(kind)
     drawn = [(threads, log_uniform(draw, MOST_QUOTA), log_uniform(draw, 200), log_uniform(draw, 10_000), log_uniform(draw, 2**64 - 1),
               log_uniform(draw, 100 if threads < 9 else 3)) for threads in ([5, 64] if few else [1, 2, 5, 17, 64])]

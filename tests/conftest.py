@@ -51,8 +51,8 @@ def pytest_runtest_logreport(report):
 
 
 def built_program(config):
-    """Returns the program in --program or, by default, the most recently built program. The age of a program is counted
-    from the start of its build.
+    """Returns the program in --program or, by default, the most recently built program. A program's age counts from the
+    start of its build.
     """
     built = [it for it in (PROVED, UNPROVED) if it.exists()]
     return config.option.program or str(max(built, key=lambda it: it.stat().st_mtime, default=PROVED))

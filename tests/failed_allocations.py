@@ -1,4 +1,5 @@
-"""Tests programs with a failed allocation: in each run one allocation fails, and each allocation fails in some run.
+"""Tests how programs handle a failed allocation. In each run one allocation fails, and each allocation fails in some
+run.
 
 `tests/harness/fail_allocation.c` refuses the allocation with a given number, and overwrites freed memory so that
 reading it has a visible effect. The program must print `out of memory` and nothing else. (`trace` also prints the

@@ -34,7 +34,7 @@ class InstalledLibraries:
         self.include = f"-I{PREFIX / 'include'}"
 
     def proof(self):
-        """Returns the words by which the library says whether its proof was checked."""
+        """Returns the words with which the library states whether it is proved."""
         return "proof missing" if "without a proof" in (self.library / "pkgconfig" / "listset.pc").read_text() else "proof checked"
 
     def works(self, sanitizer):

@@ -426,7 +426,7 @@ def test_recordings_of_runs_that_pass_are_not_kept(form, program):
 # ---- Further runs after a refusal
 
 
-# A judge that refuses every recording except the third. Its five verdicts state 3, 9, no, 9 and 5 contradictions.
+# A judge that refuses every recording except the third. The refusals report 3, 9, 9 and 5 contradictions.
 REFUSES_MORE = """#!/bin/sh
 case $1 in judge) ;; *) exit 0 ;; esac
 [ "$2" != --only ] || exit 1
@@ -473,7 +473,7 @@ def test_further_runs_have_more_time_while_the_refusals_state_few_contradictions
 
 
 def contradictions_in(said):
-    """Returns how many contradictions a refusal states, or 0 if it states no number."""
+    """Returns the number of contradictions in a refusal, or 0 if the refusal contains no number."""
     found = re.search("([0-9]+) (?:contradiction|of its )", said)
     return int(found[1]) if found else 0
 

@@ -21,8 +21,8 @@ Call = collections.namedtuple("Call", "thread word key begin end reply")
 
 
 def drawn(rng, calls):
-    """Returns random overlapping calls of threads, ordered by their starts, and the keys of the set at the start and at
-    the end. The set occasionally returns a wrong reply. The starts and ends of calls are the moments 1, 2, 3 and so on.
+    """Returns random overlapping calls of threads, sorted by start, and the keys of the set at the start and at the
+    end. The set occasionally returns a wrong reply. The starts and ends of calls are the moments 1, 2, 3 and so on.
     """
     opening = sorted(rng.sample(range(KEYS), rng.randrange(KEYS)))
     opened, found, pending, moment = SetModel(keys=opening), [], {}, 0
@@ -180,8 +180,8 @@ def call_in(line, form, of_key):
 
 
 def may_be_made(of_key, word, since, until):
-    """Returns whether some call of the operation `word` can have changed the key between `since` and `until`: the call
-    overlaps the interval, and returned true or is pending.
+    """Returns whether some call of the operation `word` could have changed the key between `since` and `until`: the
+    call overlaps the interval, and returned true or is pending.
     """
     return any(it.word == word and changes(it) and it.begin < until and since < (it.end or LAST + 1) for it in of_key)
 

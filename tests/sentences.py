@@ -408,7 +408,7 @@ def the_key_has_this_state_at_the_end(case, key, state):
 
 
 def may_be_made(case, word, key, since, until):
-    """Returns whether some call of the operation `word` can have changed `key` between `since` and `until`: the call
+    """Returns whether some call of the operation `word` could have changed `key` between `since` and `until`: the call
     overlaps the interval, and returned true or is pending.
     """
     return any((it.word, it.key) == (word, key) and changes(it) and it.begin <= until and since <= (it.end or LAST) for it in case.calls)
@@ -474,7 +474,7 @@ def ends_of_trace(trace):
 
 
 def order_of(ends):
-    """Returns the calls ordered by the moments of their effects (numbers of events). If two calls have the same moment,
+    """Returns the calls sorted by the moments of their effects (numbers of events). If two calls have the same moment,
     a call that changed the set precedes a call that did not; otherwise the lower number precedes.
     """
     return sorted(ends, key=lambda it: (ends[it][1], not ends[it][2], it))
