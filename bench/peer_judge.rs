@@ -1,8 +1,8 @@
-// A judge, written by hand as a baseline. Reads a recording from standard input, once, and prints `ok N calls`, or
-// `not linearizable` and the key. Applies the rule of crates/lset_judge/specs/Rule.antt: a key changes as late as
-// possible, when a call ends with a reply that requires the change. Of the pending calls that can make the change, the
-// one with the earliest end takes effect. The judge checks the format of its input and that calls are ordered by
-// start, but does not check that no two calls end at the same moment.
+// A judge, written by hand as a baseline. Reads a recording from standard input, once, and prints `ok N calls`, or `not
+// linearizable` and the key. Applies the rule of crates/lset_judge/specs/Rule.antt: a key changes as late as possible,
+// when a call ends with a reply that requires the change. Of the pending calls that can make the change, the one with
+// the earliest end takes effect. The judge checks the format of its input and that calls are sorted by start, but does
+// not check that no two calls end at the same moment.
 use std::collections::{BinaryHeap, HashMap, HashSet};
 use std::cmp::Reverse;
 use std::io::Read;

@@ -154,7 +154,7 @@ print_broken_lists() {
   "${engine[@]}" help replay 2>/dev/null | sed -n 's/^ *--lacks <NAME> [^:]*: //p'
 }
 
-# Explains an option --lacks that names a check of another list than the schedule's.
+# Explains an option --lacks whose check belongs to a different list than the schedule's.
 explain_lacks() {
   local lacks=${texts[lacks]} file=$1 list="" names it of="" fitting=""
   names=$(print_broken_lists)
