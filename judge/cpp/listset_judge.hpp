@@ -63,7 +63,7 @@ class AssertHelper;
 
 namespace listset {
 // The name of the inner namespace depends on whether LISTSET_H is defined, because LISTSET_H can be defined in one file
-// of a program and not in a second one.
+// of a program and not in another.
 #ifdef LISTSET_H
 inline namespace judged_by_library {
 #else
@@ -127,8 +127,8 @@ struct verdict {
     std::string judge;
     /// The complete message about the test.
     std::string text;
-    /// The part of the message about runs that were not made because of the time limit `within`. Empty if all runs were
-    /// made.
+    /// The part of the message about runs that were not performed because of the time limit `within`. Empty if all runs
+    /// were performed.
     std::string fewer_runs;
     explicit operator bool() const { return ok; }
 };
@@ -374,7 +374,7 @@ inline std::string line_of(const slot &it, unsigned key, unsigned end) {
     return text + (is_open ? "- -\n" : std::to_string(end) + (it.answer == reply::yes ? " true\n" : " false\n"));
 }
 
-// Returns the lines of the calls that have not been saved, ordered by start, and the pending calls. Threads can begin
+// Returns the lines of the calls that have not been saved, sorted by start, and the pending calls. Threads can begin
 // and end calls while `lines_of` runs: a call that begins meanwhile is left out, and a call that ends meanwhile is
 // pending.
 inline std::pair<std::string, std::vector<const slot *>> lines_of(const area &from) {
@@ -393,7 +393,7 @@ inline std::pair<std::string, std::vector<const slot *>> lines_of(const area &fr
     return {lines, under_way};
 }
 
-// Interrupts the current thread during some calls, by a timer that sends the signal SIGURG. The interrupted thread
+// Interrupts the current thread during some calls, with a timer that sends the signal SIGURG. The interrupted thread
 // sleeps for a microsecond. On a busy machine, it sleeps repeatedly, at most PATIENT times, until other threads have
 // made calls. If the signal arrives between two calls, it has no effect, and the timer is started again. Works on Linux
 // only.
@@ -478,8 +478,8 @@ struct stops {
 #endif
 };
 
-// Lets two threads begin calls at the same time, for races that last only nanoseconds. On a busy machine, threads are
-// seldom on two processors at once. Therefore a thread polls for a partner before a call, and both threads continue
+// Lets two threads begin calls at the same time, to catch races that last only nanoseconds. On a busy machine, two
+// threads seldom run at the same time. Therefore a thread polls for a partner before a call, and both threads continue
 // when the partner polls too. Half of the calls then use two neighboring keys. The two keys change after every MEET
 // calls. Only runs with an odd seed have partners, and only if `pauses` is not 0.
 struct partners {
@@ -609,7 +609,7 @@ template <class Make, class K> struct maker {
         if (how.ends) how.ends();
     }
 
-    // The maximum number of calls of `contains` to find out whether a key is in the set at the start or at the end. A
+    // The maximum number of `contains` calls made to find out whether a key is in the set at the start or at the end. A
     // call is repeated while its outcome is unknown.
     static constexpr unsigned MOST_ASKED = 100;
 
@@ -680,8 +680,8 @@ template <class Make, class K> struct maker {
 };
 
 // Waits until `is_done` returns true. Returns false at the time `until`, or if no call begins or ends for `seconds`
-// seconds. The time between two polls counts as at most five milliseconds, so that a run without a processor does not
-// count as hung.
+// seconds. The time between two polls counts as at most five milliseconds, so that a run that gets no processor time
+// does not count as hung.
 template <class Done> bool comes_to_end(const area &run, unsigned seconds, clock::time_point until, Done is_done) {
     unsigned seen = run.tickets;
     clock::duration waited{};
@@ -848,7 +848,7 @@ inline std::string key_in(const std::string &refused) {
     return key;
 }
 
-// Returns how many contradictions a refusal states, or 0 if it states no number.
+// Returns the number of contradictions in a refusal, or 0 if the refusal contains no number.
 inline uint64_t contradictions_in(const std::string &refused) {
     std::istringstream words(refused);
     for (std::string before, last, word; std::getline(words, word, ' '); before = last, last = word) {
@@ -900,8 +900,8 @@ struct outcome {
 
 inline bool is_set(const char *variable) { return std::getenv(variable) && *std::getenv(variable); }
 
-// Returns the part of the message about runs that were not made because the time was over. Returns an empty string if
-// all runs were made, or if LISTSET_SECONDS is set (then no number of runs is planned).
+// Returns the part of the message about runs that were not performed because time ran out. Returns an empty string if
+// all runs were performed, or if LISTSET_SECONDS is set (the number of runs is then not fixed).
 inline std::string fewer_runs(const options &how, uint64_t made) {
     return made == how.runs || is_set("LISTSET_SECONDS") ? "" : say(FEWER_RUNS, made, how.runs, how.within);
 }
@@ -947,7 +947,7 @@ template <class Make, class Key> struct tester {
         return it;
     }
 
-    // Returns the part of the message that names the presets of the earlier runs (all passed).
+    // Returns the part of the message that names the presets of the earlier runs, which all passed.
     std::string passed_before(uint64_t seed) const {
         std::string names;
         for (uint64_t it = how.seed; it < seed && it < how.seed + std::size(PRESETS); it++) names += (names.empty() ? "" : ", ") + std::string(shape_of(it).name);
@@ -1040,10 +1040,10 @@ template <class Make, class Key> struct tester {
         }
     }
 
-    // Performs longer runs with the preset of a refused run and later seeds, until a run cannot be completed. Begins and
-    // ends them within FURTHER_FOR seconds, or within FURTHER_MOST seconds while the best refusal states fewer than CLEAR
-    // contradictions; less if the limits of the test are small. Returns the run whose refusal states the most
-    // contradictions, and the part of the message that counts the refused runs.
+    // Performs longer runs with the preset of a refused run and later seeds, until a run cannot be completed. They
+    // begin and end within FURTHER_FOR seconds, or within FURTHER_MOST seconds while the best refusal reports fewer
+    // than CLEAR contradictions. Both times are shorter if the test's own time limits are short. Returns the run whose
+    // refusal reports the most contradictions, and the part of the message that counts the refused runs.
     std::pair<outcome, std::string> clearest(const outcome &first, clock::time_point until) const {
         if (is_replay(how) || !has_own_process()) return {first, ""};
         outcome best = first;
@@ -1113,7 +1113,7 @@ template <class Make, class Key> struct tester {
     }
 };
 
-// The type T. The compiler looks up the type only when S is known, because GoogleTest can be included after this file.
+// The type T, which the compiler looks up only when S is known, because GoogleTest can be included after this file.
 template <class S, class T> struct later {
     using type = T;
 };

@@ -119,8 +119,8 @@ type shape struct {
 }
 
 // size has the sizes of a run: the number of goroutines, of new sets used one after another, of calls per goroutine and
-// set, and of keys. The keys are multiples of the number times. Goroutines wait for each other after every manyMeet
-// calls or, if meetsOnce, only at the beginning.
+// set, and of keys. The keys are the multiples of times. Goroutines wait for each other after every manyMeet calls or,
+// if meetsOnce, only at the beginning.
 type size struct {
 	threads, sets, calls, keys, times int
 	meetsOnce                         bool
@@ -216,8 +216,7 @@ func most(a, b int) int {
 	return b
 }
 
-// most returns the largest value that the function of returns for the sizes of a preset. The presets are modified by
-// the options.
+// most returns the largest value that the function of returns for the sizes of a preset, as modified by the options.
 func (o Options) most(of func(size) int) (most int) {
 	for i := range presets {
 		if its := of(o.shapeOf(int64(i + 1)).size); its > most {
@@ -229,8 +228,8 @@ func (o Options) most(of func(size) int) (most int) {
 
 // Verdict is the result of a successful test: some order explains each run. Overlapped is the number of calls that
 // overlapped a change of their key, as counted by the judge. Judge is the judge's name, and whether the judge states
-// that it is proved. FewerRuns is the part of the text about runs that were not made because of the option Within; it is
-// empty if all runs were made. String formats the verdict.
+// that it is proved. FewerRuns is the part of the text about runs that were not performed because of the option Within;
+// it is empty if all runs were performed. String formats the verdict.
 type Verdict struct {
 	Calls, Overlapped int
 	Judge             string
@@ -322,7 +321,7 @@ func check(t Test, of func(keys int) (source, error), options []Options) {
 	}
 }
 
-// checkName is the environment variable of a child process with the name of the call to Check that started the process.
+// checkName is an environment variable of a child process: the name of the call to Check that started the process.
 const checkName = "LISTSET_CHECK"
 
 var (
@@ -388,8 +387,8 @@ type tester struct {
 	until   time.Time
 }
 
-// endsBefore shortens a test so that it ends before go test would stop it: a minute earlier, or after three quarters of
-// the remaining time.
+// endsBefore shortens a test so that it ends before go test would stop it: a minute earlier or, if that is later, after
+// three quarters of the remaining time.
 func (o Options) endsBefore(limited interface{ Deadline() (time.Time, bool) }) Options {
 	if limited == nil {
 		return o
@@ -477,8 +476,8 @@ func isWithin(since time.Time, seconds int) bool {
 	return time.Since(since) < time.Duration(seconds)*time.Second
 }
 
-// fewerRuns returns the part of the message about runs that were not made because the time was over. Returns an empty
-// string if all runs were made, or if LISTSET_SECONDS is set (then no number of runs is planned).
+// fewerRuns returns the part of the message about runs that were not performed because time ran out. Returns an empty
+// string if all runs were performed, or if LISTSET_SECONDS is set (the number of runs is then not fixed).
 func (o Options) fewerRuns(made int64) string {
 	if made == int64(o.Runs) || os.Getenv("LISTSET_SECONDS") != "" {
 		return ""
@@ -486,7 +485,7 @@ func (o Options) fewerRuns(made int64) string {
 	return fmt.Sprintf(sayFewerRuns, made, o.Runs, o.Within)
 }
 
-// passedBefore returns the part of the message that names the presets of the earlier runs (all passed).
+// passedBefore returns the part of the message that names the presets of the earlier runs, which all passed.
 func (o Options) passedBefore(seed int64) string {
 	var names []string
 	for it := o.Seed; it < seed && len(names) < len(presets); it++ {
@@ -545,8 +544,9 @@ func (o Options) isReplay() bool {
 
 // clearest performs longer runs with the preset of a refused run and later seeds, until a run cannot be completed. The
 // longer runs begin and end within manyFurtherFor seconds, or within manyFurtherMost seconds while the best refusal
-// states fewer than manyClear contradictions; less if the limits of the test are small. It returns the run whose refusal
-// states the most contradictions, and the part of the message that counts the refused runs.
+// reports fewer than manyClear contradictions. Both times are shorter if the test's own time limits are short. It
+// returns the run whose refusal reports the most contradictions, and the part of the message that counts the refused
+// runs.
 func (t *tester) clearest(first *failedRun, s shape) (*failedRun, string) {
 	if _, isHere := t.caller.(*here); isHere || t.options.isReplay() {
 		return first, ""

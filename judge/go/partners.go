@@ -7,9 +7,9 @@ import (
 	"time"
 )
 
-// partners lets two goroutines begin calls at the same time, for races that last only nanoseconds. On a busy machine,
-// goroutines are seldom on two processors at once. Therefore a goroutine polls for a partner before a call, and both
-// goroutines continue when the partner polls too. Half of the calls then use two neighboring keys. The two keys
+// partners lets two goroutines begin calls at the same time, to catch races that last only nanoseconds. On a busy
+// machine, two goroutines seldom run at the same time. Therefore a goroutine polls for a partner before a call, and
+// both goroutines continue when the partner polls too. Half of the calls then use two neighboring keys. The two keys
 // change after every manyMeet calls. Only runs with an odd seed have partners, and only if Pauses is not 0.
 type partners struct {
 	*area

@@ -96,7 +96,7 @@ func (a *area) lay(memory []byte) {
 
 func (a *area) saved() saved { return a.saves[atomic.LoadUint32(&a.save)] }
 
-// lines returns the lines of the calls that have not been saved, and the pending calls, both ordered by start.
+// lines returns the lines of the calls that have not been saved, and the pending calls, both sorted by start.
 // Goroutines can begin and end calls while lines runs: a call that begins meanwhile is left out, and a call that ends
 // meanwhile is pending.
 func (a *area) lines() (lines string, underWay []slot) {
@@ -125,7 +125,7 @@ func (a *area) lines() (lines string, underWay []slot) {
 
 var words = []string{"add", "remove", "contains"}
 
-// line returns the line of a call in the recording. The line's key is the call's key number times the number times.
+// line returns the line of a call in the recording. The key in the line is the call's key number multiplied by times.
 func (s *slot) line(end, times uint32) string {
 	if end == 0 || s.reply == unknown {
 		return fmt.Sprintf("call %d %s %d %d - -\n", s.thread, words[s.call], s.key*times, s.begin)
@@ -157,9 +157,9 @@ func (h *here) stop() { atomic.StoreUint32(&h.isStopping, 1) }
 
 func (h *here) close() { h.stop() }
 
-// made performs the run with the seed seed. If the run was cut short, trouble is the reason. Unless until is zero, the
+// made performs the run with the given seed. If the run was cut short, trouble is the reason. Unless until is zero, the
 // run is cut short at the time until. The time between two polls counts as at most five milliseconds, so that a run
-// without a processor does not count as hung.
+// that gets no processor time does not count as hung.
 func (a *area) made(seed int64, s size, file string, by caller, until time.Time) (trouble string, err error) {
 	for i := range a.memory {
 		a.memory[i] = 0
@@ -256,8 +256,8 @@ func (a *area) meet() bool {
 	return areThere
 }
 
-// stage has the set that the goroutines call. The race detector does not see that numbers in shared memory order the
-// creation of a set before its calls, but sees the lock.
+// stage has the set that the goroutines call. The race detector cannot tell from the numbers in shared memory that a
+// set is created before it is called, but it sees the lock.
 type stage struct {
 	lock sync.Mutex
 	set  Set
@@ -375,7 +375,7 @@ func (a *area) number(key int) uint32 {
 	return uint32(key * a.times)
 }
 
-// mostAsked is the maximum number of calls of Contains to find out whether a key is in the set at the start or at the
+// mostAsked is the maximum number of Contains calls made to find out whether a key is in the set at the start or at the
 // end. A call is repeated while its outcome is unknown.
 const mostAsked = 100
 

@@ -96,8 +96,8 @@ func (s *set) place(key uint32) uint32 {
 	return key
 }
 
-// called makes a call. With "not known" or "again", loses one reply in fifty. With "not known" the outcome of the call
-// is then unknown, with "again" the call is repeated.
+// called makes a call. With "not known" or "again", loses one reply in fifty. With "not known", the outcome of the call
+// is then unknown; with "again", the call is repeated.
 func (s *set) called(call func(uint32) bool, key uint32) bool {
 	reply := call(s.place(key))
 	if s.is != "not known" && s.is != "again" || atomic.AddInt32(&s.calls, 1)%50 > 0 {
@@ -154,7 +154,7 @@ func (s *set) Contains(key uint32) bool {
 	return s.part(key).Contains(s.place(key))
 }
 
-// told replaces methods of *testing.T by methods that print the kind and the text of a test's result.
+// told replaces methods of *testing.T with methods that print the kind and the text of a test's result.
 type told struct{ *testing.T }
 
 func (told) Log(verdict ...any) { fmt.Printf("verdict: ok\n%v\n", verdict[0]) }

@@ -9,12 +9,13 @@ import (
 	"unsafe"
 )
 
-// stopped has the fields that the signal handler onTimer reads and writes. onTimer is written in assembly, because Go calls
-// a handler in Go from another thread, which cannot stop this one. onTimer knows the offsets of the fields.
+// stopped has the fields that the signal handler onTimer reads and writes. onTimer is written in assembly, because Go
+// would run a handler written in Go on another thread, which cannot stop this one. onTimer knows the offsets of the
+// fields.
 type stopped struct {
-	isInCall uint32 // whether the goroutine is in a call of the set; otherwise a signal only sets isMissed
+	isInCall uint32 // whether the goroutine is in a call to the set; if not, a signal only sets isMissed
 	isMissed uint32
-	looks    uint32  // how often the thread sleeps at most
+	looks    uint32  // the maximum number of sleeps
 	many     uint32  // by how much tickets must increase to end the sleep
 	tickets  *uint32 // counts the starts and ends of all calls
 	sleep    syscall.Timespec
@@ -23,9 +24,9 @@ type stopped struct {
 // threadStops has an element for each goroutine. A signal can arrive after the end of a run, so elements are never freed.
 var threadStops [64]stopped
 
-// stops stops the thread of a goroutine during some calls, by a timer that sends a signal. The stopped thread sleeps for a
-// microsecond. On a busy machine, it sleeps repeatedly, at most manyPatient times, until other goroutines have made calls.
-// If the signal arrives between two calls, it has no effect, and the timer is started again.
+// stops stops the thread of a goroutine during some calls, with a timer that sends a signal. The stopped thread sleeps
+// for a microsecond. On a busy machine, it sleeps repeatedly, at most manyPatient times, until other goroutines have
+// made calls. If the signal arrives between two calls, it has no effect, and the timer is started again.
 type stops struct {
 	*area
 	its    *stopped
@@ -42,7 +43,7 @@ func afterSignal()
 
 func handlers() (handler, restorer uintptr)
 
-// newStops returns the stops of a goroutine. They stop its thread only if isAsked.
+// newStops returns the stops for a goroutine. They stop the goroutine's thread only if isAsked is true.
 func newStops(a *area, thread int, isAsked bool) *stops {
 	s := &stops{area: a, its: &threadStops[thread], timers: map[int]int32{}, draw: rand.New(rand.NewSource(a.seed*64 + int64(thread)))}
 	s.its.many, s.its.tickets, s.its.sleep = manyMany, &a.tickets, syscall.Timespec{Nsec: 1000}
@@ -113,5 +114,5 @@ func (s *stops) close() {
 	}
 }
 
-// canStop is whether stops works on this platform.
+// canStop reports whether stops works on this platform.
 const canStop = true

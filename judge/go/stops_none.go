@@ -13,5 +13,5 @@ func (*stops) inCall(call func() uint32) uint32 { return call() }
 
 func (*stops) close() {}
 
-// canStop is whether stops works on this platform.
+// canStop reports whether stops works on this platform.
 const canStop = false

@@ -74,7 +74,7 @@ func (r *recording) judged(by *judgeFound, a *area, trouble string) (int, *faile
 	return 0, f, nil
 }
 
-// contradictions returns how many contradictions the judge's output states, or 0 if the output states no number.
+// contradictions returns the number of contradictions in the judge's output, or 0 if the output contains no number.
 func (f *failedRun) contradictions() (number int) {
 	if found := ofContradictions.FindStringSubmatch(f.said); found != nil {
 		number, _ = strconv.Atoi(found[1])

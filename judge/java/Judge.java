@@ -48,8 +48,8 @@ import java.util.stream.Stream;
  * the calls explains their replies.
  *
  * <p>The environment variable LISTSET names the program {@code listset}; if LISTSET is not set, {@code listset} in PATH
- * is used. If LISTSET names a listset.js, node runs the file. If LISTSET is {@code skip}, the test is skipped the way
- * JUnit or TestNG does it.
+ * is used. If LISTSET names a listset.js, node runs the file. If LISTSET is {@code skip}, the test throws the exception
+ * with which JUnit or TestNG skips a test.
  *
  * <p>The sets are called in a separate JVM, if the method references can be sent to it and a set can be created in it.
  * If a set ends the separate JVM or hangs, the calls made so far are judged.
@@ -174,7 +174,7 @@ public final class Judge {
 
         /**
          * Sets the time limit for a run that hangs, in seconds: 1 to 3,600. A run is cut short if no call begins or
-         * ends for this time.
+         * ends for this long.
          */
         public Options withSeconds(int it) { return with(made -> made.seconds = it); }
 
@@ -182,8 +182,8 @@ public final class Judge {
         public Options withWithin(int it) { return with(made -> made.within = it); }
 
         /**
-         * Sets the least percentage of calls that must overlap a call that adds or removes the same key. Otherwise the
-         * test fails with {@link TooFew}.
+         * Sets the minimum percentage of calls that must overlap a call that adds or removes the same key. Otherwise
+         * the test fails with {@link TooFew}.
          */
         public Options withAtLeast(int it) { return with(made -> made.atLeast = it); }
 
@@ -251,8 +251,8 @@ public final class Judge {
         }
 
         /**
-         * Returns the part of the message about runs that were not made because the time was over. Returns an empty
-         * string if all runs were made, or if LISTSET_SECONDS is set (then no number of runs is planned).
+         * Returns the part of the message about runs that were not performed because time ran out. Returns an empty
+         * string if all runs were performed, or if LISTSET_SECONDS is set (the number of runs is then not fixed).
          */
         private String fewerRuns(long made) {
             return made == runs || isSet("LISTSET_SECONDS") ? "" : FEWER_RUNS.formatted(made, runs, within);
@@ -276,11 +276,12 @@ public final class Judge {
     /**
      * The result of a successful test: some order explains each run. {@code overlapped} is the number of calls that
      * overlapped a change of their key, as counted by the judge. {@code judge} is the judge's name, and whether the
-     * judge states that it is proved. {@code fewerRuns} is the part of the text about runs that were not made because of
-     * the time limit of the test; it is empty if all runs were made. {@code toString} formats the result.
+     * judge states that it is proved. {@code fewerRuns} is the part of the text about runs that were not performed
+     * because of the time limit of the test; it is empty if all runs were performed. {@code toString} formats the
+     * result.
      */
     public record Verdict(long calls, long overlapped, String judge, String fewerRuns) {
-        /** Creates the result of a test that made all runs. */
+        /** Creates the result of a test that performed all runs. */
         public Verdict(long calls, long overlapped, String judge) { this(calls, overlapped, judge, ""); }
 
         @Override public String toString() {
@@ -388,7 +389,7 @@ public final class Judge {
         return found;
     }
 
-    /** Skips the test the way JUnit or TestNG does it. Without them, returns a verdict without calls. */
+    /** Skips the test with an exception of JUnit or TestNG. Without them, returns a verdict without calls. */
     private static Verdict skipped() {
         if (System.getenv("CI") != null && !System.getenv("CI").isEmpty()) throw new NoVerdict(NOT_IN_CI);
         for (String name : List.of("org.opentest4j.TestAbortedException", "org.junit.AssumptionViolatedException", "org.testng.SkipException")) {
@@ -482,9 +483,10 @@ public final class Judge {
 
         /**
          * Performs longer runs with the preset of a refused run and later seeds, until a run cannot be completed. They
-         * begin and end within FURTHER_FOR seconds, or within FURTHER_MOST seconds while the best refusal states fewer
-         * than CLEAR contradictions; less if the limits of the test are small. Returns the run whose refusal states the
-         * most contradictions, and appends the part of the message that counts the refused runs to {@code refusedOf}.
+         * begin and end within FURTHER_FOR seconds, or within FURTHER_MOST seconds while the best refusal reports fewer
+         * than CLEAR contradictions. Both times are shorter if the test's own time limits are short. Returns the run
+         * whose refusal reports the most contradictions, and appends the part of the message that counts the refused
+         * runs to {@code refusedOf}.
          */
         private Outcome clearest(Outcome first, Shape shape, StringBuilder refusedOf) {
             if (caller.process == null || how.isReplay()) return first;
@@ -537,7 +539,7 @@ public final class Judge {
             return it.threads == first.threads && it.calls == first.calls && it.keys == first.keys ? "" : MADE_HARDER;
         }
 
-        /** Returns the part of the message that names the presets of the earlier runs (all passed). */
+        /** Returns the part of the message that names the presets of the earlier runs, which all passed. */
         private String passedBefore(long seed) {
             StringBuilder names = new StringBuilder();
             for (long it = how.seed; it < seed && it < how.seed + PRESETS.length; it++) {
@@ -701,7 +703,7 @@ public final class Judge {
         }
 
         /**
-         * Returns the calls that have not been saved, ordered by start. Threads can begin and end calls while {@code
+         * Returns the calls that have not been saved, sorted by start. Threads can begin and end calls while {@code
          * rows} runs: a call that begins meanwhile is left out, and a call that ends meanwhile is pending.
          */
         private List<Row> rows() {
@@ -725,8 +727,8 @@ public final class Judge {
 
     /** The threads of a run, and the set that they call. */
     private record Play<S, K>(Area area, Calls<S, K> calls, Shape of, AtomicReference<S> set) {
-        // The maximum number of calls of contains to find out whether a key is in the set at the start or at the end. A
-        // call is repeated while its outcome is unknown.
+        // The maximum number of contains calls made to find out whether a key is in the set at the start or at the end.
+        // A call is repeated while its outcome is unknown.
         private static final int MOST_ASKED = 100;
 
         void all(boolean interrupts) {
@@ -952,7 +954,7 @@ public final class Judge {
         /**
          * Waits until the run has ended. Returns true after {@code most} nanoseconds, or if the run hangs, that is, if
          * no call begins or ends for too long. The time between two polls counts as at most five milliseconds, so that
-         * a run without a processor does not count as hung.
+         * a run that gets no processor time does not count as hung.
          */
         private boolean isHung(long most) {
             long began = System.nanoTime(), last = began, waited = 0;
@@ -1072,7 +1074,7 @@ public final class Judge {
 
         boolean isFailed() { return said != null; }
 
-        /** Returns how many contradictions the judge's output states, or 0 if the output states no number. */
+        /** Returns the number of contradictions in the judge's output, or 0 if the output contains no number. */
         long contradictions() {
             Matcher found = CONTRADICTIONS.matcher(said);
             return found.find() ? Long.parseLong(found.group(1)) : 0;

@@ -44,7 +44,7 @@ __tracebackhide__ = True  # (pytest then shows only the line of the test)
 
 GOING, ENDED, UNMADE = range(3)
 MOST_SHOWN = 16  # the maximum number of pending calls in a message
-# The maximum number of calls of `contains` to find out whether a key is in the set at the start or at the end. A call
+# The maximum number of `contains` calls made to find out whether a key is in the set at the start or at the end. A call
 # is repeated while its outcome is unknown.
 MOST_ASKED = 100
 WORDS = ADD, REMOVE, CONTAINS = "add", "remove", "contains"
@@ -128,8 +128,8 @@ NUMBER = "the variable %s is %s, but must be a number from %s to %s"
 class Verdict:
     """The result of a successful test: some order explains each run. `overlapped` is the number of calls that
     overlapped a change of their key, as counted by the judge. `judge` is the judge's name, and whether the judge states
-    that it is proved. `fewer_runs` is the part of the text about runs that were not made because of the argument `within`;
-    it is empty if all runs were made. str() formats the result.
+    that it is proved. `fewer_runs` is the part of the text about runs that were not performed because of the argument
+    `within`; it is empty if all runs were performed. str() formats the result.
     """
 
     calls: int
@@ -167,8 +167,8 @@ class TooFew(AssertionError):
 
 
 class NoVerdict(Exception):
-    """Raised if nothing is known about the set: an option is out of range, no set could be created, the set lacks a
-    call, or no judge was found.
+    """Raised if nothing is known about the set: an option is out of range, no set could be created, the set lacks an
+    operation, or no judge was found.
     """
 
 
@@ -204,8 +204,8 @@ class Options(collections.namedtuple("Options", "threads calls keys key pauses r
         return bool(os.environ.get("LISTSET_SEED")) or self.seed != 1 and not os.environ.get("LISTSET_SECONDS")
 
     def fewer_runs(self, made: int) -> str:
-        """Returns the part of the message about runs that are not made because the time is over. Returns an empty string
-        if LISTSET_SECONDS is set (then no number of runs is planned).
+        """Returns the part of the message about runs that are not performed because time has run out. Returns an empty
+        string if LISTSET_SECONDS is set (the number of runs is then not fixed).
         """
         return "" if os.environ.get("LISTSET_SECONDS") else FEWER_RUNS % (made, self.runs, self.within)
 
@@ -367,9 +367,9 @@ class Tester:
 
     def clearest(self, first: Outcome) -> tuple[Outcome, str]:
         """Performs longer runs with the preset of a refused run and later seeds, until a run cannot be completed. They
-        begin and end within FURTHER_FOR seconds, or within FURTHER_MOST seconds while the best refusal states fewer than
-        CLEAR contradictions; less if the limits of the test are small. Returns the run whose refusal states the most
-        contradictions, and the part of the message that counts the refused runs.
+        begin and end within FURTHER_FOR seconds, or within FURTHER_MOST seconds while the best refusal reports fewer
+        than CLEAR contradictions. Both times are shorter if the test's own time limits are short. Returns the run whose
+        refusal reports the most contradictions, and the part of the message that counts the refused runs.
         """
         if self.how.is_replay() or not self.how.has_own_process():
             return first, ""
@@ -406,7 +406,7 @@ class Tester:
         return FAILED_RUN % (said, its.seed, its.shape.name, its.shape.threads, notes, its.file, self.alone(its.file, key), self.by)
 
     def passed_before(self, seed: int) -> str:
-        """Returns the part of the message that names the presets of the earlier runs (all passed)."""
+        """Returns the part of the message that names the presets of the earlier runs, which all passed."""
         first = self.how.seed
         names = [self.how.shape_of(it).name for it in range(first, min(seed, first + len(PRESETS)))]
         return PASSED_BEFORE % ", ".join(names) if names else ""
@@ -474,7 +474,7 @@ def longer(it: Shape) -> Shape:
 
 
 def contradictions_in(refused: str) -> int:
-    """Returns how many contradictions a refusal states, or 0 if it states no number."""
+    """Returns the number of contradictions in a refusal, or 0 if the refusal contains no number."""
     found = CONTRADICTIONS.search(refused)
     return int(found[1]) if found else 0
 
@@ -578,8 +578,8 @@ class Run:
 
     def comes_to_end(self, is_done):
         """Waits until `is_done` returns true. Returns False at the time `until`, or if no call begins or ends for
-        `seconds` seconds. A wait counts as at most twice its length, so that a run without a processor does not count
-        as hung.
+        `seconds` seconds. A wait counts as at most twice its length, so that a run that gets no processor time does not
+        count as hung.
         """
         seen, last, wait, waited = None, time.monotonic(), 0.0005, 0.0
         while not is_done():
@@ -593,7 +593,7 @@ class Run:
         return True
 
     def rows(self):
-        """Returns the calls that have not been saved, ordered by start."""
+        """Returns the calls that have not been saved, sorted by start."""
         (_, last), found = self.saved, self.SLOT.iter_unpack(self.slots[self.at_slots :])
         return sorted(Call(begin, 0 if reply == UNKNOWN else end, thread, WORDS[word], key * self.shape.times, reply)
                       for begin, end, thread, key, word, reply in found if begin > last)
@@ -782,9 +782,7 @@ def pausing(pauses, draw, before):
 
 
 class Judge:
-    """A judge: the library or a program. str() returns the judge's name, and whether the judge states that it is
-    proved.
-    """
+    """A judge: the library or a program. str() returns the judge's name and its statement about its proof."""
 
     def __init__(self):
         try:

@@ -1,6 +1,6 @@
-// Shows the bug of libcds-2.3.3.md without any judge. One thread inserts and erases key 0. The other thread erases key
-// 0, gets the reply that the key is absent, and then finds the key, although no insert runs in between. Ends when this
-// happens, or after 60 seconds:
+// Reproduces the bug described in libcds-2.3.3.md without a judge. One thread inserts and erases key 0. The other
+// thread erases key 0, gets the reply that the key is absent, and then finds the key, although no insert runs in
+// between. Ends when this happens, or after 60 seconds:
 //     g++ -O2 -std=c++17 -pthread libcds-2.3.3.cpp -lcds -o bug && ./bug
 #include <atomic>
 #include <cds/container/skip_list_set_hp.h>

@@ -1,4 +1,4 @@
-// Runs a number of tests of a published set, and prints the number of tests that refused the set.
+// Tests a published set several times, and prints how many tests refused the set.
 #include "../cpp/listset_judge.hpp"
 #include <iostream>
 

@@ -57,8 +57,8 @@ final class Sets {
             return found;
         }
 
-        /** Makes a call. With "not known" or "again", loses one reply in fifty. With "not known" the outcome of the
-         * call is then unknown, with "again" the call is repeated. */
+        /** Makes a call. With "not known" or "again", loses one reply in fifty. With "not known", the outcome of the
+         * call is then unknown; with "again", the call is repeated. */
         private boolean called(BooleanSupplier call) {
             boolean reply = call.getAsBoolean();
             if (!is.equals("not known") && !is.equals("again") || calls.incrementAndGet() % 50 > 0) return reply;

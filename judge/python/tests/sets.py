@@ -31,8 +31,8 @@ class Right:
 
 
 class Named(Right):
-    """A set that is correct except for the bug that is its name. `E later` stands for the bug E if the file `judged`
-    exists, otherwise for `finds all`.
+    """A set that is correct except for the bug that its name describes. `E later` stands for the bug E if the file
+    `judged` exists, otherwise for `finds all`.
     """
 
     def __init__(self, name):
@@ -69,8 +69,8 @@ class Named(Right):
         return key % 64 if self.name == "collides" else key
 
     def called(self, call, key):
-        """Makes a call. With "not known" or "again", loses one reply in fifty. With "not known" the outcome of the call
-        is then unknown, with "again" the call is repeated.
+        """Makes a call. With "not known" or "again", loses one reply in fifty. With "not known", the outcome of the
+        call is then unknown; with "again", the call is repeated.
         """
         reply, is_lossy = call(self.place(key)), self.name in ("not known", "again")
         self.calls += is_lossy

@@ -136,7 +136,7 @@ impl Area {
         self.at(it).fetch_add(1, SeqCst) + 1
     }
 
-    /// Replaces the number at `it` by `to` if it is `from`. Otherwise returns `false`.
+    /// Replaces the number at `it` with `to` if the number is `from`. Otherwise returns `false`.
     pub(crate) fn replace(&self, it: At, from: u32, to: u32) -> bool {
         self.at(it).compare_exchange(from, to, SeqCst, SeqCst).is_ok()
     }
@@ -183,7 +183,7 @@ impl Area {
         std::array::from_fn(|it| self.memory[first + it].load(SeqCst))
     }
 
-    /// Returns the lines of the calls that have not been saved, ordered by start, and the pending calls. Threads can
+    /// Returns the lines of the calls that have not been saved, sorted by start, and the pending calls. Threads can
     /// begin and end calls while `lines` runs: a call that begins meanwhile is left out, and a call that ends meanwhile
     /// is pending.
     pub fn lines(&self) -> (String, Vec<Row>) {
@@ -246,7 +246,7 @@ impl Area {
 
     /// Waits until the run is over, its process has ended, no call has begun or ended for `seconds` seconds, or the
     /// time `until` has passed. Returns the error, if any. The time between two polls counts as at most five
-    /// milliseconds, so that a run without a processor does not count as hung.
+    /// milliseconds, so that a run that gets no processor time does not count as hung.
     fn end(&self, until: Option<Instant>, ended: &dyn Fn() -> Option<String>) -> Option<String> {
         let (mut seen, mut last, mut waited) = (self.get(At::Tickets), Instant::now(), Duration::ZERO);
         while self.get(At::Phase) < OVER {
@@ -335,8 +335,8 @@ impl Area {
     }
 }
 
-/// The maximum number of calls of `contains` to find out whether a key is in the set at the start or at the end. A call
-/// is repeated while its outcome is unknown.
+/// The maximum number of `contains` calls made to find out whether a key is in the set at the start or at the end. A
+/// call is repeated while its outcome is unknown.
 const MOST_ASKED: u32 = 100;
 
 /// The calls to one set of a run.

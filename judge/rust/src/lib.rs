@@ -65,8 +65,8 @@ pub struct Options {
     pub seconds: u32,
     /// The time limit for the test in seconds: 1 to 604,800. No run starts after the limit.
     pub within: u32,
-    /// The least percentage of calls that must overlap a call that adds or removes the same key. If fewer do, the test
-    /// fails with `TooFew`.
+    /// The minimum percentage of calls that must overlap a call that adds or removes the same key. If fewer do, the
+    /// test fails with `TooFew`.
     pub at_least: u32,
     /// The relative frequencies of `add`, `remove` and `contains`.
     pub shares: [u32; 3],
@@ -175,7 +175,7 @@ impl Options {
         it
     }
 
-    /// Returns the part of the message that names the presets of the earlier runs (all passed).
+    /// Returns the part of the message that names the presets of the earlier runs, which all passed.
     fn passed_before(&self, seed: u64) -> String {
         let earlier = (u64::from(self.seed)..seed).take(PRESETS.len());
         let names: Vec<&str> = earlier.map(|it| self.shape_of(it).name).collect();
@@ -216,8 +216,8 @@ impl Options {
         is_set("LISTSET_SEED") || self.seed != Options::default().seed && !is_set("LISTSET_SECONDS")
     }
 
-    /// Returns the part of the message about runs that were not made because the time was over. Returns an empty string
-    /// if all runs were made, or if `LISTSET_SECONDS` is set (then no number of runs is planned).
+    /// Returns the part of the message about runs that were not performed because time ran out. Returns an empty string
+    /// if all runs were performed, or if `LISTSET_SECONDS` is set (the number of runs is then not fixed).
     fn fewer_runs(&self, made: u64) -> String {
         if made == u64::from(self.runs) || is_set("LISTSET_SECONDS") {
             String::new()
@@ -252,8 +252,8 @@ pub struct Verdict {
     pub overlapped: u64,
     /// The name of the judge, and whether the judge states that it is proved.
     pub judge: String,
-    /// The part of the message about runs that were not made because of the time limit `within`. Empty if all runs were
-    /// made.
+    /// The part of the message about runs that were not performed because of the time limit `within`. Empty if all runs
+    /// were performed.
     pub fewer_runs: String,
 }
 
@@ -345,7 +345,7 @@ impl Reply for Option<bool> {
     }
 }
 
-/// Judges a type that has `new()`, `add(&self, u32) -> bool`, `remove` and `contains`. With the argument `make:
+/// Judges a set type that has `new()`, `add(&self, u32) -> bool`, `remove` and `contains`. With the argument `make:
 /// FUNCTION`, `FUNCTION` is called instead of `new`. The last argument can be `Options`.
 #[macro_export]
 macro_rules! judge {
@@ -525,10 +525,10 @@ impl<'a, S: Sync> Tester<'a, S> {
         recording.judged(self.source, &self.runner.area, trouble)
     }
 
-    /// Performs longer runs with the preset of a refused run and later seeds, until a run cannot be completed. They begin
-    /// and end within `FURTHER_FOR` seconds, or within `FURTHER_MOST` seconds while the best refusal states fewer than
-    /// `CLEAR` contradictions; less if the limits of the test are small. Returns the run whose refusal states the most
-    /// contradictions, and the part of the message that counts the refused runs.
+    /// Performs longer runs with the preset of a refused run and later seeds, until a run cannot be completed. They
+    /// begin and end within `FURTHER_FOR` seconds, or within `FURTHER_MOST` seconds while the best refusal reports
+    /// fewer than `CLEAR` contradictions. Both times are shorter if the test's own time limits are short. Returns the
+    /// run whose refusal reports the most contradictions, and the part of the message that counts the refused runs.
     fn clearest(&self, first: Fault<'a>, seed: u64, shape: Shape) -> (Fault<'a>, String) {
         if self.options.is_replay() || !self.runner.has_own_process() {
             return (first, String::new());

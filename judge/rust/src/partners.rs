@@ -1,5 +1,5 @@
-//! Lets two threads begin calls at the same time, for races that last only nanoseconds. On a busy machine, threads are
-//! seldom on two processors at once. Therefore a thread polls for a partner before a call, and both threads continue
+//! Lets two threads begin calls at the same time, to catch races that last only nanoseconds. On a busy machine, two
+//! threads seldom run at the same time. Therefore a thread polls for a partner before a call, and both threads continue
 //! when the partner polls too. Half of the calls then use two neighboring keys. The two keys change after every `MEET`
 //! calls. Only runs with an odd seed have partners, and only if `pauses` is not 0.
 use std::sync::atomic::{AtomicU32, Ordering};

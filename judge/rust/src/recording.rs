@@ -36,7 +36,7 @@ pub struct Fault<'a> {
 }
 
 impl Fault<'_> {
-    /// Returns how many contradictions the judge's output states, or 0 if the output states no number.
+    /// Returns the number of contradictions in the judge's output, or 0 if the output contains no number.
     pub fn contradictions(&self) -> u64 {
         let words: Vec<&str> = self.said.split(' ').collect();
         let number = words.windows(3).find_map(|it| match it {

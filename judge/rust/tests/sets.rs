@@ -75,8 +75,8 @@ impl Set {
         call(&part, &key)
     }
 
-    /// Makes a call. With "not known" or "again", loses one reply in fifty. With "not known" the outcome of the call is
-    /// then unknown, with "again" the call is repeated.
+    /// Makes a call. With "not known" or "again", loses one reply in fifty. With "not known", the outcome of the call
+    /// is then unknown; with "again", the call is repeated.
     fn called(&self, call: fn(&Right<u32>, &u32) -> bool, key: u32) -> Option<bool> {
         let reply = self.call(call, key);
         let is_lost = ["not known", "again"].contains(&&*self.is) && self.calls.fetch_add(1, SeqCst) % 50 == 49;
