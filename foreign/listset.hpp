@@ -434,7 +434,7 @@ class renewed_set {
   added add_renewed(place &mine, uint32_t key) {
     all_taken all(*this, mine);
     if (now == stage::open) {
-      const added answer = add_from(mine, key); // Before this call, another thread can have renewed the set.
+      const added answer = add_from(mine, key); // Before this call, another thread could have renewed the set.
       if (answer != added::is_full || keys_now() > MOST_OPENING || quota == 0) return answer;
     }
     renew_taken();

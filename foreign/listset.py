@@ -734,7 +734,7 @@ class RenewedSet:
         """
         with self._all_taken(place):
             if self._stage == "open":
-                added = place.try_add(key)  # Before this call, another thread can have renewed the set.
+                added = place.try_add(key)  # Before this call, another thread could have renewed the set.
                 if added is not Added.FULL or self._keys_now() > MOST_OPENING or self._quota == 0:
                     return added
             self._renew_taken()

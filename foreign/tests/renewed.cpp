@@ -59,7 +59,7 @@ static std::vector<recorded> calls_of(renewed_set &set, uint32_t thread, size_t 
   return calls;
 }
 
-// Writes the calls of all threads, ordered by start, and the keys.
+// Writes the calls of all threads, sorted by start, and the keys.
 static void write(FILE *file, const std::vector<std::vector<recorded>> &calls, const std::vector<uint32_t> &keys) {
   std::fprintf(file, "listset-calls 1\n");
   for (uint32_t key : OPENING) std::fprintf(file, "opening %u\n", key);

@@ -47,8 +47,8 @@ static void call_shared(task *it, uint32_t kind, uint32_t key) {
   wrong += !may || (reply == LISTSET_FULL && it->adds < QUOTA);
 }
 
-// Calls an operation with a key that only the thread `it` uses. The own keys of thread t are the OWN keys from SHARED +
-// t * OWN on; `k` is the key's index among the own keys.
+// Calls an operation with a key that only the thread `it` uses. Thread t's own keys are the OWN keys that start at
+// SHARED + t * OWN; `k` is the key's index among the own keys.
 static void call_own(task *it, uint32_t kind, uint32_t k) {
   uint32_t base = SHARED + it->number * OWN, at = 0, next = k;
   uint8_t want;

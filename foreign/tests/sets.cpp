@@ -55,9 +55,9 @@ static bool is_right(list kind) {
   return full == 0 && seats[0].close() == due;
 }
 
-// Returns whether calls of four threads on a `shared` set with three seats (one for each call at a time) reply
-// correctly and leave the right keys. Each thread adds a quarter of the keys below 4,000 and removes the multiples of
-// three among them.
+// Calls a `shared` set with three seats (a seat serves one call at a time) from four threads. Each thread adds a
+// quarter of the keys below 4,000 and removes the multiples of three among them. Returns whether all replies are right
+// and the right keys remain.
 static bool is_right_shared(list kind) {
   listset::shared set(kind, 3, 2000);
   std::atomic<int> found{0};

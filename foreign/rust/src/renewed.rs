@@ -270,7 +270,7 @@ impl RenewedSet {
     fn add_renewed(&self, place: usize, key: u32) -> Result<Added, Fault> {
         let mut all = self.all(place)?;
         if all.stage() == Stage::Open {
-            let added = all.mine().add(key); // Before this call, another thread can have renewed the set.
+            let added = all.mine().add(key); // Before this call, another thread could have renewed the set.
             if added != Added::Full || all.keys_now() > MOST_OPENING || self.quota == 0 {
                 return Ok(added);
             }
