@@ -23,7 +23,7 @@ const HELP = require("./help.json");
 const ORIGIN = `commit ${"0".repeat(40)}\nproof unknown\n`; // the lines of a program without a known commit and proof
 
 // The commands without a function `listset_COMMAND` of the engine. Such a command uses two other functions (without and with its flag), a function that reads
-// the input in pieces, a function of this script, or only a built program.
+// the input in pieces, or a function of this script, or it needs a built program.
 const ANSWERS = {
   judge: { isJudge: true },
   stats: { inPieces: "listset_stats_from" },
@@ -168,7 +168,7 @@ function takeFlag(found, word, behind) {
   found.isOn = true;
 }
 
-// Returns the value of an option and removes the value from `words`. As in clap, an error in the next argument precedes a missing value.
+// Returns the value of an option and removes the value from `words`. As in clap, an error in the next argument is reported before a missing value.
 function textBehind(shown, words, found) {
   const [word = "--"] = words;
   if (isValue(word)) return words.shift();
@@ -459,8 +459,8 @@ function isOutput(file) {
   return one.ino === other.ino && one.dev === other.dev;
 }
 
-// Returns a hint for an error that `explain` does not find in the file. With --lacks, the calls of a broken list can execute steps
-// that no call of the whole list executes.
+// Returns a hint for an error that `explain` does not find in the file. With --lacks, the calls of a broken list can execute steps that no call of the intact
+// list executes.
 function otherHint(lacks, file, cause) {
   if (lacks === undefined) return `listset faults ${cause} explains this error`;
   return `On the list that lacks ${lacks}, calls can take other steps than on the whole list. For each step above this line: listset trace --lacks ${lacks} ${quoted(file)}; for the cause: listset faults ${cause}`;
@@ -469,7 +469,7 @@ function otherHint(lacks, file, cause) {
 // The names of all broken lists, each followed by the kind of list in parentheses.
 const BROKEN_LISTS = /^ *--lacks <NAME> [^:]*: (.*)$/m.exec(HELP.replay)?.[1] ?? "";
 
-// Returns a hint for an option `--lacks` whose broken list is of another kind than the list in the schedule.
+// Returns a hint for an option `--lacks` whose broken list is of a different kind than the list in the schedule.
 function lacksHint(engine, lacks, file) {
   const all = [...BROKEN_LISTS.matchAll(/([\w-]+) \(([\w-]+)\)/g)].map(([, name, list]) => ({ name, list }));
   const of = all.find((it) => it.name === lacks)?.list;

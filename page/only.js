@@ -1,7 +1,7 @@
 // `judge --only KEY`: prints the recording of one key's calls. If no order explains them, prints the few calls that show why.
 "use strict";
 
-const ENOUGH = 16; // the number of last calls that are searched first for the beginning of a part
+const ENOUGH = 16; // the number of last calls in which the search for the beginning of a part starts
 const MOST_TRIED = 64; // the maximum number of calls that are tried as the first call of a part
 
 // A part of a key's calls: those with the indices from `first` to `behind - 1`. `opening` and `left` state whether the set has the key before and after

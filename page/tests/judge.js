@@ -31,7 +31,7 @@ function checkLevels(ask, name, report) {
     check(`${name}, ${level}: its report is the engine's`, reportOfAnswer(own) === report);
     check(`${name}, ${level}: and back to its word`, wordOfAnswer(own) === places.join());
     const turned = answerOfWord(exercise, [...places].reverse().join());
-    const isOk = ask("listset_check", reportOfAnswer(turned)).text.trim() === "ok"; // an order can stay right: for example, two adds of different keys can be swapped
+    const isOk = ask("listset_check", reportOfAnswer(turned)).text.trim() === "ok"; // a reversed order can still be right: for example, two adds of different keys can be swapped
     const said = verdictOn(ask, turned);
     check(`${name}, ${level}: turned round: ${said.says}`, said.isRight === isOk && !said.says.startsWith("refused"));
     const isAsked = exercise.calls.some((call) => call.ended !== null);

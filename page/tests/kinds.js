@@ -155,7 +155,7 @@ module.exports = ({ draw, pick, replyOf, keysAfter, paddingAfter }) => {
       const { calls, set, moment } = simulated({ keys: [5], threads: 1 + draw(3), count: 1 + draw(11), opening, faults: someFaults(), rate: 30, pending: draw(4) === 0 ? 15 : 0, operations, gap: short, start: 0, thread0: 0 });
       return recordingOf(calls, opening, leftWith(set), draw(2) === 0 ? paddingAfter(moment).map((call) => ({ ...call, thread: 50 })) : []);
     },
-    function blocks() { // many keys, each with a short run of its own; enough calls and answers for a guess
+    function blocks() { // many keys, each with a short run of its own; enough calls and answers for a guess about the cause
       const many = 5 + draw(8);
       const faults = someFaults();
       const [rate, sequential, alike, threads] = [20 + draw(60), draw(2) === 0, draw(2) === 0, 1 + draw(3)];
@@ -185,7 +185,7 @@ module.exports = ({ draw, pick, replyOf, keysAfter, paddingAfter }) => {
       const { calls, set } = simulated({ keys: [5, 7], threads: 3, count: 3 + draw(7), opening, faults: someFaults(), rate: 30, pending: draw(4) === 0 ? 10 : 0, operations: ["add", "remove", "contains"], gap: () => pick([1, 2, 99, 100, 101, 150, 5000, 1e9, 2e9, 1e12]), start: pick([0, 1e15, 3]), thread0: 0 });
       return recordingOf(calls, opening, leftWith(set));
     },
-    function wrong() { // a set with up to three bugs, of several keys or all, and threads with long numbers
+    function wrong() { // a set with up to three bugs, on all keys or on one; some threads have long numbers
       const [many, all, count] = [pick([1, 2, 3, 5, 8]), pick([1, 2, 3, 4, 6]), 8 + draw(12)];
       const keys = [1, 2, 5, 6, 9, 20, 21, 30].slice(0, many);
       const bugs = new Map([1, 2, 3].slice(draw(3)).map(() => [pick(BUGS), pick([1, 3, 8, 20])]));
@@ -295,7 +295,7 @@ module.exports = ({ draw, pick, replyOf, keysAfter, paddingAfter }) => {
         return call.operation === "add" && isOutlasted && draw(10) > 0 ? "false" : set.take(call);
       }, 2, 1);
     },
-    function swapped() { // two calls of two keys return each other's reply
+    function swapped() { // two calls on different keys return each other's reply
       const it = madeBy([1, 2, 5], 20, ({ call, set }) => set.take(call));
       const isPair = (one, two) => one.key !== two.key && one.operation !== two.operation && one.thread !== two.thread && one.reply !== two.reply && one.begun < two.ended && two.begun < one.ended;
       const pairs = it.calls.flatMap((one) => it.calls.filter((two) => one.begun < two.begun && isPair(one, two)).map((two) => [one, two]));

@@ -6,7 +6,7 @@ const fs = require("fs");
 const path = require("path");
 
 const LAST = 2 ** 32 - 2 ** 24;
-const HEAD = 16; // the bytes before a block, out of its 2^k
+const HEAD = 16; // the bytes of a block of 2^k bytes that precede the allocation
 const MANY = 5000; // more blocks than fit in the memory
 
 const built = new WebAssembly.Module(fs.readFileSync(process.argv[2] ?? path.join(__dirname, "..", "listset.wasm")));

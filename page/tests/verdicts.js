@@ -16,8 +16,8 @@ const [verdictOnCalls, verdictOnLacking, verdictOn] = ["verdictOnCalls", "verdic
 const [OwnAnswer, exerciseOf, readReport, LACKING] = ["OwnAnswer", "exerciseOf", "readReport", "LACKING"].map(inPage);
 const LAST = Infinity;
 const LONG = ["inside", "growing", "unlinked", "outlasted", "ownCopies", "broken", "borrowed", "manyFirsts"]; // kinds with long recordings
-const MOST_LONG = 60; // the most cases of a kind with long recordings: a case takes up to a second, so 4,000 of each kind would take hours
-const OF_FACTS = ["inside", "unlinked", "outlasted", "ownCopies", "broken", "borrowed", "manyFirsts"]; // only the facts of these kinds are checked
+const MOST_LONG = 60; // the maximum number of cases for a kind with long recordings: a case takes up to a second, so 4,000 of each kind would take hours
+const OF_FACTS = ["inside", "unlinked", "outlasted", "ownCopies", "broken", "borrowed", "manyFirsts"]; // for these kinds, only the facts in a diagnosis are checked
 
 // ---- Random numbers that depend only on the seed.
 
@@ -193,8 +193,8 @@ function isSecond(it, said, text) {
   return said.second !== undefined && needs(said.second) === (need === "present") && said.isPresent !== (need === "present");
 }
 
-// Returns whether no call of `operation` could have changed the key between the moments `since` and `until`. (A call that can have changed a key returned true
-// or is pending.)
+// Returns whether no call of `operation` could have changed the key between the moments `since` and `until`. (A call that could have changed a key returned
+// true or is pending.)
 function isNoneBetween(it, key, operation, since, until) {
   return !it.calls.some((call) => call.key === key && call.operation === operation && mayChange(call) && call.begun < until && since < (call.ended ?? LAST));
 }
@@ -377,8 +377,8 @@ function hasOrder(calls, key, isThere, left = null) {
 const leftOf = (it, key) => (it.keys === null ? null : it.keys.includes(key));
 const hasOrderOf = (it, key) => hasOrder(ofKey(it, key), key, opens(it, key), leftOf(it, key));
 
-// Returns the calls as far as they are known at a moment. A change that ends after the moment becomes a pending call, since it can have taken effect. Any other
-// call that ends after the moment is left out.
+// Returns the calls as far as they are known at a moment. A change that ends after the moment becomes a pending call, since it could have taken effect. Any
+// other call that ends after the moment is left out.
 const knownBy = (calls, moment) => calls.flatMap((call) => {
   if (call.begun > moment) return [];
   if (call.ended !== null && call.ended <= moment) return [call];
@@ -420,7 +420,7 @@ function* around(it, key, call) {
   }
 }
 
-// Returns whether an earlier change contradicts `call`: the change leaves the opposite of the state that `call` finds. No change back can have taken effect
+// Returns whether an earlier change contradicts `call`: the change leaves the opposite of the state that `call` finds. No change back could have taken effect
 // between the start of the earlier change and the end of `call`.
 function isKnownOtherwise(it, call) {
   const wanted = needs(call) ? "add" : "remove";
@@ -545,7 +545,7 @@ const isTwice = (it, call, operation) => call.operation === operation && call.re
 const isFoundAgain = (it) => it.calls.some((call) => call.ended !== null && !isChange(call) && needsKey(call)
   && ofKey(it, call.key).some((first) => first.operation === "remove" && first.reply === "true" && first.ended < call.begun && isNoneBetween(it, call.key, "add", first.begun, call.ended)));
 
-// The words of a short list for the kinds of contradictions that it names otherwise.
+// Maps kinds of contradictions to the different words that the short list uses for them.
 const IN_LIST = { "two adds true": ["added twice"], "two removes true": ["removed twice"], "one wrong answer": ["missed", "found, though absent,"], "none of these": ["inconsistent"] };
 const TALLIED = ["lost", "came back", "two adds true", "two removes true", "one wrong answer", "none of these"];
 // Maps the phrases in the sentence that counts contradictions to the kinds of contradictions.
@@ -557,7 +557,7 @@ const KINDS = {
 const isOnlyWrong = (it, answer) => [...around(it, answer.key, answer)].some(({ calls, isThere, left }) =>
   calls.includes(answer) && !hasOrder(calls, answer.key, isThere, left) && hasOrder(calls.filter((one) => one !== answer), answer.key, isThere, left));
 
-// Returns whether a list of wrong answers such as `add returned false: 2, contains returned true: 1` is true: the recording contains at least so many of each
+// Returns whether a list of wrong answers such as `add returned false: 2, contains returned true: 1` is true: the recording contains at least that many of each
 // kind, and the numbers add up to `all`.
 function areWrongAnswers(it, all, told) {
   const kinds = told.split(", ").map((one) => /^(add|remove|contains) returned (true|false): (\d+)$/.exec(one));
@@ -566,8 +566,8 @@ function areWrongAnswers(it, all, told) {
   return kinds.every((one) => one !== null && areSo(one)) && kinds.reduce((sum, [, , , count]) => sum + Number(count), 0) === all;
 }
 
-// Returns, for each completed change by an operation, whether the next call on the key sees the change. Leaves out each change that an opposite change can have
-// undone.
+// Returns, for each completed change by an operation, whether the next call on the key sees the change. Leaves out each change that an opposite change could
+// have undone.
 function nextCallsSee(calls, operation) {
   const state = operation === "add";
   const isOpposite = (call) => isChange(call) && (call.operation === "add") !== state;
@@ -598,10 +598,10 @@ function isListed(it, told) {
   return until === undefined ? !hasOrderOf(it, Number(key)) : !hasOrder(knownBy(calls, last), Number(key), opens(it, Number(key)));
 }
 
-// Decides whether a sentence about changes that were undone or reported twice is true: `some` of `all` such times, the change has a property, and `usual` percent of
-// all completed changes (`checked` and `sampled` are false), or of a sample, have the property. The property is that another add or remove of the same key
-// overlaps the change (`own`), that a change of another key overlaps it (`others`), or that it began while the first calls on its key ran (`first`: the calls that
-// began before any add or remove of the key had ended).
+// Decides whether a sentence about changes that were undone or reported twice is true. The sentence states that the change had a property in `some` of `all`
+// such cases, and that `usual` percent of all completed changes, or of a sample, have the property. `own`: another add or remove of the same key overlaps the
+// change. `others`: a change of another key overlaps the change. `first`: the change began while the first calls on its key ran, that is, the calls that began
+// before any add or remove of the key had ended.
 function isOfUndone(it, { tally }, what, [some, all, usual], isChecked, isSampled) {
   const calls = [...it.calls, ...it.padding].sort((one, other) => one.begun - other.begun);
   const changes = calls.filter((call) => isChange(call) && call.ended !== null);
@@ -611,7 +611,7 @@ function isOfUndone(it, { tally }, what, [some, all, usual], isChecked, isSample
     return [key, Math.max(0, ...itsCalls.filter((call) => call.begun <= first && call.ended !== null).map(({ ended }) => ended))];
   }));
   const isMet = { own: isSame, others: isBeside, first: (_, call) => call.begun <= firstEnds.get(call.key) }[what];
-  // The percentage of the changes or, of many calls, of a sample of the changes.
+  // The changes for the percentage: all changes or, if there are many calls, a sample.
   const sample = [];
   let next = 0;
   for (const [at, call] of calls.entries()) {
@@ -722,7 +722,7 @@ const OF_WHY = [
     const operations = both === undefined ? [operation] : ["add", "remove"];
     const isSaid = (call) => ["add", "remove"].every((one) => runsDuring(it, call, (other) => other.key === call.key && other.operation === one) === operations.includes(one));
     const isDrawn = (answer) => shown.some(({ call }) => call !== answer && call.operation !== "contains" && inTime(call, answer.begun, answer.ended));
-    const isWhereSaid = (answer) => shown.length === 0 || isDrawn(answer) === (hidden === undefined); // (of a long recording no picture is checked)
+    const isWhereSaid = (answer) => shown.length === 0 || isDrawn(answer) === (hidden === undefined); // (the picture of a long recording is not checked)
     return told.wrong.some((answer) => isSaid(answer) && isWhereSaid(answer));
   }],
   [/^fact a change of another key ran during it, and no other add or remove of its own key$/, (it, found, { told }) =>
@@ -1006,7 +1006,7 @@ function isLost({ calls, opening, keys }, key) {
   return made("add") === 1 && made("remove") === 0 && !opening.includes(key) && !keys.includes(key);
 }
 
-// Returns whether `first` and `second` contradict each other: no call can have changed the key between them. Both describe calls, but `first` can also be the
+// Returns whether `first` and `second` contradict each other: no call could have changed the key between them. Both describe calls, but `first` can also be the
 // key's opening state (null), and `second` the key's final state.
 function isToldSo(it, key, first, second) {
   const looks = it.calls.map((call) => ({ ...asLook(call), told: `${nameIn(call)} ${call.ended === null ? "is pending" : `returns ${call.reply}`}` }));

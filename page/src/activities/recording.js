@@ -7,7 +7,7 @@ import { escaped, letterOf, tag } from "../run/markup.js";
 import { diagnosisIn, RECORDED_EXAMPLE, recordedInWords, verdictOnCalls, withNewline } from "../run/recorded.js";
 import { isNarrow } from "../story/figure_parts.js";
 
-const WIDEST = 800; // pixels of a drawing, before it is made larger
+const WIDEST = 800; // the maximum width of a drawing in pixels, before it is enlarged
 const recorded = { text: "" }; // the text of the box, kept while another activity is shown
 const recordedPart = (name) => byId(`recorded-${name}`);
 

@@ -9,7 +9,7 @@ import { drawLane, frameOf, HISTORY_LEFT, layLabels, ROW_HEIGHT, signOf, SMALL_G
 const JUDGE_RIGHT = 20;
 const JUDGE_BAR = 30;
 const JUDGE_BELOW = 8; // pixels between a bar and the labels of the next thread's bars
-const MOST_ROWS = 3; // rows of labels
+const MOST_ROWS = 3; // the maximum number of rows of labels
 const SLOT_WIDTH = 72; // pixels for the label of a call's point
 const leftOf = ({ begun }, { x, step }) => x(begun) - step / 2;
 const rightOf = (call, { x, step, last }) => x(call.ended ?? last) + step / 2;

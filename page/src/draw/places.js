@@ -7,10 +7,10 @@ import { NODE_REGISTERS } from "../run/trace.js";
 export const LIST_LOCK = 40; // height of the lock that is drawn above a list with one lock
 const MARGIN = 8;
 const WIDEST = 190; // largest width of a node
-const BESIDE = 18; // distance of two nodes that are not in the chain
-const AROUND = 10; // distance of two nodes in a gap of the chain
+const BESIDE = 18; // distance between two nodes that are not in the chain
+const AROUND = 10; // distance between two nodes in a gap of the chain
 const NARROWEST = 60; // smallest width of a node
-const BESIDE_HANDS = 2; // distance of two hands in a row, so that their edges meet
+const BESIDE_HANDS = 2; // distance between two hands in a row, so that their edges meet
 const MOST_POINTING = 6; // maximum number of threads with hands
 
 // The measures of a drawing, in units. `least` is the smallest number of pixels per unit that keeps labels readable. `key` and `lock` are the heights of a
@@ -22,7 +22,7 @@ const SMALL_HANDS = { height: 24, over: -2, left: 21, letter: 9.8, right: 5 };
 const WIDE = { least: 0.9, key: 56, lock: 32, slot: 100, gap: 0.5, hand: HANDS, kind: "", below: [54, 30, 0, -14] };
 const SMALL = { least: 0.82, key: 44, lock: 28, slot: 62, gap: 0.28, hand: SMALL_HANDS, kind: "small-hands", below: [44, 34] };
 const SLIDE = { ...WIDE, key: 44, lock: 28, slot: 92, gap: 0.35, below: [44, 24, 0, -10] }; // lower nodes, so that a slide has room for larger labels
-const LEAST_OF_ALL = 0.6; // pixels of a unit, if the stage is too low for a form
+const LEAST_OF_ALL = 0.6; // the minimum of pixels per unit in a drawing that must not be cut off
 const LOW = 60; // distance from the upper edge of the chain to the upper edge of the nodes in its gaps
 const formOf = ({ wide, isSlide }) => (wide < 600 ? SMALL : isSlide ? SLIDE : WIDE);
 

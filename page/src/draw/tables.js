@@ -68,12 +68,12 @@ export function drawTable({ trace, state, event, before }) {
   return tag("table", {}, tag("thead", {}, tag("tr", {}, ...heads)), tag("tbody", {}, ...lines));
 }
 
-const KEY_WIDTH = 8; // pixels, of each character of the contents
+const KEY_WIDTH = 8; // pixels for each character of the contents
 
 function drawContent(part, scale) {
   const left = part.from <= scale.first ? HISTORY_LEFT - 6 : scale.x(part.from);
   const end = part.to > scale.last ? scale.edge : scale.x(part.to);
-  const isLast = scale.now < part.to; // the last part that is drawn: the space right of it is free
+  const isLast = scale.now < part.to; // the last part that is drawn: the space to its right is free
   const shown = isLast && scale.now <= scale.last ? Math.max(left, scale.x(Math.max(scale.now, scale.first))) : end;
   const all = `{${part.keys.join(", ")}}`;
   const wide = KEY_WIDTH * scale.grown;

@@ -10,7 +10,7 @@ import { announce, askNow, askSoon, LONG_TEXT, now, say, sayError } from "./now.
 import { OWN_TASK } from "./reducer.js";
 import { openTask } from "./work.js";
 
-const REPLY_WIDTH = 60; // pixels right of a bar, for the reply in the picture of a report
+const REPLY_WIDTH = 60; // pixels to the right of a bar, for the reply in the picture of a report
 
 export function saveText(name, text, type = "text/plain") {
   const link = document.createElement("a");
@@ -46,7 +46,7 @@ export function comparedTrace(given, own) {
   return `This is the proved replayer’s run. The trace in the file differs from event ${event} on.`;
 }
 
-// Opens a file by its first line. A file with an unknown first line counts as a schedule, so that the engine reports the error.
+// Opens a file as the kind of text that its first line names. A file with an unknown first line counts as a schedule, so that the engine reports the error.
 export async function openFile(text, name) {
   sayError("");
   if (text.startsWith("listset-course")) return announce("course", text);

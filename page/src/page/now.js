@@ -1,4 +1,4 @@
-// The current state of the page. Each change of the state is an action of reducer.js; then the whole page is drawn again.
+// The current state of the page. Each change of the state is an action (see reducer.js). After a change, the whole page is drawn again.
 import { readFault, sentenceOn } from "../engine/answers.js";
 import { LEVELS } from "../run/judged.js";
 import { State } from "../run/state.js";
@@ -20,7 +20,7 @@ export function dispatch(type, given) {
   show();
 }
 
-// The listeners: those in `ran` are called after a schedule was run, and those in `recorded` and `course` are called with the text of a file of this kind.
+// Listeners. Those in `ran` are called after a schedule has run; those in `recorded` and `course` are called with the text of an opened recording or course.
 const listeners = { ran: [], recorded: [], course: [] };
 export const on = (what, ...deeds) => listeners[what].push(...deeds);
 

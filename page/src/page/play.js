@@ -47,7 +47,7 @@ export function goToTurn(step) {
 }
 
 // ---- Keyboard shortcuts. The reader can switch off those that are letters or digits.
-export const keysOf = { scene: (event) => event, slide: (by) => by, next: () => {} }; // handlers: of all keys in a scene, of a presenter's keys on a slide, and of N
+export const keysOf = { scene: (event) => event, slide: (by) => by, next: () => {} }; // handlers for all keys in a scene, for a presenter's keys on a slide, and for N
 const WAYS = { PageDown: 1, ArrowRight: 1, ArrowDown: 1, " ": 1, PageUp: -1, ArrowLeft: -1, ArrowUp: -1 };
 const isPress = ({ key, target }) => key === " " && target.matches(":is(button, a, summary):focus-visible"); // Space presses the focused button or link
 

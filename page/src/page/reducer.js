@@ -2,9 +2,9 @@
 // @ts-check
 /**
  * A place is a scene or the bench, the part of the page that runs any schedule. The bench has the activity "watch" or "judge". A scene has the id of its
- * question, level or lesson; `given` has the other parts of its address. The state of a scene has the answer that was pressed (-1 if the page showed the
- * answer), the schedule of its run if the address has one, and the branch that is shown. A run has the text, its trace, and the state after `count`
- * events; `isRun` is true if the trace belongs to the text. A task is the origin of the run: the reader's own text, an example, or a numbered run.
+ * question, level or lesson; `given` has the other parts of its address. The state of a scene contains the answer that was pressed (-1 if the page showed the
+ * answer), the schedule of its run if the address has one, and the branch that is shown. A run has the text, its trace, and the state after `count` events;
+ * `isRun` is true if the trace belongs to the text. A task is the origin of the run: the reader's own text, an example, or a numbered run.
  * @typedef {"lecture" | "embed" | "list" | "history" | null} PageView
  * @typedef {{ activity: string, screen: "stage" | "scene", id: string, given: Record<string, string>, view: PageView, slide: number }} Place
  * @typedef {"" | "task" | "again" | "guess" | "playing" | "moment" | "done"} Stage

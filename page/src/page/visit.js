@@ -25,7 +25,7 @@ export function keepNow() {
   if (visit.isRead) setAddress();
 }
 
-// Updates the address bar. A new task or place gets an entry of its own in the browser's history, a step does not. If the state has no address, the entry
+// Updates the address bar. A new task or place gets an entry of its own in the browser's history; a step does not. If the state has no address, the entry
 // stores the text of the state's run.
 function setAddress() {
   const address = addressHere();
@@ -95,7 +95,7 @@ const ADDRESSES = {
   code: ({ id, given }, { text }) => text || `#${new URLSearchParams({ code: id, ...given })}`,
   compare: (place, { text }) => text || plainAddress(place),
   break: (place, { text }) => withTry(plainAddress(place), text),
-  learn: ({ id }, { text }, { course }) => withTry(`${course === null ? "#" : `${course}&`}learn${id === "" ? "" : `=${id}`}`, text), // without a course: the book's
+  learn: ({ id }, { text }, { course }) => withTry(`${course === null ? "#" : `${course}&`}learn${id === "" ? "" : `=${id}`}`, text), // without a course: a lesson of the built-in course
   assignment: addressOfAssignment,
 };
 

@@ -5,7 +5,7 @@ import { LISTS } from "../../made/rows.js";
 import { scheduleText, versionOf } from "./schedule_text.js";
 import { isTrace, Trace } from "./trace.js";
 
-export const LONGEST_ADDRESS = 30000; // characters; a schedule whose address would be longer has none
+export const LONGEST_ADDRESS = 30000; // characters; a schedule whose address would be longer gets no address
 const SHORT_EVENT = String.raw`(b\d+\.[a-z]+\.\d+|g\d+\.\d+)`;
 const NUMBER = /^\d+$/;
 const KIND = `(${Object.keys(LISTS).join("|")})`;
@@ -115,7 +115,7 @@ export const warningOf = (link) =>
 // ---- Numbered runs: the engine generates a schedule from a number. All readers get the same run for the same number.
 const TRIES = 200;
 const MOST_TRIED_CALLS = 8; // calls of a seed; if it has more, the first generated schedule is used, interesting or not
-const MOST_SEEN = 60; // events; in a longer run, a reader cannot distinguish the events
+const MOST_SEEN = 60; // events; in a longer run, a reader cannot tell the events apart
 
 // Returns the seed of a numbered run that is small enough to judge by eye: five calls of two threads on two keys.
 export const seedOf = (kind, number) => `${kind}.2.5.2.${number}`;

@@ -56,7 +56,7 @@ function isLost({ calls, opening, keys }, key) {
   return count("add") === 1 && count("remove") === 0 && !isThere;
 }
 
-// Describes a call that the judge names as the report describes the call. (The judge treats a `ceiling`, and an `add` that returned `full`, as a `contains`.)
+// Describes a call that the judge names, in the words of the report. (The judge treats a `ceiling`, and an `add` that returned `full`, as a `contains`.)
 function callInWords({ calls }, { thread, begun }) {
   const call = calls.find((one) => one.thread === thread && one.begun === Number(begun));
   return `${nameOfCall(call)} ${call.ended === null ? "is pending" : `returns ${call.reply}`}`;

@@ -58,7 +58,7 @@ export function scheduleOfDraft(ask, text, lacks = null) {
 }
 
 // Returns how many steps a thread of a broken list needs to reach `row`, or to end its call if `row` is undefined. Returns an error if the thread does not get
-// so far within MOST_TRIED steps.
+// that far within MOST_TRIED steps.
 function stepsOfLacking(ask, lacks, lines, thread, row) {
   const { text } = ask("listset_lacking", lacks, `${[...lines, `go ${thread} ${MOST_TRIED}`].join("\n")}\n`, "trace");
   if (!isTrace(text)) return { count: null, fault: text.trim() };

@@ -23,8 +23,8 @@ function lockText(event) {
   return isFailed(event) ? `tries to lock ${name}, but ${holderOf(event.saw)} holds it. It will try again.` : `locks ${name}.`;
 }
 
-// If a call returns in the event, writes its reply, and the event in which it took effect. `hidden` names the parts that a reader who judges the run must not
-// see.
+// If a call returns in the event, describes the call's reply and the event in which the call took effect. `hidden` names the parts to hide from a reader who
+// judges the run.
 function effectText({ trace, event }, hidden) {
   const { call } = event;
   if (event.answer === undefined) return "";

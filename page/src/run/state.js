@@ -6,7 +6,7 @@ const BEGUN = { came: 0, pred: "head", curr: "head", succ: "head", node: "head",
 const AT_REST = { pc: 0, used: 0, call: null, ...BEGUN };
 export const linkTarget = (link) => link.replace("*", "");
 export const keyNumber = (key) => (key === "-inf" ? -1 : key === "+inf" ? Infinity : Number(key));
-const MOST_UNDONE = 20000; // events that can be undone; to go back further, the state is made again from the start
+const MOST_UNDONE = 20000; // events that can be undone; to go back further, the state is rebuilt from the start
 
 export class State {
   constructor(trace) {

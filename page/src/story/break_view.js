@@ -12,7 +12,7 @@ import { runOfText } from "./live_run.js";
 import { backLink, drawHintAndOn, drawLedger, onStage, foot, head, hintAndOn, isOddRun, LACKS_ONE, LIST_WORDS, numberOfKey, optionButtons, pressThread, scene, setScene, takeFreeFigure, showPrompt } from "./scene.js";
 
 const HINTS = 3;
-const LATE = 1000; // milliseconds after the verdict: an earlier click was meant for the thread's button that was at the place of the answers
+const LATE = 1000; // milliseconds after the verdict: an earlier click was meant for the thread's button that the answers have replaced
 const levelOf = ({ id }) => levelOfNumber(id);
 const nameNow = () => levelOf(now.place);
 

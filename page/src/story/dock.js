@@ -64,7 +64,7 @@ export function showStrip(figure) {
   const grown = isLecture() ? GROWN : figure.spec.isPath ? 1 : wide < 450 ? SMALL_GROWN : WIDE_GROWN;
   figure.part("strip").style.cssText = `--zoom:${zoom};--grown:${grown}`;
   if (figure.spec.places) return figure.placing?.draw(figure.part("strip"), wide, zoom);
-  const room = 26 + 9 * grown * `{${run.promised().join(", ")}}`.length; // pixels right of the last event, for the keys of the set
+  const room = 26 + 9 * grown * `{${run.promised().join(", ")}}`.length; // pixels to the right of the last event, for the keys of the set
   const scale = scaleOf(run.trace, run.count, wide - room, figure.hides, isLow(figure), grown);
   Object.assign(scale, { edge: scale.edge + room, width: wide, zoom });
   figure.scale = scale;

@@ -83,7 +83,7 @@ function placeTheList(figure, { state, event: made }, isNear) {
   const event = made !== null && figure.shown.includes(made.thread) ? made : null; // a step of a thread without a button is not highlighted
   const box = figure.part("list");
   const { names = false, slots = 4, flat, strip, isPath = false, code = true } = spec;
-  const hides = names || (spec.list === "lock-free" && !isPath && code) ? [] : ["succ"]; // the path shows pred and curr only; the code of the lock-free list also uses succ
+  const hides = names || (spec.list === "lock-free" && !isPath && code) ? [] : ["succ"]; // the path shows only pred and curr; the code of the lock-free list also uses succ
   const isSlide = isLecture();
   const least = isSlide ? Math.min(0.019 * innerWidth, 0.0335 * innerHeight) / LABEL : innerWidth >= 1900 ? 1 : 0;
   const room = { wide, high: tall, least, slots: Math.max(slots, drawn.slots), lock: lockShown(spec), flat, tight: drawn.tight, hides, names, ends: strip && isPath ? barEnds(figure) : undefined, isSlide, isWhole: isSlide || figure.box.classList.contains("judged") };

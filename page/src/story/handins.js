@@ -7,9 +7,9 @@ import { askNow } from "../page/now.js";
 import { counted, inLetters } from "../run/markup.js";
 import { bookCourse, taskOfJudged, tasksOf } from "./assignment.js";
 
-const MOST_NAMES = 12; // names of students with the same schedule
-const FEW_NAMES = 2; // names of a large group in a cell of the table
-const MANY = 10; // if at least one in MANY students has a schedule, the schedule is no sign of copying
+const MOST_NAMES = 12; // the maximum number of names in a list of students with the same schedule
+const FEW_NAMES = 2; // the same for a large group in a cell of the table
+const MANY = 10; // a schedule that more than one in MANY students handed in is no sign of copying
 
 // Splits a text such as "Ada Lovelace (1234567)" into the name and the number of a student.
 function studentOf(text, file) {
@@ -107,7 +107,7 @@ function titleOf(task, courses) {
 
 export const markOf = ({ solved, wrong }, { id }) => (solved.has(id) ? "solved" : wrong.has(id) ? "wrong" : "none");
 export const countOf = ({ solved }, columns) => columns.filter(({ id }) => solved.has(id)).length;
-export const countText = (row, columns, none) => (row.isCounted ? countOf(row, columns) : none); // a hand-in for another assignment is no failure in this one
+export const countText = (row, columns, none) => (row.isCounted ? countOf(row, columns) : none); // a hand-in for another assignment does not count as a failure in this one
 
 function notesOnNames(row, rows) {
   const { name, number, files } = row;
@@ -122,8 +122,8 @@ function notesOnNames(row, rows) {
 // Returns a schedule with one step on each line, so that schedules with the same steps are equal as texts.
 const oneByOne = (schedule) => schedule.replace(/^go (\d+) (\d+)$/gm, (_, thread, count) => Array(Number(count)).fill(`go ${thread}`).join("\n"));
 
-// Notes in each row which students handed in the same schedules. Returns the schedules that many students handed in: they are no sign of copying. (One common
-// schedule can be chance.)
+// Notes in each row which students handed in the same schedules. Returns the schedules that many students handed in: these are no sign of copying. (A single
+// shared schedule can be a coincidence.)
 function noteCopies(rows) {
   const byText = new Map();
   const own = new Map(rows.map((row) => [row, [...row.solved].filter(([, schedule]) => schedule !== null).map((entry) => entry.join("\n"))]));

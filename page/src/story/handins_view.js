@@ -20,7 +20,7 @@ async function check() {
   if (assignment?.fault !== undefined) return showNothing(assignment.fault);
   Object.assign(piece("progress"), { hidden: false, max: 1, value: 0 });
   piece("said").textContent = `${given.files.length} files …`;
-  const isNow = () => turn === given.turn && piece("progress") !== null; // meanwhile, the reader can have opened another place
+  const isNow = () => turn === given.turn && piece("progress") !== null; // meanwhile, the reader could have opened another place
   const result = await checkAll(given.files, assignment, (value, max) => isNow() && Object.assign(piece("progress"), { value, max }));
   if (!isNow()) return;
   piece("progress").hidden = true;
@@ -123,7 +123,7 @@ export const handInDeeds = {
     const body = piece("table").querySelector("tbody");
     const head = piece("table").querySelectorAll("thead th")[at];
     const before = head.getAttribute("aria-sort");
-    const isDown = before === null ? at > given.result.columns.length + 1 : before === "ascending"; // largest counts and longest notes first; again: the other way
+    const isDown = before === null ? at > given.result.columns.length + 1 : before === "ascending"; // the first click sorts counts and notes in descending order, and each further click reverses the order
     for (const other of piece("table").querySelectorAll("thead th")) other.removeAttribute("aria-sort");
     head.setAttribute("aria-sort", isDown ? "descending" : "ascending");
     const sign = isDown ? -1 : 1;

@@ -51,7 +51,7 @@ class Learning {
     return this.course.lessons.find(({ name }) => !this.isSolved(name));
   }
 
-  // Judges and stores the reader's attempt. The attempt is no solution if it equals the lesson's answer and the reader has looked at that answer.
+  // Judges and stores the reader's attempt. The attempt does not count as a solution if it equals the lesson's answer and the reader has looked at that answer.
   judge(text, isBegun) {
     const { lesson, own } = this;
     const { name, solution } = lesson;

@@ -43,9 +43,9 @@ export class ShownRun {
 }
 
 /**
- * A run to begin with. `lines` are the first lines of the schedule; lines of a draft are allowed. In a `free` run, the reader can begin any call. A `plain`
- * run ignores the list's lock and does not show it. `joined` has rows of the step table, for all calls or by operation: a press that executes the row
- * before such a row also executes this row. An item "11 14" joins row 14 to row 11 only. A `free` run joins rows only if it is `plain`.
+ * A run to begin with. `lines` are the first lines of the schedule; lines of a draft are allowed. In a `free` run, the reader can begin any call. A `plain` run
+ * ignores the list's lock and does not show it. `joined` lists rows of the step table, for all calls or by operation. A press that executes the row before a
+ * listed row also executes the listed row. An item "11 14" joins row 14 to row 11 only. A `free` run joins rows only if it is `plain`.
  * @typedef {{ list: string, lacks?: string | null, threads?: number, quota?: number, opening?: number[], lines?: string[], version?: number,
  *   free?: boolean, plain?: boolean, joined?: (number | string)[] | Record<string, (number | string)[]> }} RunSpec
  */
@@ -95,7 +95,7 @@ export class LiveRun extends ShownRun {
     this.state.moveTo(this.count);
   }
 
-  // Returns the effect of a thread's next press: the steps, their phase, and the holder of a lock that the thread has failed to acquire.
+  // Returns the effect of the next press on a thread's button: the steps, their phase, and the holder of a lock that the thread has failed to acquire.
   nextOf(thread, call = null) {
     return (this.nexts[[this.count, thread, call].join()] ??= this.newNextOf(thread, call));
   }
@@ -126,7 +126,7 @@ export class LiveRun extends ShownRun {
       if (last.answer !== undefined) break;
       const after = last.changes.pc;
       const ofLock = isFailed(last) && isLock(last.word);
-      const waits = ofLock && after === before; // a broken list can continue after a failed try
+      const waits = ofLock && after === before; // a broken list can continue after a failed attempt to lock
       if (waits || (isFailed(last) && !ofLock)) return { steps, phase, waits, last };
       const isJoined = rows.includes(after) || rows.includes(`${before} ${after}`);
       before = after;

@@ -1,4 +1,4 @@
-// Groups the rows of the step tables into phases: a press on a thread's button executes the steps of one phase. Also names each press.
+// Groups the rows of the step tables into phases: one press on a thread's button executes the steps of one phase. Also names the button for each phase.
 
 const walkers = (...rows) => Object.fromEntries(rows.map((row) => [row, "walk"]));
 
@@ -23,7 +23,7 @@ const PHASES = {
 };
 
 export const phaseAt = (list, row, plain) => PHASES[plain ? "plain" : list][row] ?? "answer";
-// Returns the rows that a press always executes together with the row before them, whatever their phase.
+// Returns the rows that a press on a thread's button always executes together with the row before them, whatever their phase.
 export const joinedRows = (list, plain) => (plain ? [10] : list === "lock-free" || list === "lazy" ? [22, 25] : []);
 
 const WORDS = {
@@ -49,7 +49,7 @@ const WORDS = {
   tidytry: ({ key }) => `try to unlink ${key}`,
 };
 
-// Names of button presses on a broken list. The names do not reveal the missing check.
+// Names of the threads' buttons on a broken list. The names do not reveal the missing check.
 const WORDS_OF_BROKEN = {
   next: () => "walk to the next node",
   check: () => "check pred and curr",

@@ -154,7 +154,8 @@ export function threadOfKey({ key, ctrlKey, metaKey, altKey, repeat }) {
   return key.charCodeAt(0) - "a".charCodeAt(0);
 }
 
-// Handles a press of a thread's key: the thread steps, or begins its first call. Only a button begins later calls, so that one press too many begins no call.
+// Handles a press of a thread's key: the thread steps, or begins its first call. Only a button begins later calls, so that an extra press of the key begins no
+// call.
 export function pressThread(event) {
   const thread = threadOfKey(event);
   const { figure } = scene;

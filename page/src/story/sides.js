@@ -1,5 +1,5 @@
-// Two lists run the same calls side by side. Each turn executes the next step of one thread in both lists, except in a list whose call of the thread has
-// already returned.
+// Two lists run the same calls side by side. Each turn executes the next step of one thread in both lists, except in a list where the thread's call has already
+// returned.
 import { letterOf } from "../run/markup.js";
 import { MOST_NUMBER } from "../run/trace.js";
 import { LiveRun, RunFault } from "./live_run.js";

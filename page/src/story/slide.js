@@ -30,8 +30,8 @@ export function toSlide(by) {
   return isThere;
 }
 
-// Shows or hides the answer from the lecturer's notes on a slide with Compare or Judge (such a slide has no panel for the answer). A press forward at the end
-// of the slide shows the answer, and a press back hides the answer. Returns whether the answer was shown or hidden.
+// Shows or hides the answer from the lecturer's notes on a slide with Compare or Judge (such a slide has no panel for the answer). At the end of the slide, the
+// key for forward shows the answer, and the key for back hides the answer. Returns whether the answer was shown or hidden.
 function goesOverAnswer(by) {
   const isShown = now.scene.note !== "";
   if (now.place.slide === 0 || !["judge", "compare"].includes(now.place.activity) || isShown === (by > 0)) return false;
@@ -46,7 +46,8 @@ function goesOnStage(by) {
   return now.run.count !== count;
 }
 
-// Goes to the next or previous step and, past the last step, to the next slide. While the last steps of a slide are still being shown, a press only shows the rest of them.
+// Goes to the next or previous step and, past the last step, to the next slide. If the last steps of a slide are still being shown, a key only shows the rest
+// of them.
 export function goOnSlide(by) {
   const isPlaying = scene.figure?.isBusy === true;
   const goes = () => (now.place.screen === "stage" ? goesOnStage(by) : scene.view?.goes?.(by));
