@@ -119,9 +119,9 @@ def test_clients_at_once_receive_right_answers(program, kind):
 
 
 def test_more_clients_than_seats_are_served(program):
-    """Tests with many sessions: more than the server's seats, more than the threads of the largest set, and more than
-    fit into the queue. A session that ends with an error ends no other session. One client in ten resets its connection
-    without having read all answers.
+    """Tests more sessions than the server has seats, more than the largest set has threads, and more than fit into the
+    queue. A session that ends with an error ends no other session. One client in ten resets its connection without
+    having read all answers.
     """
     def speak(key, connection):
         if key % 10 == 0:
