@@ -1,5 +1,6 @@
-"""Functions for bench/run: they find programs, measure processor seconds, instructions and peak memory of runs, and print
-rows of tables."""
+"""Functions for bench/run that find programs, measure the processor seconds, instructions and peak memory of runs, and
+print table rows.
+"""
 
 import datetime
 import os

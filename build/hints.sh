@@ -266,7 +266,8 @@ explain_unwritten() {
   fi
 }
 
-# Explains how to shorten a standard input that is too long for a command. (A part of a report is not a report.)
+# Explains how to shorten a standard input that is too long for a command. (A report cannot be cut: a part of it is not
+# a report.)
 print_shortening() {
   local text=schedule
   [ "$1" != draft ] || text=draft

@@ -9,7 +9,7 @@ from functools import cached_property
 
 FUNCTION = re.compile(r'( *)(pub(?:\(\w+\))? )?((?:const |unsafe |extern "C" )*)fn (\w+)')
 BLOCK = re.compile(r"^(?:pub )?(impl|trait)\b([^{;]*)(?=\{)", re.M)
-GHOST = re.compile(r"^\s+ghost (?!use\b|invariant\b)", re.M)  # (no invariants: they only restrict the values of a type)
+GHOST = re.compile(r"^\s+ghost (?!use\b|invariant\b)", re.M)  # (invariants are left out: they only restrict the values of a type)
 CLAUSES = re.compile(r"\s*(?:(?://[^\n]*)\s*)*(?:requires|ensures)\b")
 END_OF_SIGNATURE = re.compile(r"\n\s*(?:requires|ensures|//)|\s*\{|;(?![^\[\]\n]*\])")
 
