@@ -18,7 +18,7 @@ import socket
 import threading
 import time
 
-OPENING = 30  # for how many seconds opening a connection is retried while the server restarts
+OPENING = 30  # the seconds for which opening a connection is retried while the server restarts
 
 
 class Connection:

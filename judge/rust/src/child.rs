@@ -155,7 +155,7 @@ fn serve<S: Sync>(source: &Source<S>, options: &Options) -> ! {
     }
 }
 
-/// Returns how the child process has ended, if it has.
+/// Returns how the child process ended, or `None` if it is still running.
 fn trouble_of(child: &mut Child) -> Option<String> {
     let status = child.try_wait().ok()??;
     Some(status.code().map_or_else(|| say(CRASHED, &[&status]), |code| say(ENDED_SO, &[&code])))
