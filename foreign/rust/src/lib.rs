@@ -1,6 +1,6 @@
 //! Sorted-list sets that threads share ([`open`], [`Seat`], [`Shared`], [`RenewedSet`]), and the judge of their calls.
 //!
-//! The functions in `liblistset.a` implement the sets and the judge. A function of the judge reads a text and returns a text:
+//! `liblistset.a` implements the sets and the judge. A function of the judge reads a text and returns a text:
 //!
 //! ```
 //! let schedule = listset::generated("lazy", 2, 4, 10, 5, 1)?;
