@@ -1,5 +1,5 @@
-// Usage: `node tests/judge.js`. Checks the view of two lists side by side, and the verdicts on a reader's order of the calls of a run. (The engine's `check`
-// decides these verdicts.) Prints as JSON how many checks passed, and which checks failed.
+// Usage: `node tests/judge.js`. Checks the view of two lists side by side, and the verdicts on the order in which a reader places a run's calls. (The engine's
+// `check` decides these verdicts.) Prints as JSON how many checks passed, and which checks failed.
 "use strict";
 
 const fs = require("fs");

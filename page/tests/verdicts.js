@@ -448,8 +448,8 @@ function isGone(it, key, wasThere, call) {
     [0, ...part.flatMap(({ begun, ended }) => [begun, ended ?? begun])].some((moment) => hasOrder([...part, change(moment)], key, isThere, left)));
 }
 
-// Returns the wrong answers of an operation. An answer (a call that changed nothing) is wrong if no order explains it together with all calls on its key that
-// are no such answers. Returns null if those other calls alone are not linearizable.
+// Returns the wrong answers of an operation. An answer is a call of the operation that changed nothing. It is wrong if no order explains it together with the
+// calls on its key that are not answers. Returns null if the calls that are not answers are not linearizable by themselves.
 function wrongAnswers(it, operation, isAside) {
   const wrong = [];
   let count = 0;
@@ -507,8 +507,8 @@ function isTold(it, { wrong, count: answers, isAll }, [operation, atLeast, count
 }
 
 // Decides whether some key has a contradiction without overlapping calls: one call leaves the key in a state, and a later call needs the opposite state. No two
-// calls overlap between the start of the first call and the end of the second. The key's opening state can replace the first call, and its final state the
-// second.
+// calls overlap between the start of the first call and the end of the second. The key's opening state can take the place of the first call, and its final
+// state the place of the second.
 function isWrongAlone(it) {
   return keysOf(it).some((key) => {
     const ended = ofKey(it, key).filter(holdsReply);
@@ -523,7 +523,7 @@ function isWrongAlone(it) {
 }
 
 // Decides whether an answer contradicts an earlier call, and no two calls overlap between the start of that call and the end of the answer. If the answer
-// contradicts the key's opening state, it is enough that no two calls overlap during the answer.
+// contradicts the key's opening state, it is enough that no two calls overlap while the answer runs.
 function isAlone(it, answer) {
   const firsts = ofKey(it, answer.key).filter((call) => call.ended !== null && call.ended < answer.begun && leaves(call) !== needsKey(answer));
   const begins = [...firsts.map(({ begun }) => begun), ...(opens(it, answer.key) === needsKey(answer) ? [] : [answer.begun])];
@@ -533,7 +533,7 @@ function isAlone(it, answer) {
   });
 }
 
-// Decides whether a contains or remove that returned false contradicts an earlier call that left the key present and satisfies `isOfKind`.
+// Decides whether a contains or remove that returned false contradicts an earlier call that left the key present. The earlier call must satisfy `isOfKind`.
 const isMissed = (it, isOfKind) => it.calls.some((call) => call.operation !== "add" && call.reply === "false"
   && ofKey(it, call.key).some((first) => first.ended !== null && first.ended < call.begun && leaves(first) && isOfKind(first) && isNoneBetween(it, call.key, "remove", first.begun, call.ended)));
 

@@ -106,7 +106,7 @@ function openSeed() {
 }
 
 function readHtml() {
-  const isAlone = document.body.dataset.alone !== undefined; // the page is a single file: the documents are not beside it
+  const isAlone = document.body.dataset.alone !== undefined; // the page is a single file, without the documents beside it
   const pages = isAlone ? "" : byId("pages").innerHTML;
   return `${head("", "Read", "", "title")}${pages}<h2>Terms</h2><dl class="words card">${byId("terms").innerHTML}</dl>
     <h2>What is proved, and what is not</h2><div class="panel prose">${byId("proved").innerHTML}</div>`;

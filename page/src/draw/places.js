@@ -203,7 +203,7 @@ function freeHand(own, placed, { x, y, width: node }, { height, over }, width) {
 /**
  * The space and the contents of a drawing. `wide` and `high` are the size of the stage in pixels, and `least` is the smallest number of pixels per unit.
  * `slots` is the maximum number of nodes in the chain; if `flat`, every node stays in the chain. `lock` is the place of locks: "list", "nodes" or "" (not
- * shown). `tight` is the tightness of the previous drawing, `ends` the free pixels at each end, and `hides` the registers without a hand.
+ * shown). `tight` is the index in `below` that the previous drawing used, `ends` the free pixels at each end, and `hides` the registers without a hand.
  * @typedef {{ wide: number, high: number, least?: number, slots: number, lock: string, flat?: boolean, tight?: number, ends?: number[], hides: string[], names?: boolean, isWhole?: boolean, isSlide?: boolean }} Room
  */
 export function arranged(state, event, room) {
