@@ -4,10 +4,11 @@ import { momentAt } from "../run/sentences.js";
 import { drawFigure, frameOf, markLostNodes } from "./figure_parts.js";
 import { askCall, beginOwn, chooseCall, pressed } from "./dock.js";
 import { LiveRun } from "./live_run.js";
+import { lastTold } from "./presses.js";
 
 const BIT = 400; // milliseconds between two steps of one press
 const QUICK = 140; // milliseconds for each step, if another press is waiting
-const BETWEEN = 450; // milliseconds between two presses that the page makes
+const [READ, WORD] = [1200, 50]; // milliseconds for which a sentence stays: READ, and WORD for each of its words
 const sleep = (time) => new Promise((done) => setTimeout(done, time));
 const made = { count: 0 };
 const markBusy = (isBusy) => (document.body.dataset.busy = isBusy ? "yes" : "no");
@@ -34,6 +35,7 @@ export class Figure {
   wide = 0; // width of the list in pixels
   tall = 0; stripWide = 0; scroll = 0;
   said = null; // a sentence that replaces the sentence about the step
+  told = 0; since = 0; // while steps are shown: the event that the sentence is about, and when the sentence appeared
   /** @type {(value?: any) => void} */
   wake = () => {}; // ends the wait between two steps
   onShown = null; onStep = null; onFork = null;
@@ -153,15 +155,22 @@ export class Figure {
       const isOfLock = this.spec.plain === true && this.run.trace.event(count).word === "list.lock"; // a list that ignores its lock does not show this step
       if (count < total && (this.isSkipped || wantsStill() || isOfLock)) continue;
       this.run.moveTo(count);
-      this.part("said").setAttribute("aria-live", count < total ? "off" : "polite"); // a screen reader reads only the last sentence
+      const told = lastTold(this.run.trace, count, total, this.spec);
+      if (told !== this.told) Object.assign(this, { told, since: performance.now() });
+      this.part("said").setAttribute("aria-live", told < total ? "off" : "polite"); // a screen reader reads only the last sentence
       this.isBusy = count < total;
       this.draw(true);
       this.onShown?.();
       if (this.isSlow) await this.wait(fallTime()); // the loss is drawn before it is put into words
-      if (count < total || (this.isHurried && !this.isSkipped)) await this.wait(this.isHurried ? QUICK : BIT);
+      if (count < total || (this.isHurried && !this.isSkipped)) await this.wait(this.isHurried ? QUICK : count < told ? BIT : this.readTime());
     }
-    this.isBusy = false;
+    Object.assign(this, { isBusy: false, told: 0 });
     markBusy(false);
+  }
+
+  // Returns for how many more milliseconds the sentence has to stay so that it can be read.
+  readTime() {
+    return Math.max(BIT, READ + WORD * this.part("said").textContent.split(" ").length - (performance.now() - this.since));
   }
 
   async replay(from = 0) {
@@ -173,7 +182,7 @@ export class Figure {
 
   async rest() {
     markBusy(true);
-    await sleep(wantsStill() ? 0 : BETWEEN);
+    await sleep(this.readTime());
     markBusy(false);
   }
 

@@ -60,18 +60,19 @@ function scrollSoon(figure, moved) {
 
 const isOwnRelease = ({ word, deed, thread }, own) => thread === own && deed === "store" && isLock(word);
 
-// Returns the sentence about the shown event. On the path (the guided tour), if a call returns by releasing its locks, the sentence describes the step before
-// these releases, and the reply.
-function saidHere({ run, spec }, moment) {
-  if (spec.sentence) return spec.sentence(moment);
-  if (moment.event === null) return spec.says ?? "";
-  const { answer, call, thread } = moment.event;
-  let count = run.count;
+// Returns the sentence about the shown event, or about the later event `told` that shares a sentence with the shown one. On the path (the guided tour), if a
+// call returns by releasing its locks, the sentence describes the step before these releases, and the reply.
+function saidHere({ run, spec, told }, shown) {
+  if (spec.sentence) return spec.sentence(shown);
+  if (shown.event === null) return spec.says ?? "";
+  const moment = told > run.count ? momentAt(run.state, told) : shown;
+  const { number, answer, call, thread } = moment.event;
+  let count = number;
   while (isOwnRelease(run.trace.event(count), thread)) count--;
-  if (count === run.count || spec.isPath !== true || answer === undefined || run.trace.event(count).thread !== thread) return saidOf(moment, spec);
-  const before = saidOf(momentAt(run.state, count), spec);
+  const isWhole = count === number || spec.isPath !== true || answer === undefined || run.trace.event(count).thread !== thread;
+  const said = isWhole ? saidOf(moment, spec) : `${saidOf(momentAt(run.state, count), spec)} <b>${callText(call)} returns ${answer}.</b>`;
   run.state.moveTo(run.count);
-  return `${before} <b>${callText(call)} returns ${answer}.</b>`;
+  return said;
 }
 
 const LABEL = 18; // the smallest font size of a drawing, in units of the drawing

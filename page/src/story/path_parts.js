@@ -3,7 +3,7 @@ import { byId } from "../page/dom.js";
 import { isLecture } from "../page/now.js";
 import { tag } from "../run/markup.js";
 import { SCREENS } from "./path.js";
-import { drawLedger, drawOn, optionButtons, part, partsOfQuestion, replyTo } from "./scene.js";
+import { drawLedger, drawOn, isStepwise, optionButtons, part, partsOfQuestion, replyTo } from "./scene.js";
 
 export function dots(number, done) {
   const names = [...SCREENS.map(({ nav }) => nav), "And now?"];
@@ -58,8 +58,8 @@ export function drawBar(stage, number, words = number === SCREENS.length ? "And 
   const isDone = stage === "done";
   if (isDone && document.activeElement === show) on.focus({ preventScroll: true });
   show.hidden = isDone;
-  show.className = isLecture() && stage === "playing" ? "primary" : "quiet";
-  show.textContent = (isLecture() && { guess: "Reveal", playing: "Next step →" }[stage]) || (isNudge ? "Hint" : SHOW[stage]);
+  show.className = isStepwise() && stage === "playing" ? "primary" : "quiet";
+  show.textContent = isStepwise() && stage === "playing" ? "Next step →" : isLecture() && stage === "guess" ? "Reveal" : isNudge ? "Hint" : SHOW[stage];
   drawOn(isDone, isLecture() ? "Next slide →" : words); // (the slides do not have all screens of the path)
 }
 

@@ -8,7 +8,7 @@ import { waysOn } from "./live_run.js";
 import { partName, partsOf, placeIn, screenAt } from "./path.js";
 import { barHtml, dots, drawBar, endHtml, GONE, LAST, promptOf, welcome } from "./path_parts.js";
 import { Placing } from "./placing.js";
-import { drawLedger, head, numberOfKey, onStage, openScene, part, pressThread, scene, setScene, takeFigure, showPrompt } from "./scene.js";
+import { drawLedger, head, isStepwise, numberOfKey, onStage, openScene, part, pressThread, scene, setScene, takeFigure, showPrompt } from "./scene.js";
 import { toSlide } from "./slide.js";
 
 const here = () => screenAt(now.place.id);
@@ -40,7 +40,8 @@ function begin(place) {
   const figure = takeFigure(new Figure(part("#figure"), { ...screen.figure, isPath: true, restart: screen.play && (() => openScene(now.place)) }));
   Object.assign(figure, { onStep: looked, onShown: redrawLedger });
   if (screen.figure.places) figure.placing = new Placing(figure, placed);
-  setScene({ stage: isGuess ? "guess" : screen.figure.places ? "moment" : "task" });
+  const middleOf = (id) => (([{ begun, ended }]) => [id, (begun + ended) / 2])([figure.placing.exercise.calls[id]]);
+  setScene({ stage: isGuess ? "guess" : screen.figure.places ? "moment" : "task", moments: (screen.placed ?? []).map(middleOf) });
   if (isGuess) figure.set({ isOpen: false, isGuess: true });
 }
 
@@ -96,16 +97,16 @@ async function guessed(index) {
   return playOn();
 }
 
-// Plays the rest of a screen after the guess: presses the buttons of the threads listed in `play`. On a slide, each press waits for the presenter's key.
+// Plays the rest of a screen after the guess: presses the buttons of the threads listed in `play`. If `isStepwise`, each press waits for the reader.
 async function playOn() {
   const { figure } = scene;
   const { play } = here();
   const { at } = now.scene;
   await figure.step(play[at]);
-  if (!isLecture()) await figure.rest();
+  if (at + 1 < play.length && !isStepwise()) await figure.rest();
   if (scene.figure !== figure) return;
   setScene({ at: at + 1 });
-  if (at + 1 < play.length) return isLecture() || playOn();
+  if (at + 1 < play.length) return isStepwise() || playOn();
   figure.set({ isPlayed: false });
   done();
 }
@@ -156,7 +157,7 @@ async function showMe() {
   const { stage } = now.scene;
   if (isNudge(now.scene, here())) setScene({ hints: 1 });
   else if (stage === "guess") return guessed(-1);
-  else if (stage === "playing" && isLecture()) return playOn();
+  else if (stage === "playing" && isStepwise()) return figure.isBusy || playOn();
   else if (stage === "moment") {
     setScene({ moments: figure.run.trace.order.map(({ id, at }) => [id, at]) });
     done();

@@ -56,4 +56,20 @@ const WORDS_OF_BROKEN = {
   look: () => "return",
 };
 
+// Phases of the path whose steps share a sentence with the phase before them.
+const JOINED = ["make link", "make swing", "swing answer", "link unlock", "link answer", "unlink unlock", "unlink answer", "unlock walk"];
+
+// Returns the last event up to `total` that shares a sentence with event `count`. Steps of one phase share a sentence; a lock of FineList has its own.
+export function lastTold(trace, count, total, { plain = false, isPath = false }) {
+  const events = trace.events().slice(0, total);
+  const rowOf = ({ number, deed, thread, changes }) => (deed === "begin" ? changes.pc : events.slice(0, number - 1).findLast((own) => own.thread === thread).changes.pc);
+  for (let last = count; last < total; last++) {
+    const [one, next] = [events[last - 1], events[last]];
+    const [phase, after] = [one, next].map((event) => phaseAt(trace.kind, rowOf(event), plain));
+    const isJoined = phase === after ? trace.kind !== "fine" || rowOf(one) !== 3 : isPath && JOINED.includes(`${phase} ${after}`);
+    if (one.answer !== undefined || one.thread !== next.thread || !isJoined) return last;
+  }
+  return total;
+}
+
 export const phaseText = (phase, call, row, lacks) => ((lacks !== null && WORDS_OF_BROKEN[phase]) || WORDS[phase])(call, row, lacks);

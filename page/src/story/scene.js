@@ -1,5 +1,6 @@
 // The scenes of the page. Each scene has a view. A button with `data-do` calls the function of that name in the view's `deeds`.
-import { change, dispatch, now } from "../page/now.js";
+import { wantsStill } from "../draw/glide.js";
+import { change, dispatch, isLecture, now } from "../page/now.js";
 import { byId, setHtml } from "../page/dom.js";
 import { copied } from "../page/visit.js";
 import { warningOf } from "../run/address.js";
@@ -25,6 +26,7 @@ const viewOf = ({ activity, id }) => (id === "" ? VIEWS[`${activity} map`] : und
 export const titleOfScene = (place) => viewOf(place).title(place);
 export const faultOfScene = (place) => viewOf(place).fault?.(place) ?? null;
 export const isScene = ({ place }) => place.screen === "scene";
+export const isStepwise = () => isLecture() || wantsStill(); // the page plays no press by itself
 export const setScene = (given) => dispatch("scene", given);
 
 export async function copyText(text, words) {
