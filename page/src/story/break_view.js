@@ -31,7 +31,7 @@ function begin(place) {
   const list = LACKING[name];
   const given = place.given.text === undefined ? { opening: [3, 7] } : runOfText(place.given.text);
   const operations = ["add", "remove", "contains", ...(name === "mark-in-ceiling" ? ["ceiling"] : [])];
-  const figure = takeFreeFigure(list, { lacks: name, ...given, chosen: { 0: start[0], 1: start[1] }, operations, codeNote: LACKS_ONE, struck: name === NO_TASK ? missing : undefined });
+  const figure = takeFreeFigure(list, { lacks: name, ...given, chosen: { 0: start[0], 1: start[1] }, operations, codeNote: LACKS_ONE, isRiddle: name !== NO_TASK && !isNamed(name), struck: name === NO_TASK ? missing : undefined });
   figure.onStep = looked;
   setScene({ stage: "task" });
   if (place.given.text !== undefined) looked();
@@ -114,7 +114,7 @@ function strike() {
   const { figure } = scene;
   const { missing, lacks } = BREAK_LEVELS[nameNow()];
   if (figure.spec.struck !== undefined) return;
-  figure.spec.struck = missing;
+  Object.assign(figure.spec, { struck: missing, isRiddle: false });
   figure.part("code-note").textContent = lacks;
   figure.part("codebox").open = !isNarrow(); // on a phone the code would cover the reply
   figure.draw();

@@ -13,10 +13,11 @@ const nodeName = (state, name) => {
 };
 export const answerText = (answer) => answer.replace(/^at-/, "");
 
-export function saidOf(moment, { plain = false, isPath = false } = {}) {
+// In a riddle, the reader has not named the missing check of a broken list yet: the sentence says what happens, not why.
+export function saidOf(moment, { plain = false, isPath = false, isRiddle = false } = {}) {
   const { event } = moment;
   if (event === null) return "";
-  const said = deedSaid(moment, plain) + (isPath ? lockLeftOut(moment) : "");
+  const said = deedSaid({ ...moment, isRiddle }, plain) + (isPath ? lockLeftOut(moment) : "");
   const { call } = event;
   const answer = event.answer === undefined ? "" : ` ${bold(`${callText(call)} returns ${answerText(event.answer)}.`)}`;
   return `${chipOf(event.thread)} ${said}${answer}`;
@@ -65,9 +66,10 @@ function lockSaid(event, who, plain, waits, moment) {
   const locked = lockedBy(moment);
   const events = event.deed === "store" ? moment.trace.events() : [];
   if (event.deed === "store" && locked.length === 0 && isSecond(event, events)) return "has released both locks.";
-  if (event.deed === "store") return `releases ${what}${isHeld(event, events) ? "" : ", which it does not hold"}.`;
+  if (event.deed === "store") return `releases ${what}${moment.isRiddle || isHeld(event, events) ? "" : ", which it does not hold"}.`;
   if (event.saw === event.from) return `takes ${what}${locked.length > 1 ? `: it holds ${locked.join(" and ")}` : ""}.`;
-  return `wants ${what}, but ${chipOf(event.saw.slice(1))} holds it. ${bold(waits ? "The call waits." : "The call continues without the lock.")}`;
+  const after = waits ? bold("The call waits.") : moment.isRiddle ? "" : bold("The call continues without the lock.");
+  return `wants ${what}, but ${chipOf(event.saw.slice(1))} holds it. ${after}`.trim();
 }
 
 // Decides whether the key belongs just before the node `owner` of the chain. (Other threads can have changed the chain since the thread passed this place.)
@@ -77,11 +79,11 @@ function isPlaceOf(state, key, owner) {
   return at > 0 && keyNumber(state.nodes[chain[at - 1]].key) < key;
 }
 
-function keySaid({ state, event, before, held }, owner, key, phase) {
+function keySaid({ state, event, before, held, isRiddle }, owner, key, phase) {
   if (phase === "again") {
     if (held.pc === 14 && held.reply === "none") return `is past the place of its pred: ${bold("pred is no longer in the list.")} It starts again.`;
     if (held.node === held.pred) return "meets its pred: it is still in the list.";
-    return held.pc === before.pc + 1 ? `takes this node for its pred, ${bold("since the key is the same.")}` : "walks on: this is not its pred.";
+    return held.pc === before.pc + 1 ? `takes this node for its pred${isRiddle ? "." : `, ${bold("since the key is the same.")}`}` : "walks on: this is not its pred.";
   }
   const isPlace = event.call.operation === "add" && isPlaceOf(state, key, owner);
   if (owner === "tail") return `has reached the tail${isPlace ? ": here is the place" : ""}.`;
@@ -93,17 +95,17 @@ function keySaid({ state, event, before, held }, owner, key, phase) {
 }
 
 function linkSaid(moment, owner, who, phase) {
-  const { trace, state, event, held, before } = moment;
+  const { trace, state, event, held, before, isRiddle } = moment;
   const isMarked = event.saw.endsWith("*");
   const to = nodeName(state, linkTarget(event.saw));
   const isPred = owner === before.pred;
-  if (phase === "look" || (event.answer !== undefined && isMarked)) return lookSaid(state, event, owner, who, isMarked);
+  if (phase === "look" || (event.answer !== undefined && isMarked)) return lookSaid(moment, owner, who, isMarked);
   if (phase === "check") {
     if (held.reply === "none" && held.pc === 13) {
       if (isPred && isMarked) return `sees a mark on its pred: ${bold("it was removed meanwhile.")} It starts again.`;
       return isMarked ? `sees a mark on ${who}. It starts again.` : `sees that ${who} points to ${to} now. It starts again.`;
     }
-    if (isMarked) return `reads the arrow of ${isPred ? "its pred" : who}, and ${bold("does not look at the mark.")}`;
+    if (isMarked) return `reads the arrow of ${isPred ? "its pred" : who}${isRiddle ? "." : `, and ${bold("does not look at the mark.")}`}`;
     return isPred ? "sees no mark on its pred, which still points to curr." : `sees no mark on ${who}: the check succeeds.`;
   }
   if (phase === "again") {
@@ -114,6 +116,7 @@ function linkSaid(moment, owner, who, phase) {
     return `sees that ${who} points to ${to} now: ${bold(why)} It starts again.`;
   }
   if (phase === "unlink" || before.pc === 8) return `reads what comes after ${who}: ${to}.`;
+  if (before.pc === 7) return `reads the arrow of ${who} once more.`; // only a broken list reads here
   if (trace.kind === "lock-free" && event.changes.curr === undefined) {
     return isMarked ? `meets ${who}, which is marked: it tries to unlink it.` : `reads the arrow of ${who}: no mark.`;
   }
@@ -121,8 +124,8 @@ function linkSaid(moment, owner, who, phase) {
 }
 
 // Describes the last read of a contains or ceiling. On a broken list, the reply can be true at a marked node, and a removed node can be unmarked.
-function lookSaid(state, { answer }, owner, who, isMarked) {
-  if (isMarked && /^(true|at-)/.test(answer ?? "")) return `takes ${who} to be in the set: ${bold("it does not look at the mark.")}`;
+function lookSaid({ state, event: { answer }, isRiddle }, owner, who, isMarked) {
+  if (isMarked && /^(true|at-)/.test(answer ?? "")) return `takes ${who} to be in the set${isRiddle ? "." : `: ${bold("it does not look at the mark.")}`}`;
   if (isMarked) return `sees the mark: ${bold(`this ${who} has been removed.`)}`;
   return `sees no mark${state.chain().includes(owner) ? `: ${who} is in the set` : ` on ${who}`}.`;
 }
@@ -130,8 +133,8 @@ function lookSaid(state, { answer }, owner, who, isMarked) {
 // Writes the sentence about a write to a thread's own node. Only a broken list uses a node twice.
 function nodeSaid({ state, event }, owner, key) {
   const isUsed = state.nodes[owner].reached;
-  if (event.word.endsWith(".key")) return isUsed ? `writes ${key} into a node that was used before.` : `makes a node for ${key}. No other thread sees it yet.`;
-  return `points ${isUsed ? "that" : "its new"} node to ${nodeName(state, linkTarget(event.to))}.`;
+  if (event.word.endsWith(".key")) return isUsed ? `writes ${key} into a node that was used before.` : `makes a node for ${key}.`;
+  return `points ${isUsed ? "that" : "its new"} node to ${nodeName(state, linkTarget(event.to))}.${isUsed ? "" : " No other thread sees it yet."}`;
 }
 
 function writeSaid(moment, owner, who) {

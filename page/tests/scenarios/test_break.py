@@ -50,6 +50,12 @@ def test_a_won_level_does_not_reveal_its_answer(visitor):
     assert visitor.inside("return JSON.parse(localStorage.getItem('listset-broken')).lock").startswith("break lock #list=coarse")
 
 
+def test_a_sentence_does_not_reveal_the_answer(visitor):
+    visitor.open("#break=1")
+    visitor.step("ab")
+    assert visitor.text(".said") == "B wants the lock, but A holds it."
+
+
 def test_the_position_of_an_answer_does_not_reveal_it(visitor):
     visitor.open("#break")
     levels = visitor.inside("return Object.keys(listsets.BREAK_LEVELS).filter((name) => name !== 'mark-in-contains')")
