@@ -3,7 +3,7 @@
 import time
 
 import pytest
-from test_stage import fit
+from test_stage import STILL, fit
 
 
 def guess(visitor, key):
@@ -18,7 +18,7 @@ def test_a_first_visit_opens_the_path(visitor):
     assert visitor.title.startswith("How does a thread add 5")
 
 
-@pytest.mark.parametrize("number", ["1", "2", "3", "4", "4.2", "4.2b", "4.3", "5", "6", "7", "7.2", "8", "8.2", "9", "9.2"])
+@pytest.mark.parametrize("number", ["1", "2", "3", "4", "4.2", "4.2b", "4.3", "5", "6", "6.2", "7", "8", "8.2", "9", "9.1b", "9.2"])
 def test_pressing_show_me_leads_through_each_story(visitor, number):
     visitor.open(f"#story={number}")
     for _ in range(60):
@@ -88,6 +88,31 @@ def test_each_step_of_fast_presses_is_seen(visitor, address, keys):
         assert all(after - before > 100 for (_, before), (_, after) in zip(told[1], told[1][1:]))
 
 
+@pytest.mark.parametrize(("address", "keys"), [("#story=2", "a"), ("#story=5", "ab"), ("#story=4.2", "aa")])
+def test_each_sentence_of_a_press_stays_until_it_is_read(visitor, address, keys):
+    visitor.open(address)
+    visitor.script(SENTENCES)
+    visitor.step(keys)
+    told = visitor.script("return window.told")
+    assert len(told) > len(keys)
+    for (text, since), (_, until) in zip(told, told[1:]):
+        assert until - since > 1150 + 50 * len(text.split()), text
+
+
+def test_with_less_motion_each_press_of_the_page_waits_for_the_reader(visitor):
+    visitor.open("#read")
+    visitor.script(STILL)
+    visitor.script("location.hash = '#story=6'")
+    visitor.wait("return document.querySelector('[data-option]') !== null")
+    visitor.press("3")
+    visitor.idle()
+    visitor.settle()
+    assert "pred is no longer in the list" in visitor.text(".said") and not visitor.is_seen(".reveal") and visitor.text("#show-me") == "Next step →"
+    visitor.click("#show-me")
+    visitor.revealed()
+    assert "5 is in the list" in visitor.text(".said")
+
+
 @pytest.mark.parametrize(("address", "keys"), [("#story=4", "aba"), ("#story=4.2", "aab"), ("#story=3", "3")])
 def test_no_button_says_that_a_thread_starts_again(visitor, address, keys):
     visitor.open(address)
@@ -121,7 +146,7 @@ def test_enter_continues_after_the_focused_button_is_hidden(visitor):
     visitor.revealed()
     visitor.settle()
     visitor.press("Enter")
-    visitor.wait("return location.hash === '#story=7.2'")
+    visitor.wait("return location.hash === '#story=8'")
 
 
 def test_buttons_do_not_move(visitor):
@@ -164,7 +189,7 @@ def test_the_story_shows_hand_over_hand_and_why_two_locks_are_needed(visitor):
     visitor.revealed()
     visitor.click("#go-on")
     visitor.wait("return location.hash === '#story=4.2b'")
-    visitor.step("aba")
+    visitor.step("abababb")
     visitor.revealed()
     assert "Each remove locks pred" in visitor.text(".why") and visitor.is_seen(".ledger") and not visitor.is_seen(".ledger .gap")
     visitor.click("#go-on")
@@ -185,26 +210,29 @@ def test_the_path_leads_past_the_extra_questions(visitor):
     visitor.wait("return location.hash === '#story=5'")
 
 
-@pytest.mark.parametrize("keys", ["aba", "ba"])
-def test_two_locks_lose_nothing_in_any_order(visitor, keys):
+def test_a_thread_waits_behind_another_that_walks_hand_over_hand(visitor):
     visitor.open("#story=4.2b")
-    visitor.step(keys)
+    for keys, node in (("ab", "the head"), ("ab", "7")):
+        visitor.step(keys)
+        assert f"B wants the lock of {node}, but A holds it." in visitor.text(".said")
+    visitor.step("abb")
     visitor.revealed()
-    assert "whichever call is first" in visitor.text(".why b") and not visitor.is_seen(":is(.ledger .gap, .ledger .odd, .list .lost)")
+    assert "B could only follow" in visitor.text(".why b") and not visitor.is_seen(":is(.ledger .gap, .ledger .odd, .list .lost)")
+    visitor.open("#story=4.2b")
+    visitor.step("aaabb")
+    assert "B came too late to meet A." in visitor.text("#prompt") and visitor.text("#show-me") == "Start over"
 
 
 def test_a_screen_is_finished_when_all_its_parts_are(visitor):
     finished = "return [...document.querySelectorAll('.dots .done')].map((it) => it.innerText)"
-    visitor.open("#story=7.2")
-    visitor.step("baa")
-    visitor.revealed()
+    visitor.open("#story=6.2")
+    guess(visitor, "3")
     visitor.open("#story=8")
     assert visitor.script(finished) == []
-    visitor.open("#story=7")
-    visitor.step("ba")
-    visitor.revealed()
+    visitor.open("#story=6")
+    guess(visitor, "3")
     visitor.open("#story=8")
-    assert [text.split(",")[0].strip() for text in visitor.script(finished)] == ["A mark"]
+    assert [text.split(",")[0].strip() for text in visitor.script(finished)] == ["Look again"]
 
 
 def test_the_second_press_of_a_double_press_skips_nothing(visitor):
@@ -244,8 +272,8 @@ def test_the_sentence_about_a_change_stays_until_the_next_press(visitor):
 
 
 def test_the_label_of_a_press_names_each_of_its_deeds(visitor):
-    for address, keys, words in (("#story=7.2", "ba", "release; walk and lock once more; link 6 in"), ("#story=7", "", "walk to 5, read its mark, return"), ("#story=4", "a", "lock 7, link 5 in, return"),
-                                 ("#story=4.2", "a", "change the arrow of pred, return"), ("#story=4.2b", "ab", "lock 7, unlink it, return"), ("#story=9", "ba", "walk again; link 6 in, return")):
+    for address, keys, words in (("#story=4.2b", "a", "release the head, lock 8"), ("#story=7", "", "walk to 5, read its mark, return"), ("#story=4", "a", "lock 7, link 5 in, return"),
+                                 ("#story=4.2", "a", "change the arrow of pred, return"), ("#story=4.2b", "aa", "unlink it, return"), ("#story=9.1b", "ba", "walk again; link 6 in, return")):
         visitor.open(address)
         visitor.step(keys)
         assert words in visitor.text(".dock"), address
@@ -272,7 +300,7 @@ def test_show_a_step_continues_from_the_current_event(visitor):
 
 
 def test_the_first_help_is_a_nudge_and_the_second_a_step(visitor):
-    for address in ("#story=2", "#story=4", "#story=7.2", "#story=9"):
+    for address in ("#story=2", "#story=4", "#story=7", "#story=9"):
         visitor.open(address)
         assert visitor.text("#show-me") == "Hint"
         visitor.click("#show-me")
@@ -287,9 +315,9 @@ def test_the_first_help_is_a_nudge_and_the_second_a_step(visitor):
     visitor.revealed()
 
 
-def test_a_mark_warns_an_add_and_a_thread_helps(visitor):
-    for address, keys, told, word, more in (("#story=7.2", "baa", "sees a mark on its pred", "the mark warned A", "its pred was 3"), ("#story=9", "baa", "the CAS finds it marked", "still 6 is in", "A unlinked 5 for B"),
-                                            ("#story=9", "bbaa", "the CAS finds it marked", "still 6 is in", "linked 6 behind 3")):
+def test_a_mark_makes_a_compare_and_set_fail_and_a_thread_helps(visitor):
+    for address, keys, told, word, more in (("#story=9.1b", "baa", "the CAS finds it marked", "still 6 is in", "A unlinked 5 for B"),
+                                            ("#story=9.1b", "bbaa", "the CAS finds it marked", "still 6 is in", "linked 6 behind 3")):
         visitor.open(address)
         seen = ""
         for key in keys:
@@ -300,10 +328,18 @@ def test_a_mark_warns_an_add_and_a_thread_helps(visitor):
 
 
 def test_a_wrong_choice_of_the_next_thread_gets_a_reply(visitor):
-    for address, keys, reply in (("#story=7.2", "a", "A found no mark: B had not marked 5 yet."), ("#story=9", "a", "A’s CAS succeeded: nobody had changed the arrow of 5.")):
+    for address, keys, reply in (("#story=9", "a", "From here nothing can go wrong any more."), ("#story=9.1b", "a", "A’s CAS succeeded: nobody had changed the word of 5.")):
         visitor.open(address)
         visitor.step(keys)
         assert reply in visitor.text("#prompt") and visitor.text("#show-me") == "Start over", address
+
+
+@pytest.mark.parametrize("keys", ["bab", "bba"])
+def test_with_mark_and_arrow_in_two_words_a_key_is_lost(visitor, keys):
+    visitor.open("#story=9")
+    visitor.step(keys)
+    visitor.revealed()
+    assert visitor.text(".why b").startswith("6 is lost") and visitor.text(".ledger .gap") == "no 6" and visitor.is_seen(".list .lost")
 
 
 @pytest.mark.parametrize(("key", "reply"), [("1", "an unlinked node keeps its arrow"), ("2", "A itself holds the lock of 3"), ("3", "Right.")])
@@ -313,7 +349,15 @@ def test_the_reader_chooses_what_validation_checks(visitor, key, reply):
     assert reply in visitor.text(".you") and "The second walk did not meet 3" in visitor.text(".why b") and "5 is in the list" in visitor.text(".said")
 
 
-@pytest.mark.parametrize("number", ["1", "2", "4", "4.2", "4.2b", "5", "6", "7.2", "9.2"])
+@pytest.mark.parametrize(("key", "reply"), [("1", "6 is lost"), ("2", "6 gets lost"), ("3", "Right.")])
+def test_the_reader_chooses_the_second_check_of_validation(visitor, key, reply):
+    visitor.open("#story=6.2")
+    assert "pred.next == curr" not in visitor.text(".lines")
+    guess(visitor, key)
+    assert reply in visitor.text(".you") and "3 points to 6 now" in visitor.text(".why b") and visitor.inside("return listsets.scene.figure.run.has()") == [3, 5, 6, 7]
+
+
+@pytest.mark.parametrize("number", ["1", "2", "4", "4.2", "4.2b", "5", "6", "6.2", "9.2"])
 def test_a_finished_run_holds_no_locks(visitor, number):
     visitor.open(f"#story={number}")
     while not visitor.is_seen(".reveal"):
@@ -388,13 +432,11 @@ DEFINITION = "Each call appears to take effect at one moment between its start a
 
 def test_the_reader_places_the_moment_of_each_call(visitor):
     visitor.open("#story=8")
-    assert visitor.script(SETS) == ["{5}"]
-    for call, part in ((0, 0.1), (1, 0.5), (2, 0.5)):
-        place(visitor, call, part)
     assert visitor.script(SETS) == ["{5}", "{}", "{5}"]
+    place(visitor, 0, 0.1)
     assert "contains(5) of A cannot return false there" in visitor.text("#prompt") and visitor.is_seen(".strip .clash")
     visitor.click("[data-do=none]")
-    assert "There are such moments" in visitor.text("#prompt")
+    assert "There is such a moment" in visitor.text("#prompt")
     place(visitor, 0, 0.95)
     assert "the set is {5}" in visitor.text("#prompt")
     place(visitor, 0, 0.5)
@@ -404,8 +446,8 @@ def test_the_reader_places_the_moment_of_each_call(visitor):
 
 def test_the_reader_finds_calls_without_moments(visitor):
     visitor.open("#story=8.2")
-    for call, part in ((0, 0.5), (1, 0.5), (2, 0.2), (2, 0.9)):
-        place(visitor, call, part)
+    for part in (0.2, 0.9):
+        place(visitor, 2, part)
     assert "contains(5) of A cannot return false there" in visitor.text("#prompt")
     visitor.click("[data-do=none]")
     visitor.revealed()
@@ -414,7 +456,7 @@ def test_the_reader_finds_calls_without_moments(visitor):
 
 def test_moments_are_placed_by_keys(visitor):
     visitor.open("#story=8")
-    for call, keys in ((0, ["Home"] + 8 * ["Right"]), (1, ["Home", "Right"]), (2, ["End"])):
+    for call, keys in ((1, ["Home", "Right"]), (2, ["End"]), (0, ["Home"] + 8 * ["Right"])):
         visitor.script("document.querySelector(`.strip [data-call='${arguments[0]}']`).focus()", call)
         visitor.press(*keys)
     visitor.revealed()
