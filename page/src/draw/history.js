@@ -103,25 +103,19 @@ function drawLabel(call, scale, left, top) {
   return tag("text", { class: "call", x: place.x + indent, y: base - ROW_HEIGHT * place.row }, callText(call), reply);
 }
 
-const isShown = (call, scale) => scale.now === Infinity || isReached(call, scale.now);
+// Returns the shapes that show when a call takes effect, as a group of the class `kind`.
+const momentGroup = (kind, call, scale, ...shapes) => tag("g", { class: `${kind} ${isReached(call, scale.count) ? "reached" : "later"} ${colourOf(call.thread)}` }, ...shapes);
 
 function drawPoint(call, scale) {
-  const x = scale.x(call.at);
-  const y = scale.y(call.thread);
-  const state = isReached(call, scale.count) ? "reached" : "later";
+  const centre = { cx: scale.x(call.at), cy: scale.y(call.thread) };
   const how = call.changes ? "changes the set at" : "does not change the set; its reply is correct at";
-  return tag("g", { class: `point ${state} ${colourOf(call.thread)}` },
-    title(`call ${call.id}, ${callText(call)}, ${how} event ${call.at}`),
-    tag("circle", { cx: x, cy: y, r: 6.5 }),
-    call.changes ? "" : tag("circle", { class: "hole", cx: x, cy: y, r: 3 }),
-  );
+  const words = title(`call ${call.id}, ${callText(call)}, ${how} event ${call.at}`);
+  return momentGroup("point", call, scale, words, tag("circle", { ...centre, r: 6.5 }), call.changes ? "" : tag("circle", { class: "hole", ...centre, r: 3 }));
 }
 
 function drawStem(call, scale) {
   const x = scale.x(call.at);
-  const state = isReached(call, scale.count) ? "reached" : "later";
-  const stem = { x1: x, x2: x, y1: scale.y(call.thread), y2: scale.height };
-  return tag("g", { class: `stem ${state} ${colourOf(call.thread)}` }, tag("line", stem));
+  return momentGroup("stem", call, scale, tag("line", { x1: x, x2: x, y1: scale.y(call.thread), y2: scale.height }));
 }
 
 export function drawCursor(scale, bottom, top = 0) {
@@ -136,7 +130,7 @@ export const frameOf = ({ width, height, zoom = 1 }) => ({ width: zoom * width, 
 export function drawCalls(trace, scale) {
   const { first, last, height } = scale;
   const shown = shownIn(trace, first, Math.min(last, scale.now));
-  const placed = shown.filter((call) => call.at !== null && call.at >= first && call.at <= last && isShown(call, scale));
+  const placed = shown.filter((call) => call.at !== null && call.at >= first && call.at <= last && (scale.now === Infinity || isReached(call, scale.now)));
   const lanes = Array.from({ length: trace.threads }, (_, thread) => drawLane(scale, thread));
   const bars = shown.map((call) => drawBar(call, scale));
   const points = placed.map((call) => drawPoint(call, scale));
@@ -172,11 +166,6 @@ function placeLabels(items, { start, edge, mostRows }) {
 }
 
 // The short labels of calls, for bars that are too narrow for the long label. A line below the drawing explains the short labels.
-const SIGNS = {
-  add: (key) => `+${key}`,
-  remove: (key) => `\u2212${key}`,
-  contains: (key) => `${key}?`,
-  ceiling: (key) => `\u2308${key}\u2309`,
-};
+const SIGNS = { add: (key) => `+${key}`, remove: (key) => `\u2212${key}`, contains: (key) => `${key}?`, ceiling: (key) => `\u2308${key}\u2309` };
 const SIGNS_IN_WORDS = "+5 add, \u22125 remove, 5? contains, \u23085\u2309 ceiling of 5; more by a click on a bar";
 export const signOf = ({ operation, key }) => SIGNS[operation](key);

@@ -12,12 +12,7 @@ export const linesOf = (schedule) => schedule.split("\n").filter((line) => /^(be
 
 export function runOfText(text) {
   const valueOf = (word) => new RegExp(`^${word} (.*)$`, "m").exec(text)?.[1];
-  return {
-    threads: Number(valueOf("threads")),
-    quota: Number(valueOf("quota")),
-    opening: openingIn(text).map(Number),
-    lines: linesOf(text),
-  };
+  return { threads: Number(valueOf("threads")), quota: Number(valueOf("quota")), opening: openingIn(text).map(Number), lines: linesOf(text) };
 }
 
 export class RunFault extends Error {}

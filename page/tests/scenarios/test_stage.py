@@ -118,7 +118,7 @@ def walk(visitor, request):
 
 
 def test_the_path_is_readable(walk):
-    for number in ("1", "2", "3", "4", "4.2", "4.2b", "4.3", "5", "6", "6.2", "7", "8", "8.2", "9", "9.1b", "9.2"):
+    for number in ("1", "2", "3", "4", "4.2", "4.2b", "4.3", "5", "6", "6.2", "7", "7.2", "8", "8.2", "9", "9.1b", "9.2"):
         walk.go(f"#story={number}")
         stage = walk.visitor.inside("return listsets.now.scene.stage")
         if stage == "guess":
@@ -148,7 +148,7 @@ FRAMES = """window.heights = [];
 def test_the_first_frame_of_a_screen_has_the_final_size_of_the_list(visitor):
     fit(visitor, 1366, 640)
     visitor.open("#story=7")
-    for address, question in (("#story=6.2", "Is this check enough?"), ("#story=4.2", "Why does a thread hold two locks?")):
+    for address, question in (("#story=7.2", "How does an add use the marks?"), ("#story=6.2", "Is this check enough?"), ("#story=4.2", "Why does a thread hold two locks?")):
         visitor.script(FRAMES, question, address)
         assert len(set(visitor.wait("return window.heights.length === 6 && window.heights"))) == 1, address
 
