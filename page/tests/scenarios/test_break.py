@@ -52,7 +52,7 @@ def test_a_won_level_does_not_reveal_its_answer(visitor):
 
 def test_a_sentence_does_not_reveal_the_answer(visitor):
     visitor.open("#break=1")
-    visitor.step("ab")
+    visitor.step("abab")
     assert visitor.text(".said") == "B wants the lock, but A holds it."
 
 
