@@ -1,8 +1,9 @@
 // The modules of src/ and made/ in one script, by page/build: nothing else of the page is global.
 "use strict";
 
-var MORE=(()=>{var o=Object.defineProperty;var t=Object.getOwnPropertyDescriptor;var n=Object.getOwnPropertyNames;var c=Object.prototype.hasOwnProperty;var i=(l,e)=>{for(var a in e)o(l,a,{get:e[a],enumerable:!0})},d=(l,e,a,s)=>{if(e&&typeof e=="object"||typeof e=="function")for(let r of n(e))!c.call(l,r)&&r!==a&&o(l,r,{get:()=>e[r],enumerable:!(s=t(e,r))||s.enumerable});return l};var u=l=>d(o({},"__esModule",{value:!0}),l);var f={};i(f,{CODE:()=>p,CODE_OF:()=>w});var p={"crates/lset_loops/src/coarse.rt":[{name:"walk",first:15,steps:[{line:22,rows:[2]},{line:24,rows:[3]},{line:28,rows:[4]}],calls:[],text:`
-/// Walks from the head to the first key that is not smaller than the call's key.
+var MORE=(()=>{var o=Object.defineProperty;var t=Object.getOwnPropertyDescriptor;var n=Object.getOwnPropertyNames;var c=Object.prototype.hasOwnProperty;var i=(l,e)=>{for(var a in e)o(l,a,{get:e[a],enumerable:!0})},d=(l,e,a,s)=>{if(e&&typeof e=="object"||typeof e=="function")for(let r of n(e))!c.call(l,r)&&r!==a&&o(l,r,{get:()=>e[r],enumerable:!(s=t(e,r))||s.enumerable});return l};var u=l=>d(o({},"__esModule",{value:!0}),l);var f={};i(f,{CODE:()=>p,CODE_OF:()=>w});var p={"crates/lset_loops/src/coarse.rt":[{name:"walk",first:15,steps:[{line:23,rows:[2]},{line:25,rows:[3]},{line:29,rows:[4]}],calls:[],text:`
+/// Walks from the head to the first key that is not smaller than the call's key. Returns that key's node and the node
+/// before it, or \`None\` after \`N::MOST\` rounds.
 fn walk<P: Pause, N: Rounds>(caller: &Caller<CoarseList, P>, place: &mut TableSeat) -> Option<Found>
     requires { AtHead caller.now.origin caller.now.slots place.old }
     ensures { IfSome result (λ f. StopsAt caller.now.origin caller.now.slots f place.new) }
@@ -20,8 +21,9 @@ fn walk<P: Pause, N: Rounds>(caller: &Caller<CoarseList, P>, place: &mut TableSe
         curr = Node::behind(link);
     }
     None
-}`},{name:"act",first:35,steps:[{line:46,rows:[5,6,7]},{line:50,rows:[8]},{line:51,rows:[9]}],calls:[],text:`
-/// Adds or removes the key between the two nodes that the walk found, or only replies. The list's lock must be held.
+}`},{name:"act",first:36,steps:[{line:48,rows:[5,6,7]},{line:52,rows:[8]},{line:53,rows:[9]}],calls:[],text:`
+/// Makes the change that \`decide\` returns: links a new node between the two nodes in \`found\`, unlinks \`found.curr\`, or
+/// changes nothing. The call must hold the list's lock.
 fn act<P: Pause>(
     caller: &Caller<CoarseList, P>,
     place: &mut TableSeat,
@@ -42,11 +44,12 @@ fn act<P: Pause>(
         }
         Decision::Answer(reply) => (caller.slots, reply),
     }
-}`},{name:"coarse_within",first:58,steps:[{line:73,rows:[1]},{line:76,rows:[10]}],calls:[[74,"walk"],[75,"act"]],text:`
+}`},{name:"coarse_within",first:60,steps:[{line:76,rows:[1]},{line:79,rows:[10]}],calls:[[77,"walk"],[78,"act"]],text:`
 /// Executes a whole call on a CoarseList: takes the list's lock, walks to the key, adds or removes the key if needed,
 /// and releases the lock. This is Herlihy and Shavit's coarse-grained list.
 ///
-/// Returns \`None\` if a loop of the call has made \`N::MOST\` rounds. The call is then still pending.
+/// Returns the thread's slots (nodes reserved for its adds) after the call, and the reply. Returns \`None\` if a loop has
+/// made \`N::MOST\` rounds and not ended. The call is then still pending, and keeps the locks that it holds.
 pub fn coarse_within<P: Pause, N: Rounds>(
     table: &Words<CoarseList>,
     place: &mut TableSeat,
@@ -64,8 +67,8 @@ pub fn coarse_within<P: Pause, N: Rounds>(
     caller.release_last(place, LOCK); // row 10
     Some(answer)
 }`}],"crates/lset_loops/src/fine.rt":[{name:"walk",first:16,steps:[{line:24,rows:[2]},{line:26,rows:[3]},{line:27,rows:[4]},{line:31,rows:[5]},{line:32,rows:[6]}],calls:[],text:`
-/// Walks from the locked head to the first key that is not smaller than the call's key. Locks each node before it
-/// releases the previous node, and returns the last two nodes locked.
+/// Walks from the locked head to the first key that is not smaller than the call's key, and locks each node before it
+/// releases the previous node. Returns the last two nodes, still locked, or \`None\` if a loop has made \`N::MOST\` rounds.
 fn walk<P: Pause, N: Rounds>(caller: &Caller<FineList, P>, place: &mut TableSeat) -> Option<Found>
     requires { AtHead caller.now.origin caller.now.slots place.old }
     ensures { IfSome result (λ f. StopsAt caller.now.origin caller.now.slots f place.new) }
@@ -85,8 +88,9 @@ fn walk<P: Pause, N: Rounds>(caller: &Caller<FineList, P>, place: &mut TableSeat
         curr = Node::behind(link);
     }
     None
-}`},{name:"act",first:39,steps:[{line:50,rows:[7,8,9]},{line:54,rows:[10]},{line:55,rows:[11]}],calls:[],text:`
-/// Adds or removes the key between the two locked nodes that the walk found, or only replies.
+}`},{name:"act",first:39,steps:[{line:51,rows:[7,8,9]},{line:55,rows:[10]},{line:56,rows:[11]}],calls:[],text:`
+/// Makes the change that \`decide\` returns: links a new node between the two nodes in \`found\`, unlinks \`found.curr\`, or
+/// changes nothing. The call must hold the locks of both nodes.
 fn act<P: Pause>(
     caller: &Caller<FineList, P>,
     place: &mut TableSeat,
@@ -107,11 +111,12 @@ fn act<P: Pause>(
         }
         Decision::Answer(reply) => (caller.slots, reply),
     }
-}`},{name:"fine_within",first:62,steps:[{line:77,rows:[1]},{line:80,rows:[12]},{line:81,rows:[13]}],calls:[[78,"walk"],[79,"act"]],text:`
+}`},{name:"fine_within",first:63,steps:[{line:79,rows:[1]},{line:82,rows:[12]},{line:83,rows:[13]}],calls:[[80,"walk"],[81,"act"]],text:`
 /// Executes a whole call on a FineList: walks to the key, locking each node before it releases the previous node, adds
 /// or removes the key if needed, and releases both locks. This is Herlihy and Shavit's fine-grained list.
 ///
-/// Returns \`None\` if a loop of the call has made \`N::MOST\` rounds. The call is then still pending.
+/// Returns the thread's slots (nodes reserved for its adds) after the call, and the reply. Returns \`None\` if a loop has
+/// made \`N::MOST\` rounds and not ended. The call is then still pending, and keeps the locks that it holds.
 pub fn fine_within<P: Pause, N: Rounds>(
     table: &Words<FineList>,
     place: &mut TableSeat,
@@ -130,8 +135,8 @@ pub fn fine_within<P: Pause, N: Rounds>(
     caller.unlock_last(place, found.pred); // row 13
     Some(answer)
 }`}],"crates/lset_loops/src/optimistic.rt":[{name:"walk",first:22,steps:[{line:38,rows:[2]},{line:43,rows:[3]}],calls:[],text:`
-/// Walks from the head to the first key that is not smaller than the call's key. The walk starts at \`first\`, the node
-/// that the head's link led to.
+/// Walks from \`first\`, the node after the head, to the first key that is not smaller than the call's key. Returns that
+/// key's node and the node before it, or \`None\` after \`N::MOST\` rounds.
 #[inline(always)]
 fn walk<P: Pause, N: Rounds>(
     caller: &Caller<OptimisticList, P>,
@@ -158,8 +163,8 @@ fn walk<P: Pause, N: Rounds>(
     }
     None
 }`},{name:"reaches",first:51,steps:[{line:69,rows:[6]},{line:71,rows:[7]}],calls:[],text:`
-/// Walks a second time from the head, and returns whether this walk reaches \`pred\`. The walk fails if it sees a key
-/// greater than the key of \`pred\`.
+/// Walks from the head a second time, and returns whether this walk reaches the node \`pred\` that the first walk found
+/// before it meets a key greater than the key of \`pred\`. Returns \`None\` after \`N::MOST\` rounds.
 #[inline(always)]
 fn reaches<P: Pause, N: Rounds>(
     caller: &Caller<OptimisticList, P>,
@@ -187,8 +192,9 @@ fn reaches<P: Pause, N: Rounds>(
         }
     }
     None
-}`},{name:"validate",first:82,steps:[{line:95,rows:[8]}],calls:[[92,"reaches"]],text:`
-/// Returns whether \`pred\` is still in the list and leads to \`curr\`. Both nodes must be locked.
+}`},{name:"validate",first:82,steps:[{line:96,rows:[8]}],calls:[[93,"reaches"]],text:`
+/// Returns whether the node \`pred\` that the walk found is still in the list and its link points to \`curr\`. Returns
+/// \`None\` if the second walk has made \`N::MOST\` rounds. Both nodes must be locked.
 fn validate<P: Pause, N: Rounds>(
     caller: &Caller<OptimisticList, P>,
     place: &mut TableSeat,
@@ -206,8 +212,9 @@ fn validate<P: Pause, N: Rounds>(
         return Some(false);
     }
     Some(true)
-}`},{name:"act",first:102,steps:[{line:113,rows:[9,10,11]},{line:117,rows:[12]},{line:118,rows:[13]}],calls:[],text:`
-/// Adds or removes the key between the two locked nodes that the walk found, or only replies.
+}`},{name:"act",first:103,steps:[{line:115,rows:[9,10,11]},{line:119,rows:[12]},{line:120,rows:[13]}],calls:[],text:`
+/// Makes the change that \`decide\` returns: links a new node between the two nodes in \`found\`, unlinks \`found.curr\`, or
+/// changes nothing. The call must hold the locks of both nodes.
 fn act<P: Pause>(
     caller: &Caller<OptimisticList, P>,
     place: &mut TableSeat,
@@ -228,13 +235,14 @@ fn act<P: Pause>(
         }
         Decision::Answer(reply) => (caller.slots, reply),
     }
-}`},{name:"optimistic_within",first:125,steps:[{line:142,rows:[1],begins:!0,answers:!1},{line:146,rows:[4]},{line:147,rows:[5]},{line:150,rows:[14],begins:!1,answers:!0},{line:151,rows:[15],begins:!1,answers:!0},{line:154,rows:[14],begins:!1,answers:!1},{line:155,rows:[15],begins:!1,answers:!1},{line:156,rows:[1],begins:!1,answers:!1}],calls:[[144,"walk"],[148,"validate"],[149,"act"]],text:`
+}`},{name:"optimistic_within",first:127,steps:[{line:145,rows:[1],begins:!0,answers:!1},{line:149,rows:[4]},{line:150,rows:[5]},{line:153,rows:[14],begins:!1,answers:!0},{line:154,rows:[15],begins:!1,answers:!0},{line:157,rows:[14],begins:!1,answers:!1},{line:158,rows:[15],begins:!1,answers:!1},{line:159,rows:[1],begins:!1,answers:!1}],calls:[[147,"walk"],[151,"validate"],[152,"act"]],text:`
 /// Executes a whole call on an OptimisticList. Walks to the key without locks, locks the two nodes around the key, and
 /// checks with a second walk that they are still neighbours in the list. If they are, adds or removes the key if
 /// needed and releases both locks; otherwise releases both locks and starts over. This is Herlihy and Shavit's
 /// optimistic list.
 ///
-/// Returns \`None\` if a loop of the call has made \`N::MOST\` rounds. The call is then still pending.
+/// Returns the thread's slots (nodes reserved for its adds) after the call, and the reply. Returns \`None\` if a loop has
+/// made \`N::MOST\` rounds and not ended. The call is then still pending, and keeps the locks that it holds.
 pub fn optimistic_within<P: Pause, N: Rounds>(
     table: &Words<OptimisticList>,
     place: &mut TableSeat,
@@ -264,8 +272,8 @@ pub fn optimistic_within<P: Pause, N: Rounds>(
     }
     None
 }`}],"crates/lset_loops/src/lazy.rt":[{name:"walk",first:17,steps:[{line:32,rows:[2]},{line:36,rows:[3]}],calls:[],text:`
-/// Walks from the head to the first key that is not smaller than the call's key. The walk starts at \`first\`, the node
-/// that the head's link led to.
+/// Walks from \`first\`, the node after the head, to the first key that is not smaller than the call's key. Returns that
+/// key's node and the node before it, or \`None\` after \`N::MOST\` rounds.
 #[inline(always)]
 fn walk<P: Pause, N: Rounds>(
     caller: &Caller<LazyList, P>,
@@ -308,8 +316,9 @@ fn validate<P: Pause>(
         return None;
     }
     Some(Node::behind(after))
-}`},{name:"act",first:64,steps:[{line:76,rows:[8,9,10]},{line:80,rows:[11]},{line:81,rows:[12]}],calls:[],text:`
-/// Adds or removes the key between the two locked nodes that the walk found, or only replies.
+}`},{name:"act",first:64,steps:[{line:77,rows:[8,9,10]},{line:81,rows:[11]},{line:82,rows:[12]}],calls:[],text:`
+/// Makes the change that \`decide\` returns: links a new node between the two nodes in \`found\`, marks and unlinks
+/// \`found.curr\`, or changes nothing. The call must hold the locks of both nodes; \`succ\` is the node after \`found.curr\`.
 fn act<P: Pause>(
     caller: &Caller<LazyList, P>,
     place: &mut TableSeat,
@@ -331,13 +340,14 @@ fn act<P: Pause>(
         }
         Decision::Answer(reply) => (caller.slots, reply),
     }
-}`},{name:"lazy_change_within",first:88,steps:[{line:106,rows:[1],begins:!0,answers:!1},{line:109,rows:[4]},{line:110,rows:[5]},{line:114,rows:[13],begins:!1,answers:!0},{line:115,rows:[14],begins:!1,answers:!0},{line:119,rows:[13],begins:!1,answers:!1},{line:120,rows:[14],begins:!1,answers:!1},{line:121,rows:[1],begins:!1,answers:!1}],calls:[[108,"walk"],[111,"validate"],[113,"act"]],text:`
+}`},{name:"lazy_change_within",first:89,steps:[{line:108,rows:[1],begins:!0,answers:!1},{line:111,rows:[4]},{line:112,rows:[5]},{line:116,rows:[13],begins:!1,answers:!0},{line:117,rows:[14],begins:!1,answers:!0},{line:121,rows:[13],begins:!1,answers:!1},{line:122,rows:[14],begins:!1,answers:!1},{line:123,rows:[1],begins:!1,answers:!1}],calls:[[110,"walk"],[113,"validate"],[115,"act"]],text:`
 /// Executes a whole \`add\` or \`remove\` on a LazyList. Walks to the key without locks, locks the two nodes around the
 /// key, and checks that they are still neighbours in the list. If they are, adds or removes the key if needed and
 /// releases both locks; otherwise releases both locks and starts over. This is Herlihy and Shavit's lazy list, after
 /// Heller and others.
 ///
-/// Returns \`None\` if a loop of the call has made \`N::MOST\` rounds. The call is then still pending.
+/// Returns the thread's slots (nodes reserved for its adds) after the call, and the reply. Returns \`None\` if a loop has
+/// made \`N::MOST\` rounds and not ended. The call is then still pending, and keeps the locks that it holds.
 pub fn lazy_change_within<P: Pause, N: Rounds>(
     table: &Words<LazyList>,
     place: &mut TableSeat,
@@ -404,9 +414,10 @@ pub fn contains_on<M: ReadsByRows, P: Pause>(
         caller.goes_on();
         curr = Node::behind(link);
     }
-}`}],"crates/lset_loops/src/lock_free.rt":[{name:"find",first:17,steps:[{line:31,rows:[2]},{line:34,rows:[3]},{line:40,rows:[1],begins:!1,answers:!1},{line:43,rows:[4]}],calls:[],text:`
-/// Walks from the head to the first key that is not smaller than the call's key, and unlinks marked nodes on the way:
-/// Herlihy and Shavit's \`find\`. The walk starts at \`first\`, the node that the head's link led to.
+}`}],"crates/lset_loops/src/lock_free.rt":[{name:"find",first:17,steps:[{line:32,rows:[2]},{line:35,rows:[3]},{line:41,rows:[1],begins:!1,answers:!1},{line:44,rows:[4]}],calls:[],text:`
+/// Walks from \`first\`, the node after the head, to the first key that is not smaller than the call's key, and unlinks
+/// marked nodes on the way (Herlihy and Shavit's \`find\`). Returns that key's node and the node before it, or \`None\`
+/// after \`N::MOST\` rounds.
 fn find<P: Pause, N: Rounds>(
     caller: &Caller<LockFreeList, P>,
     place: &mut TableSeat,
@@ -440,9 +451,9 @@ fn find<P: Pause, N: Rounds>(
         curr = succ;
     }
     None
-}`},{name:"attempt",first:54,steps:[{line:67,rows:[5,6]},{line:68,rows:[7]},{line:75,rows:[8]},{line:76,rows:[9]},{line:80,rows:[10]}],calls:[],text:`
-/// Adds or removes the key between the two nodes that the walk found, or only replies. Returns \`None\` if a link has
-/// changed since the walk.
+}`},{name:"attempt",first:55,steps:[{line:68,rows:[5,6]},{line:69,rows:[7]},{line:76,rows:[8]},{line:77,rows:[9]},{line:81,rows:[10]}],calls:[],text:`
+/// Makes the change that \`decide\` returns: links a new node between the two nodes in \`found\`, marks \`found.curr\` and
+/// attempts to unlink it, or changes nothing. Returns \`None\` if a link has changed since the walk.
 fn attempt<P: Pause>(
     caller: &Caller<LockFreeList, P>,
     place: &mut TableSeat,
@@ -472,12 +483,13 @@ fn attempt<P: Pause>(
         }
         Decision::Answer(reply) => Some((caller.slots, reply)),
     }
-}`},{name:"lock_free_change_within",first:87,steps:[{line:104,rows:[1],begins:!0,answers:!1},{line:109,rows:[1],begins:!1,answers:!1}],calls:[[106,"find"],[107,"attempt"]],text:`
+}`},{name:"lock_free_change_within",first:88,steps:[{line:106,rows:[1],begins:!0,answers:!1},{line:111,rows:[1],begins:!1,answers:!1}],calls:[[108,"find"],[109,"attempt"]],text:`
 /// Executes a whole \`add\` or \`remove\` on a LockFreeList. Walks to the key. Then an \`add\` links the thread's next slot
 /// (an unused node) into the list, and a \`remove\` marks the node and attempts once to unlink it. Starts over if a link
 /// has changed since the walk. This is Herlihy and Shavit's lock-free list.
 ///
-/// Returns \`None\` if a loop of the call has made \`N::MOST\` rounds. The call is then still pending.
+/// Returns the thread's slots (nodes reserved for its adds) after the call, and the reply. Returns \`None\` if a loop has
+/// made \`N::MOST\` rounds and not ended. The call is then still pending.
 pub fn lock_free_change_within<P: Pause, N: Rounds>(
     table: &Words<LockFreeList>,
     place: &mut TableSeat,

@@ -176,7 +176,7 @@ export const CLASSICS = {
  "ceiling-left-in-chain": {
   "question": "The remove of 5 has ended, and its node is still in the chain. What may a ceiling(4) return, and how often can it walk?",
   "turnsOn": "Not 5: the ceiling returns to the head each time it reaches the marked node. Thread 1's walk unlinks the node. The second walk of the ceiling finds 7, which was added after the call had begun.",
-  "without": "A ceiling that ignores the mark returns 5, which is not added again, so no order explains these calls. LazyList's ceiling must check the mark too (mark-in-ceiling).",
+  "without": "A ceiling that ignores the mark returns 5 after the remove of 5, so no order explains these calls. LazyList's ceiling must check the mark too (mark-in-ceiling).",
   "turns": [
    27,
    33,

@@ -15,8 +15,7 @@ const MOST_POINTING = 6; // maximum number of threads with hands
 
 // The measures of a drawing, in units. `least` is the smallest number of pixels per unit that keeps labels readable. `key` and `lock` are the heights of a
 // node's two parts. `slot` is the width of a node together with the gap beside the node, and `gap` is the gap's share of this width. `below` lists how far
-// below the chain the nodes outside of the chain can be drawn, the largest distance first. (0 draws these nodes in the gaps of the chain, and -14 draws them
-// higher in the gaps.)
+// below the chain the nodes outside of it can be drawn, the largest distance first. (0 and -14 draw these nodes in the gaps of the chain.)
 const HANDS = { height: 26, over: -2, left: 28, letter: 10.4, right: 12 };
 const SMALL_HANDS = { height: 24, over: -2, left: 21, letter: 9.8, right: 5 };
 const WIDE = { least: 0.9, key: 56, lock: 32, slot: 100, gap: 0.5, hand: HANDS, kind: "", below: [54, 30, 0, -14] };
