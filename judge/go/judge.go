@@ -61,7 +61,7 @@ type Options struct {
 	Record        string // the folder for the recordings of all runs. If empty, only the recording of a failed run is kept, in the folder that LISTSET_RECORD names, or else in the folder for temporary files
 }
 
-// DefaultOptions returns the options for 20 runs with the presets.
+// DefaultOptions returns the options for 20 runs with the presets (numbers of threads, sets, calls and keys).
 func DefaultOptions() Options {
 	return Options{Pauses: 20, Runs: 20, Seed: 1, Seconds: 30, Within: manyWithin, Adds: 1, Removes: 1, Finds: 1}
 }

@@ -255,7 +255,7 @@ function checkDiagnosis() {
   check("no diagnosis", inPage("diagnosisIn")("") === null);
 }
 
-// Checks that the page reports an error in recorded calls with the program's message, and with its sentence about the cause.
+// Checks that for an error in recorded calls the page shows the program's message, with the program's sentence that explains the cause.
 function checkFaultsOfCalls(ask) {
   const { kind, says } = saidOf(ask, `${TITLE}call 0 add 5 7 8 true\ncall 1 add 6 5 9 true\nend\n`);
   const told = "the call does not end after it begins; or a line above has one of its moments, or a call of the same thread that is pending";

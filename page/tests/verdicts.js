@@ -193,8 +193,8 @@ function isSecond(it, said, text) {
   return said.second !== undefined && needs(said.second) === (need === "present") && said.isPresent !== (need === "present");
 }
 
-// Returns whether no call of `operation` could have changed the key between the moments `since` and `until`. (A call that could have changed a key returned
-// true or is pending.)
+// Returns true if no call of `operation` could have changed the key between the moments `since` and `until`. (Only a call that returned true or is pending
+// could have changed the key.)
 function isNoneBetween(it, key, operation, since, until) {
   return !it.calls.some((call) => call.key === key && call.operation === operation && mayChange(call) && call.begun < until && since < (call.ended ?? LAST));
 }

@@ -50,7 +50,7 @@ def deciding_rows(section):
 
 
 def reads_of(section):
-    """Returns the rows of the step table that `contains` and `ceiling` execute, if these calls acquire no lock."""
+    """Returns the rows of the step table that `contains` and `ceiling` execute. These calls must acquire no lock."""
     rows = rows_of(section)
     ceiling = int(re.search(r"`ceiling` at row (\d+)", section)[1])
     return {"contains": {number: row for number, row in rows.items() if number < ceiling},

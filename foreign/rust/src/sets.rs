@@ -196,8 +196,8 @@ pub(crate) fn next_number() -> u64 {
     SETS.fetch_add(1, Ordering::Relaxed)
 }
 
-/// Opens a set with `seats` seats (one for each thread) and with keys in strictly increasing order. Each seat may add
-/// `quota` keys. Returns a seat; all other seats can be split off this seat.
+/// Opens a set with `seats` seats (one for each thread). The set contains `keys` at first, which must be strictly
+/// increasing. Each seat can add at most `quota` keys. Returns one seat, from which all others can be split off.
 pub fn open(list: List, seats: u32, quota: u32, keys: &[u32]) -> Result<Seat, Fault> {
     let mut made = Seat { raw: NONE };
     // SAFETY: the pointers point to a slice and to an empty seat. No other set in the program has the number that

@@ -312,7 +312,7 @@ fn a_renewed_set_has_the_keys_that_its_threads_added() {
     }
 }
 
-/// Checks the number of seats, and that a dropped seat is free again. No call may wait for a thread between two calls.
+/// Checks the number of seats, and that a dropped seat is free again. A call must not wait for a thread that is between calls.
 #[test]
 fn the_seats_of_a_renewed_set() {
     let set = RenewedSet::open(List::LockFree, 2, 1, &[]).unwrap();

@@ -525,10 +525,11 @@ impl<'a, S: Sync> Tester<'a, S> {
         recording.judged(self.source, &self.runner.area, trouble)
     }
 
-    /// Performs longer runs with the preset of a refused run and later seeds, until a run cannot be completed. They
-    /// begin and end within `FURTHER_FOR` seconds, or within `FURTHER_MOST` seconds while the best refusal reports
-    /// fewer than `CLEAR` contradictions. Both times are shorter if the test's own time limits are short. Returns the
-    /// run whose refusal reports the most contradictions, and the part of the message that counts the refused runs.
+    /// Looks for a clearer refusal: performs longer runs with the preset of a refused run and later seeds, until a run
+    /// cannot be completed. The runs begin and end within `FURTHER_FOR` seconds, or within `FURTHER_MOST` seconds while
+    /// the best refusal reports fewer than `CLEAR` contradictions. Both times are shorter if the test's own time limits
+    /// are short. Returns the run whose refusal reports the most contradictions, and the part of the message that counts
+    /// the refused runs.
     fn clearest(&self, first: Fault<'a>, seed: u64, shape: Shape) -> (Fault<'a>, String) {
         if self.options.is_replay() || !self.runner.has_own_process() {
             return (first, String::new());

@@ -11,7 +11,7 @@ import { NARROW } from "./figure_parts.js";
 /**
  * A view shows one kind of place (a location in the page, as in its address). It has the place's CSS class (`kind`) and HTML. `fault` returns the reason why a
  * place does not exist, or null. `begin` creates the figure once the HTML is in the page, `draw` shows the progress, and `end` is called before the HTML is
- * removed. Buttons call `deeds`, and a key of the keyboard calls `press`. `goes` moves forward or back on a slide, and returns whether it did.
+ * removed. A button calls one of the `deeds`, and a key press calls `press`. `goes` moves forward or back on a slide, and returns whether it did.
  * @typedef {import("../page/reducer.js").Place} Place
  * @typedef {{ kind: string, title: (place: Place) => string, html: (place: Place) => string, fault?: (place: Place) => string | null,
  *   begin?: (place: Place) => void, draw?: (scene: import("../page/reducer.js").Scene) => void, end?: () => void,
