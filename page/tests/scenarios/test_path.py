@@ -202,7 +202,7 @@ def test_the_path_leads_past_the_extra_questions(visitor):
     visitor.wait("return location.hash === '#story=4.2'")
     visitor.open("#story=4")
     visitor.step("aba")
-    visitor.click(".why a", "overtakes")
+    visitor.click(".why a", "extra")
     visitor.wait("return location.hash === '#story=4.3'")
     guess(visitor, "2")
     assert "B wants the lock of 3, but A holds it." in visitor.text(".said") or "none overtakes another" in visitor.text(".why")
@@ -276,7 +276,7 @@ def test_the_sentence_about_a_change_stays_until_the_next_press(visitor):
 
 
 def test_the_label_of_a_press_names_each_of_its_deeds(visitor):
-    for address, keys, words in (("#story=4.2b", "a", "release the head, lock 8"), ("#story=7.2", "ba", "release; walk and lock again; link 6 in"), ("#story=7", "", "walk to 5, read its mark, return"), ("#story=4", "a", "lock 7, link 5 in, return"),
+    for address, keys, words in (("#story=4.2b", "a", "release the head, keep 7, lock 8"), ("#story=7.2", "ba", "release; walk and lock again; link 6 in"), ("#story=7", "", "walk to 5, read its mark, return"), ("#story=4", "a", "lock 7, link 5 in, return"),
                                  ("#story=4.2", "a", "change the arrow of pred, return"), ("#story=4.2b", "aa", "unlink it, return"), ("#story=9.1b", "ba", "walk again; link 6 in, return")):
         visitor.open(address)
         visitor.step(keys)
