@@ -96,7 +96,7 @@ def test_each_sentence_of_a_press_stays_until_it_is_read(visitor, address, keys)
     told = visitor.script("return window.told")
     assert len(told) > len(keys)
     for (text, since), (_, until) in zip(told, told[1:]):
-        assert until - since > 850 + 160 * len(text.split()), text
+        assert until - since > 1150 + 50 * len(text.split()), text
 
 
 def test_with_less_motion_each_press_of_the_page_waits_for_the_reader(visitor):
