@@ -8,7 +8,7 @@ import { lastTold } from "./presses.js";
 
 const BIT = 400; // milliseconds between two steps of one press
 const QUICK = 140; // milliseconds for each step, if another press is waiting
-const [READ, WORD] = [1200, 50]; // milliseconds for which a sentence stays: READ, and WORD for each of its words
+const [READ, WORD] = [900, 160]; // milliseconds for which a sentence stays: READ, and WORD for each of its words
 const sleep = (time) => new Promise((done) => setTimeout(done, time));
 const made = { count: 0 };
 const markBusy = (isBusy) => (document.body.dataset.busy = isBusy ? "yes" : "no");
